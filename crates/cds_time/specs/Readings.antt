@@ -1,0 +1,33 @@
+-- What a clock tells of its readings.
+use Rattle.std.specs.Prelude.{◌≡◌, ℕ, ◌+◌, ◌-◌, nat_le, min, if◌then◌else◌, Option, Some, None, IfSome, IsSomeAnd, unwrap_or, List, [], ◌∷◌, ◌++◌, length, take, slice_get}
+use Rattle.cds_time.specs.declared.moment.Cds.{Cds}
+use Rattle.cds_time.specs.declared.moment.Rest.TheVariants.{Micros}
+
+-- after a reading a clock that still tells has told what it told before, and this reading last
+abbrev pub TellsReading : Option (List Cds) → Option (List Cds) → Cds → Type 0
+TellsReading before after reading =
+    IfSome after (λ told. IsSomeAnd before (λ earlier. told ≡ earlier ++ reading ∷ []))
+
+-- the readings that a clock in memory is to give, and how many it was asked for, up to one more than there are
+pub record Script : Type 0 where
+  pub readings : List Cds
+  pub given : ℕ
+
+-- 1958-01-01, the moment 0
+abbrev pub epoch : Cds
+epoch = record { days = 0; millis = 0; rest = Micros 0 }
+
+-- the next reading: the one in turn, behind the last one the last again, and of an empty list the epoch
+abbrev pub next_reading : Script → Cds
+next_reading script =
+    unwrap_or (slice_get script.readings script.given)
+    (unwrap_or (slice_get script.readings (length script.readings - 1)) epoch)
+
+-- the script after a reading
+abbrev pub after_reading : Script → Script
+after_reading script = record script { given = min (script.given + 1) (length script.readings + 1) }
+
+-- what was given, or nothing once more readings were asked for than there are
+abbrev pub told_by : Script → Option (List Cds)
+told_by script =
+    if nat_le script.given (length script.readings) then Some (take script.given script.readings) else None

@@ -1,0 +1,228 @@
+// Times by their fields, and the moments that they name.
+ghost use Rattle.std.specs.Prelude.{◌≡◌, ◌+◌, ◌*◌, ◌/◌, ◌^◌, ◌<◌, ◌≤◌, ◌++◌, length, take, drop, Some, IsTrue};
+ghost use Rattle.cds_time.specs.Moment.{moment_of, octets_of, of_micro_octets, of_pico_octets, is_micros};
+
+const PICOS_A_MICRO: u128 = 1_000_000;
+
+const PICOS_A_MILLI: u128 = 1_000_000_000;
+
+const MILLIS_A_DAY: u64 = 86_400_000;
+
+/// The first moment past the last day that a CDS time can name: 65,536 days, in picoseconds.
+pub const MOMENT_END: u128 = 5_662_310_400_000_000_000_000;
+
+/// The part of a CDS time below the millisecond, in the form that it stands in.
+#[derive(Clone, Copy, Debug, PartialEq, Eq)]
+pub enum Rest {
+    /// Microseconds, two octets, in range to 999.
+    Micros(u16),
+    /// Picoseconds, four octets, in range to 999,999,999.
+    Picos(u32),
+}
+
+/// A CDS time (CCSDS 301.0-B, epoch 1958-01-01): its fields as they stand, in range or not.
+#[derive(Clone, Copy, Debug, PartialEq, Eq)]
+pub struct Cds {
+    /// Days since 1958-01-01.
+    pub days: u16,
+    /// Milliseconds of the day, in range to 86,399,999.
+    pub millis: u32,
+    /// What is left below the millisecond.
+    pub rest: Rest,
+}
+
+impl Cds {
+    /// The moment that the time names, or none where a field is out of its range.
+    pub fn moment(&self) -> Option<u128>
+        ensures { result ≡ moment_of self.now }
+    {
+        if self.millis > 86_399_999 {
+            return None;
+        }
+        let picos = self.rest.picos()?;
+        let millis = u64::from(self.days) * MILLIS_A_DAY + u64::from(self.millis);
+        Some(u128::from(millis) * PICOS_A_MILLI + picos)
+    }
+
+    /// The time in these 8 octets: days 2, milliseconds 4, microseconds 2.
+    pub fn from_micro(octets: &[u8; 8]) -> Cds
+        ensures fields { result ≡ of_micro_octets octets.now }
+        ensures octets { octets_of result ≡ octets.now }
+    {
+        let [d0, d1, m0, m1, m2, m3, u0, u1] = *octets;
+        Cds {
+            days: u16::from_be_bytes([d0, d1]),
+            millis: u32::from_be_bytes([m0, m1, m2, m3]),
+            rest: Rest::Micros(u16::from_be_bytes([u0, u1])),
+        }
+    }
+
+    /// The time in these 10 octets: days 2, milliseconds 4, picoseconds 4.
+    pub fn from_pico(octets: &[u8; 10]) -> Cds
+        ensures fields { result ≡ of_pico_octets octets.now }
+        ensures octets { octets_of result ≡ octets.now }
+    {
+        let [d0, d1, m0, m1, m2, m3, p0, p1, p2, p3] = *octets;
+        Cds {
+            days: u16::from_be_bytes([d0, d1]),
+            millis: u32::from_be_bytes([m0, m1, m2, m3]),
+            rest: Rest::Picos(u32::from_be_bytes([p0, p1, p2, p3])),
+        }
+    }
+
+    /// Writes the time's octets at the head of `into`, and answers how many: 8 or 10 by the form.
+    pub fn put(&self, into: &mut [u8; 10]) -> usize
+        ensures length { result ≡ length (octets_of self.now) }
+        ensures octets { into.new ≡ octets_of self.now ++ drop result into.old }
+    {
+        let [d0, d1] = self.days.to_be_bytes();
+        let [m0, m1, m2, m3] = self.millis.to_be_bytes();
+        match self.rest {
+            Rest::Micros(micros) => {
+                let [u0, u1] = micros.to_be_bytes();
+                into[..8].copy_from_slice(&[d0, d1, m0, m1, m2, m3, u0, u1]);
+                8
+            }
+            Rest::Picos(picos) => {
+                let [p0, p1, p2, p3] = picos.to_be_bytes();
+                into[..10].copy_from_slice(&[d0, d1, m0, m1, m2, m3, p0, p1, p2, p3]);
+                10
+            }
+        }
+    }
+
+    /// The time of a moment in the microsecond form, rounded down to the microsecond.
+    pub fn of_moment(moment: u128) -> Cds
+        requires { moment < MOMENT_END }
+        ensures rounded { moment_of result ≡ Some (moment / 10 ^ 6 * 10 ^ 6) }
+        ensures form { IsTrue (is_micros result.rest) }
+    {
+        let micros = (moment / PICOS_A_MICRO) as u64;
+        let millis = micros / 1_000;
+        Cds {
+            days: (millis / MILLIS_A_DAY) as u16,
+            millis: (millis % MILLIS_A_DAY) as u32,
+            rest: Rest::Micros((micros % 1_000) as u16),
+        }
+    }
+}
+
+impl Rest {
+    ghost use Rattle.std.specs.Prelude.{if◌then◌else◌, None};
+    ghost use Rattle.cds_time.specs.Moment.{picos_of, is_within_milli};
+
+    // The picoseconds, or none where they don't lie within a millisecond.
+    fn picos(self) -> Option<u128>
+        ensures { result ≡ (if is_within_milli self then Some (picos_of self) else None) }
+    {
+        match self {
+            Rest::Micros(micros) if micros <= 999 => Some(u128::from(micros) * PICOS_A_MICRO),
+            Rest::Picos(picos) if picos <= 999_999_999 => Some(u128::from(picos)),
+            _ => None,
+        }
+    }
+}
+
+#[cfg(test)]
+mod tests {
+    use super::*;
+    use std::test::Fail;
+
+    // 20000 days are 1,728,000,000 seconds; the moments were worked out with Python's integers.
+    #[test]
+    fn fields_name_the_moment_of_the_standard(rt: HostRuntime) -> Result<(), Fail> {
+        let table = [
+            (0, 0, Rest::Micros(0), Some(0)),
+            (0, 0, Rest::Picos(1), Some(1)),
+            (0, 1, Rest::Micros(1), Some(1_001_000_000)),
+            (
+                20_000,
+                1_000,
+                Rest::Micros(0),
+                Some(1_728_000_001_000_000_000_000),
+            ),
+            (
+                20_000,
+                0,
+                Rest::Picos(999_999_999),
+                Some(1_728_000_000_000_999_999_999),
+            ),
+            (
+                65_535,
+                86_399_999,
+                Rest::Micros(999),
+                Some(MOMENT_END - 1_000_000),
+            ),
+            (
+                65_535,
+                86_399_999,
+                Rest::Picos(999_999_999),
+                Some(MOMENT_END - 1),
+            ),
+            (0, 86_400_000, Rest::Micros(0), None),
+            (0, 0, Rest::Micros(1_000), None),
+            (0, 0, Rest::Picos(1_000_000_000), None),
+        ];
+        for (days, millis, rest, moment) in table {
+            let time = Cds { days, millis, rest };
+            assert_eq!(rt; time.moment(), moment, "at {days}/{millis}");
+        }
+        Ok(())
+    }
+
+    #[test]
+    fn octets_and_fields_agree(rt: HostRuntime) -> Result<(), Fail> {
+        let micro = [0x4e, 0x20, 0, 0, 0x03, 0xe8, 0x01, 0x02];
+        let pico = [0x4e, 0x20, 0, 0, 0x03, 0xe8, 0x3b, 0x9a, 0xc9, 0xff];
+        let mut octets = [0xaa; 10];
+        let time = Cds::from_micro(&micro);
+        assert_eq!(rt;
+            time,
+            Cds {
+                days: 20_000,
+                millis: 1_000,
+                rest: Rest::Micros(258)
+            }
+        );
+        assert_eq!(rt; time.put(&mut octets), 8);
+        assert_eq!(rt;
+            octets,
+            [0x4e, 0x20, 0, 0, 0x03, 0xe8, 0x01, 0x02, 0xaa, 0xaa]
+        );
+        let time = Cds::from_pico(&pico);
+        assert_eq!(rt;
+            time,
+            Cds {
+                days: 20_000,
+                millis: 1_000,
+                rest: Rest::Picos(999_999_999)
+            }
+        );
+        assert_eq!(rt; time.put(&mut octets), 10);
+        assert_eq!(rt; octets, pico);
+        Ok(())
+    }
+
+    #[test]
+    fn a_moment_is_rounded_down_to_the_microsecond(rt: HostRuntime) -> Result<(), Fail> {
+        let time = Cds::of_moment(1_728_000_001_000_001_999_999);
+        assert_eq!(rt;
+            time,
+            Cds {
+                days: 20_000,
+                millis: 1_000,
+                rest: Rest::Micros(1)
+            }
+        );
+        let last = Cds::of_moment(MOMENT_END - 1);
+        assert_eq!(rt;
+            last,
+            Cds {
+                days: 65_535,
+                millis: 86_399_999,
+                rest: Rest::Micros(999)
+            }
+        );
+        Ok(())
+    }
+}

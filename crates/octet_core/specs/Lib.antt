@@ -1,0 +1,4 @@
+pub mod Fault
+pub mod Taken
+pub mod Written
+pub mod Doubles
