@@ -1,0 +1,5 @@
+use Rattle.ber_core.proofs.Canonical.{canonical-Spells}
+use Rattle.ber_core.proofs.laws.canonical_spells.Goals as goal
+
+pub returns : goal.returns
+returns c = canonical-Spells

@@ -1,0 +1,69 @@
+//! How many octets an element takes, and the fewest octets of a number.
+
+ghost use Rattle.std.specs.Prelude.{◌≡◌, ℕ, ◌+◌, ◌^◌, ◌<◌, ◌≤◌, length};
+ghost use Rattle.ber_core.specs.Length.{without_zeros, shortest_length};
+ghost use Rattle.ber_core.specs.Integer.{is_redundant, without_redundant, integer_octets};
+
+/// The octets from the first one that isn't 0 on.
+pub(crate) fn significant(octets: &[u8]) -> &[u8]
+    ensures { result.now ≡ without_zeros octets.now }
+{
+    let mut rest = octets;
+    while let [0, after @ ..] = rest {
+        rest = after;
+    }
+    rest
+}
+
+fn has_redundant_first(octets: &[u8]) -> bool
+    ensures { result ≡ is_redundant octets.now }
+{
+    match octets {
+        [0, second, ..] => *second < 128,
+        [255, second, ..] => *second >= 128,
+        _ => false,
+    }
+}
+
+#[tactic(auto, unfolding(crate::specs::Integer::without_redundant))]
+/// A two's complement without the first octets that X.690 8.3.2 forbids.
+pub(crate) fn shortest_complement(octets: &[u8]) -> &[u8]
+    ensures shortest { result.now ≡ without_redundant octets.now }
+    ensures within { length result.now ≤ length octets.now }
+{
+    let mut rest = octets;
+    while has_redundant_first(rest) {
+        rest = &rest[1..];
+    }
+    rest
+}
+
+#[tactic(auto, unfolding(crate::specs::Length::shortest_length))]
+fn length_octets(content: usize) -> usize
+    ensures exact { result ≡ length (shortest_length content) }
+    ensures small { result ≤ 9 }
+{
+    if content < 128 {
+        1
+    } else {
+        1 + significant(&content.to_be_bytes()).len()
+    }
+}
+
+/// The number of octets of an element with so many content octets, in its canonical spelling.
+pub fn element_length(identifier: &[u8], content: usize) -> usize
+    requires { length identifier.now + content < 2 ^ 63 }
+    ensures exact { result ≡ length identifier.now + length (shortest_length content) + content }
+    ensures small { result ≤ length identifier.now + 9 + content }
+{
+    identifier.len() + length_octets(content) + content
+}
+
+#[tactic(auto, unfolding(crate::specs::Integer::integer_octets))]
+/// The number of content octets of an INTEGER in its canonical spelling.
+pub fn integer_length(value: i128) -> usize
+    ensures exact { result ≡ length (integer_octets value) }
+    ensures small { result ≤ 16 }
+{
+    shortest_complement(&value.to_be_bytes()).len()
+}

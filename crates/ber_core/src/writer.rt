@@ -1,0 +1,123 @@
+ghost use Rattle.std.specs.Prelude.{◌≡◌, ℕ, ◌+◌, ◌≤◌, ℤ, List, [], ◌∷◌, ◌++◌, length, IfOk};
+ghost use Rattle.ber_core.specs.Length.{shortest_length};
+ghost use Rattle.ber_core.specs.Integer.{integer_octets, Has64Bits};
+ghost use Rattle.ber_core.specs.Tree.{primitive};
+ghost use Rattle.ber_core.specs.Spelling.{canonical};
+
+use crate::memory::Memory;
+use crate::size::{shortest_complement, significant};
+use std::alloc::Global;
+use std::marker::Model;
+
+/// Appends elements to a buffer of a fixed size. Contracts see it as the octets appended and the room that is left.
+#[derive(Drop)]
+pub struct Writer {
+    buffer: Vec<u8>,
+    limit: usize,
+}
+
+impl Model for Writer {
+    ghost use Rattle.std.specs.Prelude.{◌-◌, ◌≤◌, ◌^◌, ◌<◌, vec_len, vec_capacity};
+    ghost use Rattle.ber_core.specs.Written.{Written};
+
+    ghost Value = { Written };
+
+    ghost view = { λ w. record { octets = w.buffer.items; room = w.limit - vec_len w.buffer } };
+
+    ghost invariant = { λ w. (vec_len w.buffer ≤ w.limit) × (w.limit ≤ vec_capacity w.buffer) };
+}
+
+impl Writer {
+    /// A writer for so many octets, which are reserved here.
+    pub fn new(alloc: Global, room: usize) -> Result<Writer, Memory>
+        ensures { IfOk result (λ writer. writer ≡ record { octets = []; room = room }) }
+    {
+        Ok(Writer {
+            buffer: Vec::with_capacity(alloc, room)?,
+            limit: room,
+        })
+    }
+
+    /// How many octets still fit.
+    pub fn room(&self) -> usize
+        ensures { result ≡ self.now.room }
+    {
+        self.limit - self.buffer.len()
+    }
+
+    /// What was appended.
+    pub fn octets(&self) -> &[u8]
+        ensures { result.now ≡ self.now.octets }
+    {
+        self.buffer.as_slice()
+    }
+
+    /// Forgets what was appended, and keeps the memory.
+    pub fn clear(&mut self)
+        ensures octets { self.new.octets ≡ [] }
+        ensures room { self.new.room ≡ self.old.room + length self.old.octets }
+    {
+        self.buffer.clear();
+    }
+
+    /// Appends octets as they are.
+    pub fn raw(&mut self, octets: &[u8])
+        requires { length octets.now ≤ self.old.room }
+        ensures octets { self.new.octets ≡ self.old.octets ++ octets.now }
+        ensures room { self.new.room + length octets.now ≡ self.old.room }
+    {
+        self.buffer.extend_from_slice(octets).unwrap();
+    }
+
+    #[tactic(auto, unfolding(crate::specs::Length::shortest_length))]
+    /// Appends the identifier and the shortest length of an element with so many content octets, which the caller
+    /// appends next.
+    pub fn head(&mut self, identifier: &[u8], content: usize)
+        requires { length identifier.now + length (shortest_length content) ≤ self.old.room }
+        ensures octets { self.new.octets ≡ self.old.octets ++ identifier.now ++ shortest_length content }
+        ensures room { self.new.room + length identifier.now + length (shortest_length content) ≡ self.old.room }
+    {
+        self.raw(identifier);
+        if content < 128 {
+            self.raw(&[content as u8]);
+        } else {
+            let octets = content.to_be_bytes();
+            let length = significant(&octets);
+            self.raw(&[128 + length.len() as u8]);
+            self.raw(length);
+        }
+    }
+
+    #[tactic(auto, unfolding(crate::specs::Integer::integer_octets))]
+    /// Appends an INTEGER (X.690 8.3).
+    pub fn integer(&mut self, identifier: &[u8], value: i128)
+        requires value { Has64Bits value }
+        requires fits { length (canonical (primitive identifier.now (integer_octets value))) ≤ self.old.room }
+        ensures octets { self.new.octets ≡ self.old.octets ++ canonical (primitive identifier.now (integer_octets value)) }
+        ensures room { self.new.room + length (canonical (primitive identifier.now (integer_octets value))) ≡ self.old.room }
+    {
+        self.octet_string(identifier, shortest_complement(&value.to_be_bytes()));
+    }
+
+    #[tactic(auto, unfolding(crate::specs::Spelling::canonical, crate::specs::Spelling::element))]
+    /// Appends a primitive element with these content octets: an OCTET STRING (X.690 8.7), a VisibleString (8.23) or
+    /// an OBJECT IDENTIFIER (8.19).
+    pub fn octet_string(&mut self, identifier: &[u8], octets: &[u8])
+        requires { length (canonical (primitive identifier.now octets.now)) ≤ self.old.room }
+        ensures octets { self.new.octets ≡ self.old.octets ++ canonical (primitive identifier.now octets.now) }
+        ensures room { self.new.room + length (canonical (primitive identifier.now octets.now)) ≡ self.old.room }
+    {
+        self.head(identifier, octets.len());
+        self.raw(octets);
+    }
+
+    #[tactic(auto, unfolding(crate::specs::Spelling::canonical, crate::specs::Spelling::element))]
+    /// Appends a NULL (X.690 8.8).
+    pub fn null(&mut self, identifier: &[u8])
+        requires { length (canonical (primitive identifier.now [])) ≤ self.old.room }
+        ensures octets { self.new.octets ≡ self.old.octets ++ canonical (primitive identifier.now []) }
+        ensures room { self.new.room + length (canonical (primitive identifier.now [])) ≡ self.old.room }
+    {
+        self.head(identifier, 0);
+    }
+}
