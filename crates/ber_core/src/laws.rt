@@ -1,4 +1,4 @@
-//! What holds of every tree and every spelling.
+// What holds of every tree and every spelling.
 
 ghost use Rattle.ber_core.specs.Spelling.{CanonicalSpells};
 

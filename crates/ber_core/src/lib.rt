@@ -1,7 +1,7 @@
-//! The basic encoding rules (X.690), as far as the PDUs of this product need them.
-//!
-//! A `Writer` appends elements in their canonical spelling: each length in the shortest definite form, each INTEGER in
-//! the fewest octets. It takes its memory when it is made; each call costs one pass over the octets that it appends.
+// The basic encoding rules (X.690), as far as the PDUs of this product need them.
+//
+// A `Writer` appends elements in their canonical spelling: each length in the shortest definite form, each INTEGER in
+// the fewest octets. It takes its memory when it is made; each call costs one pass over the octets that it appends.
 #![tactic(auto)]
 
 pub mod laws;

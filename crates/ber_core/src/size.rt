@@ -1,4 +1,4 @@
-//! How many octets an element takes, and the fewest octets of a number.
+// How many octets an element takes, and the fewest octets of a number.
 
 ghost use Rattle.std.specs.Prelude.{◌≡◌, ℕ, ◌+◌, ◌^◌, ◌<◌, ◌≤◌, length};
 ghost use Rattle.ber_core.specs.Length.{without_zeros, shortest_length};
@@ -25,8 +25,8 @@ fn has_redundant_first(octets: &[u8]) -> bool
     }
 }
 
-#[tactic(auto, unfolding(crate::specs::Integer::without_redundant))]
 /// A two's complement without the first octets that X.690 8.3.2 forbids.
+#[tactic(auto, unfolding(crate::specs::Integer::without_redundant))]
 pub(crate) fn shortest_complement(octets: &[u8]) -> &[u8]
     ensures shortest { result.now ≡ without_redundant octets.now }
     ensures within { length result.now ≤ length octets.now }
@@ -59,8 +59,8 @@ pub fn element_length(identifier: &[u8], content: usize) -> usize
     identifier.len() + length_octets(content) + content
 }
 
-#[tactic(auto, unfolding(crate::specs::Integer::integer_octets))]
 /// The number of content octets of an INTEGER in its canonical spelling.
+#[tactic(auto, unfolding(crate::specs::Integer::integer_octets))]
 pub fn integer_length(value: i128) -> usize
     ensures exact { result ≡ length (integer_octets value) }
     ensures small { result ≤ 16 }

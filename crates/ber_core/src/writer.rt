@@ -69,9 +69,9 @@ impl Writer {
         self.buffer.extend_from_slice(octets).unwrap();
     }
 
-    #[tactic(auto, unfolding(crate::specs::Length::shortest_length))]
     /// Appends the identifier and the shortest length of an element with so many content octets, which the caller
     /// appends next.
+    #[tactic(auto, unfolding(crate::specs::Length::shortest_length))]
     pub fn head(&mut self, identifier: &[u8], content: usize)
         requires { length identifier.now + length (shortest_length content) ≤ self.old.room }
         ensures octets { self.new.octets ≡ self.old.octets ++ identifier.now ++ shortest_length content }
@@ -88,8 +88,8 @@ impl Writer {
         }
     }
 
-    #[tactic(auto, unfolding(crate::specs::Integer::integer_octets))]
     /// Appends an INTEGER (X.690 8.3).
+    #[tactic(auto, unfolding(crate::specs::Integer::integer_octets))]
     pub fn integer(&mut self, identifier: &[u8], value: i128)
         requires value { Has64Bits value }
         requires fits { length (canonical (primitive identifier.now (integer_octets value))) ≤ self.old.room }
@@ -99,9 +99,9 @@ impl Writer {
         self.octet_string(identifier, shortest_complement(&value.to_be_bytes()));
     }
 
-    #[tactic(auto, unfolding(crate::specs::Spelling::canonical, crate::specs::Spelling::element))]
     /// Appends a primitive element with these content octets: an OCTET STRING (X.690 8.7), a VisibleString (8.23) or
     /// an OBJECT IDENTIFIER (8.19).
+    #[tactic(auto, unfolding(crate::specs::Spelling::canonical, crate::specs::Spelling::element))]
     pub fn octet_string(&mut self, identifier: &[u8], octets: &[u8])
         requires { length (canonical (primitive identifier.now octets.now)) ≤ self.old.room }
         ensures octets { self.new.octets ≡ self.old.octets ++ canonical (primitive identifier.now octets.now) }
@@ -111,8 +111,8 @@ impl Writer {
         self.raw(octets);
     }
 
-    #[tactic(auto, unfolding(crate::specs::Spelling::canonical, crate::specs::Spelling::element))]
     /// Appends a NULL (X.690 8.8).
+    #[tactic(auto, unfolding(crate::specs::Spelling::canonical, crate::specs::Spelling::element))]
     pub fn null(&mut self, identifier: &[u8])
         requires { length (canonical (primitive identifier.now [])) ≤ self.old.room }
         ensures octets { self.new.octets ≡ self.old.octets ++ canonical (primitive identifier.now []) }
