@@ -1,0 +1,6 @@
+pub mod Archive
+pub mod Selection
+pub mod Delivery
+pub mod Rounds
+pub mod Continuity
+pub mod Examples

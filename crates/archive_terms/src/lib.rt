@@ -1,0 +1,4 @@
+// What the archive is, what a START picks of it, and what a delivery hands over.
+#![tactic(auto)]
+
+pub mod laws;
