@@ -1,0 +1,14 @@
+pub mod Picks
+pub mod Growth
+pub mod Buffers
+pub mod States
+pub mod Lists
+pub mod Histories
+pub mod Places
+pub mod Rising
+pub mod Runs
+pub mod Cuts
+pub mod Prefixes
+pub mod OfflineRounds
+pub mod Gaps
+pub mod FewFrames
