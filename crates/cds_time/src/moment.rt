@@ -1,5 +1,5 @@
 // Times by their fields, and the moments that they name.
-ghost use Rattle.std.specs.Prelude.{◌≡◌, ◌+◌, ◌*◌, ◌/◌, ◌^◌, ◌<◌, ◌≤◌, ◌++◌, length, take, drop, Some, IsTrue};
+ghost use Rattle.std.specs.Prelude.{◌≡◌, ◌+◌, ◌*◌, ◌/◌, ◌^◌, ◌<◌, ◌≤◌, ◌++◌, length, take, drop, Some, IfSome, IsTrue};
 ghost use Rattle.cds_time.specs.Moment.{moment_of, octets_of, of_micro_octets, of_pico_octets, is_micros};
 
 const PICOS_A_MICRO: u128 = 1_000_000;
@@ -34,7 +34,8 @@ pub struct Cds {
 impl Cds {
     /// The moment that the time names, or none where a field is out of its range.
     pub fn moment(&self) -> Option<u128>
-        ensures { result ≡ moment_of self.now }
+        ensures exact { result ≡ moment_of self.now }
+        ensures below { IfSome result (λ moment. moment < MOMENT_END) }
     {
         if self.millis > 86_399_999 {
             return None;

@@ -28,6 +28,15 @@ const OCTET_STRING: [u8; 1] = [0x04];
 
 const END_OF_DATA: [u8; 1] = [0x83];
 
+/// The number of octets of a transfer buffer whose items have so many octets.
+pub fn buffer_length(content: usize) -> usize
+    requires { content < 2 ^ 62 }
+    ensures exact { result ≡ length (buffer_start content) + content }
+    ensures small { result ≤ content + 10 }
+{
+    element_length(&BUFFER, content)
+}
+
 /// Appends the tag and length of a transfer buffer whose items, which the caller appends next, have so many octets.
 pub fn buffer_head(content: usize, writer: &mut Writer)
     requires { length (buffer_start content) ≤ writer.old.room }

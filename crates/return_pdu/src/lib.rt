@@ -7,7 +7,7 @@
 mod frame;
 pub mod laws;
 
-pub use frame::{buffer_head, raf_end_of_data, raf_frame, raf_frame_length};
+pub use frame::{buffer_head, buffer_length, raf_end_of_data, raf_frame, raf_frame_length};
 
 #[cfg(test)]
 mod tests;
