@@ -12,10 +12,10 @@ fn at(millis: u32) -> Cds {
 }
 
 // What is expected was put together by hand from CCSDS 911.1-B, annex A, and X.690.
-const TWO_FRAMES: [u8; 64] = [
-    0xa8, 0x3e, 0xa0, 0x1c, 0x80, 0, 0x80, 8, 0x4e, 0x20, 0, 0, 0x03, 0xe8, 0, 0, 0x81, 1, 0x41, 2,
+const TWO_FRAMES: [u8; 62] = [
+    0xa8, 0x3c, 0xa0, 0x1c, 0x80, 0, 0x80, 8, 0x4e, 0x20, 0, 0, 0x03, 0xe8, 0, 0, 0x81, 1, 0x41, 2,
     1, 0xff, 2, 1, 0, 0x80, 0, 4, 3, 0, 0x10, 0xa1, 0xa0, 0x1c, 0x80, 0, 0x80, 8, 0x4e, 0x20, 0, 0,
-    0x07, 0xd0, 0, 0, 0x81, 1, 0x41, 2, 1, 0, 2, 1, 0, 0x80, 0, 4, 3, 0, 0x10, 0xa2, 0, 0,
+    0x07, 0xd0, 0, 0, 0x81, 1, 0x41, 2, 1, 0, 2, 1, 0, 0x80, 0, 4, 3, 0, 0x10, 0xa2,
 ];
 
 #[test]
@@ -31,7 +31,7 @@ fn a_buffer_of_two_frames(rt: HostRuntime) -> Result<(), Fail> {
     raf_frame(first, &[0x41], -1, 0, &[0, 0x10, 0xa1], &mut writer);
     assert!(rt; other_length <= writer.room());
     raf_frame(second, &[0x41], 0, 0, &[0, 0x10, 0xa2], &mut writer);
-    assert_eq!(rt; writer.octets(), &TWO_FRAMES[..62]);
+    assert_eq!(rt; writer.octets(), TWO_FRAMES.as_slice());
     Ok(())
 }
 
