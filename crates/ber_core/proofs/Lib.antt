@@ -1,3 +1,5 @@
 mod Lengths
 mod Canonical
 mod Integers
+mod Numbers
+mod Ends

@@ -3,3 +3,5 @@ pub mod Integer
 pub mod Tree
 pub mod Spelling
 pub mod Written
+pub mod View
+pub mod Reading

@@ -1,5 +1,5 @@
 -- What a spelling spells: a tree of elements, each with its tag as identifier octets (X.690 8.1.1 and 8.1.2).
-use Rattle.std.specs.Prelude.{◌≡◌, ℕ, ◌/◌, ◌%◌, Bool, true, false, ◌==◌, ◌&&◌, not, List, [], ◌∷◌, nat_lt, nat_le}
+use Rattle.std.specs.Prelude.{◌≡◌, ℕ, ◌+◌, ◌/◌, ◌%◌, Bool, true, false, ◌==◌, ◌&&◌, not, List, [], ◌∷◌, take, position, option_map, Option, Some, None, nat_lt, nat_le, if◌then◌else◌}
 use Rattle.ber_core.specs.Length.{IsOctets}
 
 -- A primitive element has a tag and content octets, a constructed one a tag and the elements in it.
@@ -16,22 +16,23 @@ abbrev pub trees : List Tree → Trees
 trees [] = no_trees
 trees (t ∷ ts) = tree_and t (trees ts)
 
--- each octet but the last has bit 8 set (8.1.2.4.2)
-abbrev pub is_last_low : List ℕ → Bool
-is_last_low [] = false
-is_last_low (octet ∷ []) = nat_lt octet 128
-is_last_low (octet ∷ next ∷ octets) = nat_le 128 octet && is_last_low (next ∷ octets)
+-- a tag number from 31 on, in the fewest octets (8.1.2.2 and 8.1.2.4.2), begins so
+abbrev pub begins_number : List ℕ → Bool
+begins_number [] = false
+begins_number (octet ∷ octets) = nat_le 31 octet && not (octet == 128)
 
--- a tag number from 31 on, in the fewest octets (8.1.2.2 and 8.1.2.4.2)
-abbrev pub is_high_number : List ℕ → Bool
-is_high_number [] = false
-is_high_number (octet ∷ octets) = nat_le 31 octet && not (octet == 128) && is_last_low (octet ∷ octets)
+-- the octets up to the first one whose bit 8 is clear, which is the last of a number (8.1.2.4.2)
+abbrev pub through_last : List ℕ → Option (List ℕ)
+through_last octets = option_map (λ place. take (place + 1) octets) (position (λ octet. nat_lt octet 128) octets)
 
--- one whole identifier: a single octet, or one whose low five bits are set and a number from 31 on (8.1.2.3, 8.1.2.4)
-abbrev pub is_identifier : List ℕ → Bool
-is_identifier [] = false
-is_identifier (first ∷ []) = not (first % 32 == 31)
-is_identifier (first ∷ octet ∷ octets) = first % 32 == 31 && is_high_number (octet ∷ octets)
+-- The identifier at the front of octets, if one stands there whole: a single octet, or one whose low five bits are set
+-- and a number from 31 on (8.1.2.3 and 8.1.2.4).
+unfoldable pub first_identifier : List ℕ → Option (List ℕ)
+first_identifier [] = None
+first_identifier (first ∷ octets) =
+    if not (first % 32 == 31) then Some (first ∷ [])
+    else if begins_number octets then option_map (λ number. first ∷ number) (through_last octets)
+    else None
 
 -- bit 6 of the first identifier octet (8.1.2.5)
 abbrev pub is_constructed : List ℕ → Bool
@@ -40,7 +41,7 @@ is_constructed (first ∷ octets) = first / 32 % 2 == 1
 
 pub record IsTag (tag : List ℕ) (constructed_bit : Bool) : Type 0 where
   pub octets_all : IsOctets tag
-  pub whole : is_identifier tag ≡ true
+  pub whole : first_identifier tag ≡ Some tag
   pub bit : is_constructed tag ≡ constructed_bit
 
 abbrev mutual

@@ -4,12 +4,17 @@
 // the fewest octets. It takes its memory when it is made; each call costs one pass over the octets that it appends.
 #![tactic(auto)]
 
+mod content;
+mod fault;
 pub mod laws;
 mod memory;
+mod reader;
 mod size;
 mod writer;
 
+pub use fault::BerFault;
 pub use memory::Memory;
+pub use reader::Reader;
 pub use size::{element_length, integer_length};
 pub use writer::Writer;
 

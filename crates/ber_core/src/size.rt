@@ -15,7 +15,7 @@ pub(crate) fn significant(octets: &[u8]) -> &[u8]
     rest
 }
 
-fn has_redundant_first(octets: &[u8]) -> bool
+pub(crate) fn has_redundant_first(octets: &[u8]) -> bool
     ensures { result ≡ is_redundant octets.now }
 {
     match octets {

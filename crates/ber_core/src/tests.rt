@@ -81,3 +81,137 @@ fn a_writer_appends_and_clears(rt: HostRuntime) -> Result<(), Fail> {
     assert_eq!(rt; writer.octets().len(), 0);
     Ok(())
 }
+
+/// Octets read as an INTEGER. The values with an identifier and a length that fit are those that
+/// `openssl asn1parse -inform DER` prints for these octets; the faults are this product's own.
+const READ_AS_INTEGER: [(&[u8], Result<i128, BerFault>); 20] = [
+    (&[2, 3, 1, 0, 1], Ok(65537)),
+    (&[2, 0x81, 1, 5], Ok(5)),
+    (&[2, 0x84, 0, 0, 0, 2, 1, 0x2c], Ok(300)),
+    (&[2, 2, 0xff, 0x7f], Ok(-129)),
+    (&[2, 2, 0, 0x80], Ok(128)),
+    (&[2, 1, 0xff], Ok(-1)),
+    (&[2, 0x82, 0, 1, 0xff], Ok(-1)),
+    (&[2, 0x88, 0, 0, 0, 0, 0, 0, 0, 1, 7], Ok(7)),
+    (
+        &[2, 9, 0, 0xff, 0xff, 0xff, 0xff, 0xff, 0xff, 0xff, 0xff],
+        Ok(18446744073709551615),
+    ),
+    (
+        &[2, 9, 1, 0, 0, 0, 0, 0, 0, 0, 0],
+        Err(BerFault::Wide { place: 2 }),
+    ),
+    (
+        &[2, 10, 0, 0, 0, 0, 0, 0, 0, 0, 0, 1],
+        Err(BerFault::BadContent { place: 2 }),
+    ),
+    (&[5, 0], Err(BerFault::WrongTag { place: 0, found: 5 })),
+    (&[], Err(BerFault::Cut { place: 0 })),
+    (&[2], Err(BerFault::Cut { place: 0 })),
+    (&[2, 3], Err(BerFault::Cut { place: 0 })),
+    (&[2, 0x80], Err(BerFault::BadLength { place: 1 })),
+    (
+        &[2, 0x89, 0, 0, 0, 0, 0, 0, 0, 0, 1, 5],
+        Err(BerFault::BadLength { place: 1 }),
+    ),
+    (&[2, 0xff], Err(BerFault::BadLength { place: 1 })),
+    (&[2, 0], Err(BerFault::BadContent { place: 2 })),
+    (&[2, 2, 0, 1], Err(BerFault::BadContent { place: 2 })),
+];
+
+#[test]
+fn an_integer_is_read_or_its_first_fault_named(rt: HostRuntime) {
+    for (octets, answer) in READ_AS_INTEGER {
+        let mut reader = Reader::new(octets);
+        assert_eq!(rt; reader.integer(&[2], i128::MIN, i128::MAX), answer);
+        let place = if answer.is_ok() { octets.len() } else { 0 };
+        assert_eq!(rt; reader.place(), place);
+    }
+    let mut reader = Reader::new(&[2, 1, 5]);
+    let out_of_range = Err(BerFault::BadContent { place: 2 });
+    assert_eq!(rt; reader.integer(&[2], 6, 9), out_of_range);
+    assert_eq!(rt; reader.integer(&[2], 5, 5), Ok(5));
+}
+
+#[test]
+fn sixteen_elements_are_entered_and_the_seventeenth_refused(rt: HostRuntime) {
+    let octets = [
+        0x30, 32, 0x30, 30, 0x30, 28, 0x30, 26, 0x30, 24, 0x30, 22, 0x30, 20, 0x30, 18, 0x30, 16,
+        0x30, 14, 0x30, 12, 0x30, 10, 0x30, 8, 0x30, 6, 0x30, 4, 0x30, 2, 0x30, 0,
+    ];
+    let mut reader = Reader::new(&octets);
+    for _ in 0..16 {
+        assert_eq!(rt; reader.element(&[0x30]), Ok(()));
+    }
+    let too_deep = Err(BerFault::BadLength { place: 33 });
+    assert_eq!(rt; reader.element(&[0x30]), too_deep);
+    assert_eq!(rt; reader.null(&[0x30]), too_deep);
+    assert_eq!(rt; reader.place(), 32);
+}
+
+#[test]
+fn an_element_ends_with_the_one_around_it(rt: HostRuntime) {
+    let mut reader = Reader::new(&[0x30, 4, 2, 5, 1, 2, 3, 4, 5]);
+    assert_eq!(rt; reader.element(&[0x30]), Ok(()));
+    let too_long = BerFault::BadLength { place: 3 };
+    assert_eq!(rt; reader.integer(&[2], 0, 9), Err(too_long));
+    assert_eq!(rt; reader.leave(), Err(BerFault::BadLength { place: 2 }));
+
+    let mut reader = Reader::new(&[0x30, 3, 2, 1, 5, 0]);
+    assert_eq!(rt; reader.element(&[0x30]), Ok(()));
+    assert_eq!(rt; reader.integer(&[2], 0, 9), Ok(5));
+    assert!(rt; reader.at_end());
+    let missing = BerFault::BadLength { place: 5 };
+    assert_eq!(rt; reader.integer(&[2], 0, 9), Err(missing));
+    assert_eq!(rt; reader.leave(), Ok(()));
+    assert!(rt; !reader.at_end());
+    assert_eq!(rt; reader.leave(), Err(missing));
+}
+
+#[test]
+fn identifiers_of_several_octets_are_compared_whole(rt: HostRuntime) {
+    let mut reader = Reader::new(&[0xbf, 0x64, 0]);
+    let wrong = BerFault::WrongTag {
+        place: 0,
+        found: 0xbf,
+    };
+    assert_eq!(rt; reader.identifier(), Some([0xbf, 0x64].as_slice()));
+    assert_eq!(rt; reader.element(&[0xbf, 0x65]), Err(wrong));
+    assert_eq!(rt; reader.element(&[0xbf, 0x64]), Ok(()));
+    assert_eq!(rt; reader.leave(), Ok(()));
+    assert_eq!(rt; reader.leave(), Ok(()));
+
+    let mut cut = Reader::new(&[0xbf]);
+    assert_eq!(rt; cut.identifier(), None);
+    assert_eq!(rt; cut.element(&[0xbf, 0x64]), Err(BerFault::Cut { place: 0 }));
+}
+
+/// The object identifier 1.3.112.4.3.1.2, of which `openssl asn1parse` prints these arcs.
+const OBJECT_ID: [u8; 8] = [6, 6, 0x2b, 0x70, 4, 3, 1, 2];
+
+#[test]
+fn strings_are_lent_where_their_content_fits(rt: HostRuntime) {
+    let bad = BerFault::BadContent { place: 2 };
+    let mut reader = Reader::new(&[4, 2, 0xa0, 0xa1]);
+    assert_eq!(rt; reader.octet_string(&[4], 3, 9), Err(bad));
+    assert_eq!(rt; reader.octet_string(&[4], 0, 1), Err(bad));
+    assert_eq!(rt;
+        reader.octet_string(&[4], 2, 2),
+        Ok([0xa0, 0xa1].as_slice())
+    );
+
+    let mut reader = Reader::new(&[0x1a, 2, 0x20, 0x7e]);
+    assert_eq!(rt; reader.visible(&[0x1a], 1, 3), Ok([0x20, 0x7e].as_slice()));
+    let mut reader = Reader::new(&[0x1a, 2, 0x41, 0x7f]);
+    assert_eq!(rt; reader.visible(&[0x1a], 1, 3), Err(bad));
+
+    let mut reader = Reader::new(&OBJECT_ID);
+    assert_eq!(rt; reader.object_id(&[6]), Ok(&OBJECT_ID[2..]));
+    let mut reader = Reader::new(&[6, 2, 0x2b, 0x80]);
+    assert_eq!(rt; reader.object_id(&[6]), Err(bad));
+
+    let mut reader = Reader::new(&[5, 0]);
+    assert_eq!(rt; reader.null(&[5]), Ok(()));
+    let mut reader = Reader::new(&[5, 1, 0]);
+    assert_eq!(rt; reader.null(&[5]), Err(bad));
+}

@@ -1,0 +1,120 @@
+-- Reading the next element: its content, or the first fault in reading order. Which faults there are and where they
+-- stand is this product's own rule; what is accepted is X.690's definite form.
+use Rattle.std.specs.Prelude.{◌≡◌, ℕ, ℤ, ◌+◌, ◌-◌, Bool, true, false, ◌==◌, ◌&&◌, ◌||◌, not, List, [], ◌∷◌, length, take, drop, slice_index, nat_eq, nat_lt, nat_le, int_lt, if◌then◌else◌, Result, Ok, Err}
+use Rattle.std.specs.List.{starts_with, list_all}
+use Rattle.ber_core.specs.declared.fault.BerFault.{BerFault}
+use Rattle.ber_core.specs.declared.fault.BerFault.TheVariants.{Cut, WrongTag, BadLength, BadContent, Wide}
+use Rattle.ber_core.specs.Length.{number_of}
+use Rattle.ber_core.specs.Integer.{is_redundant, is_wide, signed_of}
+use Rattle.ber_core.specs.View.{View, end_of, left}
+
+infixl 10 ◌>>=◌
+abbrev pub ◌>>=◌ : {A B : Type 0} → Result A BerFault → (A → Result B BerFault) → Result B BerFault
+(Ok x) >>= f = f x
+(Err e) >>= f = Err e
+
+abbrev pub is_empty : {A : Type 0} → List A → Bool
+is_empty [] = true
+is_empty (x ∷ xs) = false
+
+-- an octet is missing that belongs at this place: the input is cut, or the element around ends too early
+abbrev pub missing : View → ℕ → BerFault
+missing view at = if length view.ends == 0 then Cut view.place else BadLength at
+
+-- this product's limit on elements inside one another
+abbrev pub is_full : View → Bool
+is_full view = nat_le 16 (length view.ends)
+
+-- the content of n octets at the front of the rest, which begins at start; its length stands at the place at
+abbrev pub content_from : View → ℕ → ℕ → ℕ → List ℕ → Result (ℕ × List ℕ) BerFault
+content_from view at start n rest = if nat_lt (length rest) n then Err (missing view at) else Ok (start, take n rest)
+
+-- the long form with so many octets behind the first one
+abbrev pub content_behind : View → ℕ → ℕ → List ℕ → Result (ℕ × List ℕ) BerFault
+content_behind view at count rest =
+    if nat_lt (length rest) count
+    then Err (missing view at)
+    else content_from view at (at + 1 + count) (number_of (take count rest)) (drop count rest)
+
+-- the content behind the length at this place, and where it begins
+abbrev pub content_at : View → ℕ → List ℕ → Result (ℕ × List ℕ) BerFault
+content_at view at [] = Err (missing view at)
+content_at view at (first ∷ rest) =
+    if is_full view then Err (BadLength at)
+    else if nat_lt first 128 then content_from view at (at + 1) first rest
+    else if first == 128 || nat_lt 136 first then Err (BadLength at)
+    else content_behind view at (first - 128) rest
+
+-- the content of the next element, and where it begins
+unfoldable pub next_content : View → List ℕ → Result (ℕ × List ℕ) BerFault
+next_content view tag =
+    if starts_with nat_eq (left view) tag then content_at view (view.place + length tag) (drop (length tag) (left view))
+    else if starts_with nat_eq tag (left view) then Err (missing view (end_of view))
+    else Err (WrongTag view.place (slice_index (left view) 0))
+
+-- reading on behind content that begins at start
+abbrev pub behind : View → ℕ → List ℕ → View
+behind view start content = record view { place = start + length content }
+
+-- reading a primitive element whose content is judged by the rules of its type
+abbrev pub primitive_at : {X : Type 0} → (ℕ → List ℕ → Result X BerFault) → View → List ℕ → Result (X × View) BerFault
+primitive_at judge view tag = do
+  found ← next_content view tag
+  value ← judge found.0 found.1
+  Ok (value, behind view found.0 found.1)
+
+-- INTEGER (8.3): the redundant first octet comes before the width, and the width before the range
+abbrev pub integer_of : ℤ → ℤ → ℕ → List ℕ → Result ℤ BerFault
+integer_of least greatest place content =
+    if is_empty content || is_redundant content then Err (BadContent place)
+    else if is_wide content then Err (Wide place)
+    else if int_lt (signed_of content) least || int_lt greatest (signed_of content) then Err (BadContent place)
+    else Ok (signed_of content)
+
+abbrev pub has_length : ℕ → ℕ → List ℕ → Bool
+has_length least greatest content = nat_le least (length content) && nat_le (length content) greatest
+
+-- OCTET STRING (8.7)
+abbrev pub string_of : ℕ → ℕ → ℕ → List ℕ → Result (List ℕ) BerFault
+string_of least greatest place content = if has_length least greatest content then Ok content else Err (BadContent place)
+
+-- a character of VisibleString (8.23.5, ISO 646)
+abbrev pub is_visible : ℕ → Bool
+is_visible octet = nat_le 0x20 octet && nat_le octet 0x7e
+
+abbrev pub visible_of : ℕ → ℕ → ℕ → List ℕ → Result (List ℕ) BerFault
+visible_of least greatest place content =
+    if has_length least greatest content && list_all is_visible content then Ok content else Err (BadContent place)
+
+-- Subidentifiers of an OBJECT IDENTIFIER (8.19.2): the last octet of each has bit 8 clear, and none begins with 80.
+abbrev pub are_subidentifiers : Bool → List ℕ → Bool
+are_subidentifiers begins [] = begins
+are_subidentifiers begins (octet ∷ octets) = not (begins && octet == 128) && are_subidentifiers (nat_lt octet 128) octets
+
+abbrev pub object_id_of : ℕ → List ℕ → Result (List ℕ) BerFault
+object_id_of place content =
+    if not (is_empty content) && are_subidentifiers true content then Ok content else Err (BadContent place)
+
+-- NULL (8.8)
+abbrev pub null_of : ℕ → List ℕ → Result (Unit {0}) BerFault
+null_of place content = if is_empty content then Ok tt else Err (BadContent place)
+
+-- entering an element, whose content ends where the innermost end then is
+abbrev pub enter : View → List ℕ → Result (Unit {0} × View) BerFault
+enter view tag = do
+  found ← next_content view tag
+  Ok (tt, record view { place = found.0; ends = (found.0 + length found.1) ∷ view.ends })
+
+-- leaving the innermost entered element, or where none is entered, ending the octets
+abbrev pub leave : View → Result (Unit {0} × View) BerFault
+leave view = if view.place == end_of view then Ok (tt, record view { ends = drop 1 view.ends }) else Err (BadLength view.place)
+
+-- What a call returned, seen by seen, is what reading gives, with the reader behind it; a fault leaves the reader.
+abbrev pub Reads : {X Y : Type 0} → (X → Y) → View → View → Result X BerFault → Result (Y × View) BerFault → Type 0
+Reads seen old new (Ok x) reading = reading ≡ Ok (seen x, new)
+Reads seen old new (Err fault) reading = (reading ≡ Err fault) × (new ≡ old)
+
+-- the same for a call that only looks
+abbrev pub Gives : {X Y : Type 0} → (X → Y) → Result X BerFault → Result Y BerFault → Type 0
+Gives seen (Ok x) reading = reading ≡ Ok (seen x)
+Gives seen (Err fault) reading = reading ≡ Err fault
