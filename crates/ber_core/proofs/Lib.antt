@@ -3,3 +3,6 @@ mod Canonical
 mod Integers
 mod Numbers
 mod Ends
+mod Identifiers
+mod Prefixes
+mod Found

@@ -1,11 +1,12 @@
 -- Reading the next element: its content, or the first fault in reading order. Which faults there are and where they
 -- stand is this product's own rule; what is accepted is X.690's definite form.
-use Rattle.std.specs.Prelude.{◌≡◌, ℕ, ℤ, ◌+◌, ◌-◌, Bool, true, false, ◌==◌, ◌&&◌, ◌||◌, not, List, [], ◌∷◌, length, take, drop, slice_index, nat_eq, nat_lt, nat_le, int_lt, if◌then◌else◌, Result, Ok, Err}
+use Rattle.std.specs.Prelude.{◌<◌, ◌++◌, ◌↔◌, ◌≡◌, ℕ, ℤ, ◌+◌, ◌-◌, Bool, true, false, ◌==◌, ◌&&◌, ◌||◌, not, List, [], ◌∷◌, length, take, drop, slice_index, nat_eq, nat_lt, nat_le, int_lt, if◌then◌else◌, Result, Ok, Err}
 use Rattle.std.specs.List.{starts_with, list_all}
 use Rattle.ber_core.specs.declared.fault.BerFault.{BerFault}
 use Rattle.ber_core.specs.declared.fault.BerFault.TheVariants.{Cut, WrongTag, BadLength, BadContent, Wide}
-use Rattle.ber_core.specs.Length.{number_of}
+use Rattle.ber_core.specs.Length.{IsOctets, number_of}
 use Rattle.ber_core.specs.Integer.{is_redundant, is_wide, signed_of}
+use Rattle.ber_core.specs.Spelling.{IsElement}
 use Rattle.ber_core.specs.View.{View, end_of, left}
 
 infixl 10 ◌>>=◌
@@ -51,6 +52,16 @@ next_content view tag =
     if starts_with nat_eq (left view) tag then content_at view (view.place + length tag) (drop (length tag) (left view))
     else if starts_with nat_eq tag (left view) then Err (missing view (end_of view))
     else Err (WrongTag view.place (slice_index (left view) 0))
+
+-- An element with this tag and content stands at the place, before the end of the element around it and within the
+-- limit on nesting, and its content begins at start.
+pub record Stands (view : View) (tag content : List ℕ) (start : ℕ) : Type 0 where
+  pub spelled : List ℕ
+  pub rest : List ℕ
+  pub is_element : IsElement tag content spelled
+  pub before_end : left view ≡ spelled ++ rest
+  pub begins : start + length content ≡ view.place + length spelled
+  pub shallow : length view.ends < 16
 
 -- reading on behind content that begins at start
 abbrev pub behind : View → ℕ → List ℕ → View
@@ -118,3 +129,9 @@ Reads seen old new (Err fault) reading = (reading ≡ Err fault) × (new ≡ old
 abbrev pub Gives : {X Y : Type 0} → (X → Y) → Result X BerFault → Result Y BerFault → Type 0
 Gives seen (Ok x) reading = reading ≡ Ok (seen x)
 Gives seen (Err fault) reading = reading ≡ Err fault
+
+-- Content is found exactly where its element is spelled.
+abbrev pub FoundWhereSpelled : Type 0
+FoundWhereSpelled =
+    (view : View) (tag content : List ℕ) (start : ℕ) → IsOctets view.octets
+    → (next_content view tag ≡ Ok (start, content)) ↔ Stands view tag content start

@@ -1,7 +1,7 @@
 -- The octets of a tree (X.690 8.1.1): of any spelling in the definite form, and of the one that this product writes.
 use Rattle.std.specs.Prelude.{◌≡◌, ℕ, ◌^◌, ◌<◌, List, [], ◌++◌, length}
 use Rattle.ber_core.specs.Length.{IsLength, shortest_length}
-use Rattle.ber_core.specs.Tree.{Tree, Trees, primitive, constructed, no_trees, tree_and}
+use Rattle.ber_core.specs.Tree.{Tree, Trees, primitive, constructed, no_trees, tree_and, IsWellFormed}
 
 -- identifier octets, length octets and content octets
 abbrev pub IsElement : List ℕ → List ℕ → List ℕ → Type 0
@@ -34,3 +34,12 @@ unfoldable mutual
 -- The canonical spelling is a spelling, as long as 8 octets write its lengths.
 abbrev pub CanonicalSpells : Type 0
 CanonicalSpells = (t : Tree) → length (canonical t) < 2 ^ 64 → Spells t (canonical t)
+
+-- No spelling of a well-formed tree is a proper prefix of another's.
+abbrev pub NoneBeginsAnother : Type 0
+NoneBeginsAnother =
+    (t u : Tree) (spelled other more : List ℕ) → IsWellFormed t → IsWellFormed u → Spells t spelled → Spells u other → other ≡ spelled ++ more → more ≡ []
+
+-- Well-formed trees with a common spelling are equal.
+abbrev pub OneTree : Type 0
+OneTree = (t u : Tree) (spelled : List ℕ) → IsWellFormed t → IsWellFormed u → Spells t spelled → Spells u spelled → t ≡ u

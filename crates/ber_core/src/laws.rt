@@ -1,8 +1,25 @@
 // What holds of every tree and every spelling.
 
-ghost use Rattle.ber_core.specs.Spelling.{CanonicalSpells};
+ghost use Rattle.ber_core.specs.Reading.{FoundWhereSpelled};
+ghost use Rattle.ber_core.specs.Spelling.{CanonicalSpells, NoneBeginsAnother, OneTree};
 
 /// The canonical spelling is one of the spellings.
 pub fn canonical_spells()
     ensures { CanonicalSpells }
+{}
+
+/// No spelling begins another, so where one ends doesn't depend on what follows.
+pub fn none_begins_another()
+    ensures { NoneBeginsAnother }
+{}
+
+/// Octets spell one tree at most.
+pub fn one_tree()
+    ensures { OneTree }
+{}
+
+/// A reader finds an element's content exactly where the element is spelled, before the end of the element around it
+/// and within the limit on nesting.
+pub fn found_where_spelled()
+    ensures { FoundWhereSpelled }
 {}

@@ -1,5 +1,5 @@
-ghost use Rattle.std.specs.Prelude.{◌≡◌, ℕ, ℤ, ◌+◌, ◌^◌, ◌<◌, ◌≤◌, ◌==◌, ◌↔◌, IsTrue, IsOk, IfOk, IfSome, position, nat_lt, option_map, List, length, Ok, Err};
-ghost use Rattle.ber_core.specs.Tree.{begins_number, first_identifier};
+ghost use Rattle.std.specs.Prelude.{◌≡◌, ℕ, ℤ, ◌+◌, ◌^◌, ◌<◌, ◌≤◌, ◌==◌, ◌↔◌, IsTrue, IsOk, IfOk, IfSome, take, option_map, List, length, Ok, Err};
+ghost use Rattle.ber_core.specs.Tree.{begins_number, through_last, first_identifier};
 ghost use Rattle.ber_core.specs.View.{View, view_before, end_of, left};
 ghost use Rattle.ber_core.specs.Reading.{Reads, Gives, missing, content_from, content_behind, content_at, next_content, primitive_at, integer_of, string_of, visible_of, object_id_of, null_of, enter, leave};
 
@@ -178,8 +178,8 @@ impl<'a> Reader<'a> {
         if !begins_number(rest) {
             return None;
         }
-        let last = last_of_number(rest)?;
-        Some(&left[..last + 2])
+        let count = number_length(rest)?;
+        Some(&left[..1 + count])
     }
 
     /// Whether the innermost entered element, or where none is entered, the octets, have no further octet.
@@ -280,12 +280,17 @@ impl<'a> Reader<'a> {
     }
 }
 
-// The place of the first octet whose bit 8 is clear.
-fn last_of_number(octets: &[u8]) -> Option<usize>
-    ensures place { result ≡ position (λ octet. nat_lt octet 128) octets.now }
-    ensures within { IfSome result (λ place. place < length octets.now) }
+// The number of octets up to the first one whose bit 8 is clear.
+fn number_length(octets: &[u8]) -> Option<usize>
+    ensures octets { option_map (λ count. take count octets.now) result ≡ through_last octets.now }
+    ensures within { IfSome result (λ count. (0 < count) × (count ≤ length octets.now)) }
 {
-    octets.iter().position(|octet| *octet < 128)
+    for (place, octet) in octets.iter().enumerate() {
+        if *octet < 128 {
+            return Some(place + 1);
+        }
+    }
+    None
 }
 
 // Whether a tag number from 31 on begins so.
