@@ -18,7 +18,7 @@ front_of octets tag e = sym (take-append-drop (length tag) octets) ∙ ap (λ fr
 pub front_starts : (octets tag rest : List ℕ) → octets ≡ tag ++ rest → starts_with nat_eq octets tag ≡ true
 front_starts octets tag rest e = rw (e, take_at tag rest (length tag) refl) (nat_list_eq_equiv.refl tag)
 
-if_ok : {A : Type 0} (test : Bool) (fault : BerFault) (r : Result A BerFault) (x : A) → (if test then Err fault else r) ≡ Ok x → (test ≡ false) × (r ≡ Ok x)
+pub if_ok : {A : Type 0} (test : Bool) (fault : BerFault) (r : Result A BerFault) (x : A) → (if test then Err fault else r) ≡ Ok x → (test ≡ false) × (r ≡ Ok x)
 if_ok true fault r x e = cc
 if_ok false fault r x e = (refl, e)
 

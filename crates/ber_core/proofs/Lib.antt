@@ -6,3 +6,5 @@ mod Ends
 mod Identifiers
 mod Prefixes
 mod Found
+mod Twos
+mod Read

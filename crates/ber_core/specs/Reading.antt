@@ -1,12 +1,12 @@
 -- Reading the next element: its content, or the first fault in reading order. Which faults there are and where they
 -- stand is this product's own rule; what is accepted is X.690's definite form.
-use Rattle.std.specs.Prelude.{◌<◌, ◌++◌, ◌↔◌, ◌≡◌, ℕ, ℤ, ◌+◌, ◌-◌, Bool, true, false, ◌==◌, ◌&&◌, ◌||◌, not, List, [], ◌∷◌, length, take, drop, slice_index, nat_eq, nat_lt, nat_le, int_lt, if◌then◌else◌, Result, Ok, Err}
+use Rattle.std.specs.Prelude.{◌^◌, ◌≤ℤ◌, ◌<◌, ◌++◌, ◌↔◌, ◌≡◌, ℕ, ℤ, ◌+◌, ◌-◌, Bool, true, false, ◌==◌, ◌&&◌, ◌||◌, not, List, [], ◌∷◌, length, take, drop, slice_index, nat_eq, nat_lt, nat_le, int_lt, if◌then◌else◌, Result, Ok, Err}
 use Rattle.std.specs.List.{starts_with, list_all}
 use Rattle.ber_core.specs.declared.fault.BerFault.{BerFault}
 use Rattle.ber_core.specs.declared.fault.BerFault.TheVariants.{Cut, WrongTag, BadLength, BadContent, Wide}
-use Rattle.ber_core.specs.Length.{IsOctets, number_of}
-use Rattle.ber_core.specs.Integer.{is_redundant, is_wide, signed_of}
-use Rattle.ber_core.specs.Spelling.{IsElement}
+use Rattle.ber_core.specs.Length.{IsOctets, number_of, shortest_length}
+use Rattle.ber_core.specs.Integer.{is_redundant, is_wide, signed_of, integer_octets, Has64Bits}
+use Rattle.ber_core.specs.Spelling.{IsElement, element}
 use Rattle.ber_core.specs.View.{View, end_of, left}
 
 infixl 10 ◌>>=◌
@@ -135,3 +135,21 @@ abbrev pub FoundWhereSpelled : Type 0
 FoundWhereSpelled =
     (view : View) (tag content : List ℕ) (start : ℕ) → IsOctets view.octets
     → (next_content view tag ≡ Ok (start, content)) ↔ Stands view tag content start
+
+-- An INTEGER is read exactly from its octets, where it is in the range and has at most 64 bits.
+abbrev pub IntegerWhereSpelled : Type 0
+IntegerWhereSpelled =
+    (least greatest z : ℤ) (place : ℕ) (content : List ℕ) → IsOctets content
+    → (integer_of least greatest place content ≡ Ok z) ↔ ((content ≡ integer_octets z) × Has64Bits z × (least ≤ℤ z) × (z ≤ℤ greatest))
+
+-- The canonical octets of an INTEGER in the range are read back.
+abbrev pub IntegerReadBack : Type 0
+IntegerReadBack =
+    (least greatest z : ℤ) (place : ℕ) → Has64Bits z → least ≤ℤ z → z ≤ℤ greatest
+    → IsOctets (integer_octets z) × (integer_of least greatest place (integer_octets z) ≡ Ok z)
+
+-- A canonical primitive element at the place is found, whatever follows it, before the end of the element around it.
+abbrev pub ElementReadBack : Type 0
+ElementReadBack =
+    (view : View) (tag content more : List ℕ) → length content < 2 ^ 64 → length view.ends < 16 → left view ≡ element tag content ++ more
+    → next_content view tag ≡ Ok (view.place + length tag + length (shortest_length (length content)), content)

@@ -1,6 +1,6 @@
 // What holds of every tree and every spelling.
 
-ghost use Rattle.ber_core.specs.Reading.{FoundWhereSpelled};
+ghost use Rattle.ber_core.specs.Reading.{FoundWhereSpelled, IntegerWhereSpelled, IntegerReadBack, ElementReadBack};
 ghost use Rattle.ber_core.specs.Spelling.{CanonicalSpells, NoneBeginsAnother, OneTree};
 
 /// The canonical spelling is one of the spellings.
@@ -22,4 +22,19 @@ pub fn one_tree()
 /// and within the limit on nesting.
 pub fn found_where_spelled()
     ensures { FoundWhereSpelled }
+{}
+
+/// A reader reads an INTEGER exactly from its octets, where it has at most 64 bits and is in the range.
+pub fn integer_where_spelled()
+    ensures { IntegerWhereSpelled }
+{}
+
+/// What `Writer::integer` writes as content is read back.
+pub fn integer_read_back()
+    ensures { IntegerReadBack }
+{}
+
+/// What a writer writes as an element is found again, whatever follows.
+pub fn element_read_back()
+    ensures { ElementReadBack }
 {}
