@@ -8,3 +8,4 @@ mod Prefixes
 mod Found
 mod Twos
 mod Read
+mod Moves

@@ -110,11 +110,15 @@ object_id_of place content =
 abbrev pub null_of : ℕ → List ℕ → Result (Unit {0}) BerFault
 null_of place content = if is_empty content then Ok tt else Err (BadContent place)
 
+-- inside an element whose content begins at start
+abbrev pub inside : View → ℕ → List ℕ → View
+inside view start content = record view { place = start; ends = (start + length content) ∷ view.ends }
+
 -- entering an element, whose content ends where the innermost end then is
 abbrev pub enter : View → List ℕ → Result (Unit {0} × View) BerFault
 enter view tag = do
   found ← next_content view tag
-  Ok (tt, record view { place = found.0; ends = (found.0 + length found.1) ∷ view.ends })
+  Ok (tt, inside view found.0 found.1)
 
 -- leaving the innermost entered element, or where none is entered, ending the octets
 abbrev pub leave : View → Result (Unit {0} × View) BerFault
@@ -153,3 +157,11 @@ abbrev pub ElementReadBack : Type 0
 ElementReadBack =
     (view : View) (tag content more : List ℕ) → length content < 2 ^ 64 → length view.ends < 16 → left view ≡ element tag content ++ more
     → next_content view tag ≡ Ok (view.place + length tag + length (shortest_length (length content)), content)
+
+-- Inside an element its content is left to read.
+abbrev pub ContentIsInside : Type 0
+ContentIsInside = (view : View) (tag content : List ℕ) (start : ℕ) → Stands view tag content start → left (inside view start content) ≡ content
+
+-- Behind an element what follows its spelling is left to read.
+abbrev pub RestIsBehind : Type 0
+RestIsBehind = (view : View) (tag content : List ℕ) (start : ℕ) (found : Stands view tag content start) → left (behind view start content) ≡ found.rest

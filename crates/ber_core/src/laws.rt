@@ -1,6 +1,6 @@
 // What holds of every tree and every spelling.
 
-ghost use Rattle.ber_core.specs.Reading.{FoundWhereSpelled, IntegerWhereSpelled, IntegerReadBack, ElementReadBack};
+ghost use Rattle.ber_core.specs.Reading.{FoundWhereSpelled, IntegerWhereSpelled, IntegerReadBack, ElementReadBack, ContentIsInside, RestIsBehind};
 ghost use Rattle.ber_core.specs.Spelling.{CanonicalSpells, NoneBeginsAnother, OneTree};
 
 /// The canonical spelling is one of the spellings.
@@ -37,4 +37,14 @@ pub fn integer_read_back()
 /// What a writer writes as an element is found again, whatever follows.
 pub fn element_read_back()
     ensures { ElementReadBack }
+{}
+
+/// Inside an element its content is left to read.
+pub fn content_is_inside()
+    ensures { ContentIsInside }
+{}
+
+/// Behind an element what follows its spelling is left to read.
+pub fn rest_is_behind()
+    ensures { RestIsBehind }
 {}

@@ -1,0 +1,5 @@
+use Rattle.ber_core.proofs.Moves.{left-behind}
+use Rattle.ber_core.proofs.laws.rest_is_behind.Goals as goal
+
+pub returns : goal.returns
+returns c = left-behind
