@@ -9,3 +9,4 @@ mod Found
 mod Twos
 mod Read
 mod Moves
+mod Whole

@@ -5,7 +5,7 @@ use Rattle.ber_core.specs.View.{View, end_of, left}
 use Rattle.ber_core.specs.Reading.{Stands, inside, behind}
 
 -- what is left from k octets on
-left-drop : (octets : List ℕ) (place end k : ℕ) → k ≤ end - place → take (end - (place + k)) (drop (place + k) octets) ≡ drop k (take (end - place) (drop place octets))
+pub left-drop : (octets : List ℕ) (place end k : ℕ) → k ≤ end - place → take (end - (place + k)) (drop (place + k) octets) ≡ drop k (take (end - place) (drop place octets))
 left-drop octets place end k fits =
     let split : end - place ≡ k + (end - (place + k)) = omega arith in
     rw (split, drop-take k (end - (place + k)) (drop place octets), drop-drop) refl

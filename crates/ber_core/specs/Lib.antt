@@ -5,3 +5,4 @@ pub mod Spelling
 pub mod Written
 pub mod View
 pub mod Reading
+pub mod Whole

@@ -1,6 +1,7 @@
 // What holds of every tree and every spelling.
 
 ghost use Rattle.ber_core.specs.Reading.{FoundWhereSpelled, IntegerWhereSpelled, IntegerReadBack, ElementReadBack, ContentIsInside, RestIsBehind};
+ghost use Rattle.ber_core.specs.Whole.{ReadWhereSpelled};
 ghost use Rattle.ber_core.specs.Spelling.{CanonicalSpells, NoneBeginsAnother, OneTree};
 
 /// The canonical spelling is one of the spellings.
@@ -47,4 +48,10 @@ pub fn content_is_inside()
 /// Behind an element what follows its spelling is left to read.
 pub fn rest_is_behind()
     ensures { RestIsBehind }
+{}
+
+/// A reader's calls in a tree's order read it exactly where it is spelled, before the end of the element around it and
+/// within the limit on nesting.
+pub fn read_where_spelled()
+    ensures { ReadWhereSpelled }
 {}
