@@ -1,0 +1,9 @@
+pub mod Fronts
+pub mod Spelled
+pub mod Places
+pub mod Readings
+pub mod Walk
+pub mod Feedings
+pub mod Longer
+pub mod Standing
+pub mod Parts

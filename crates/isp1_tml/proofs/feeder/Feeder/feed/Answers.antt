@@ -1,0 +1,52 @@
+use Rattle.std.proofs.Common.{ap, refl, Some, ◌+◌}
+use Rattle.isp1_tml.specs.Feeding.{Feeding, feeding_of}
+use Rattle.isp1_tml.proofs.Standing.{stands_fed, stands_refused}
+use Rattle.isp1_tml.proofs.Feedings.{Puts, put_whole, put_seen, put_refused}
+use Rattle.isp1_tml.proofs.feeder.Feeder.feed.Goals as goal
+
+pub invariant_of-self : goal.invariant_of-self
+invariant_of-self c =
+    let puts : Puts c.self.inside.held.waiting c.args.piece.now c.octets.result.now c.put.new.self.waiting c.self.inside.place c.further.result c.self.inside.whole c.len-before.result c.min-taken.result = record {
+      split = c.self.invariant;
+      before = c.len-before.ensures.exact;
+      count = c.min-taken.ensures;
+      put = c.put.ensures;
+      read = c.octets.ensures;
+      place = c.further.ensures;
+    } in
+    put_whole _ _ _ _ _ _ _ _ _ c.in-Ok.end _ puts c.in-Ok.ensures.within c.in-Ok.ensures.stream
+
+pub returns-in-Ok-clause-stream : goal.returns-in-Ok-clause-stream
+returns-in-Ok-clause-stream c =
+    let puts : Puts c.self.inside.held.waiting c.args.piece.now c.octets.result.now c.put.new.self.waiting c.self.inside.place c.further.result c.self.inside.whole c.len-before.result c.min-taken.result = record {
+      split = c.self.invariant;
+      before = c.len-before.ensures.exact;
+      count = c.min-taken.ensures;
+      put = c.put.ensures;
+      read = c.octets.ensures;
+      place = c.further.ensures;
+    } in
+    let split = put_whole _ _ _ _ _ _ _ _ _ c.in-Ok.end _ puts c.in-Ok.ensures.within c.in-Ok.ensures.stream in
+    put_seen _ _ _ _ _ _ _ _ _ c.self.inside.fault _ _ _ _ puts c.self.view_is split.stream
+
+pub returns-in-Err-clause-refused : goal.returns-in-Err-clause-refused
+returns-in-Err-clause-refused c fresh =
+    let puts : Puts c.self.inside.held.waiting c.args.piece.now c.octets.result.now c.put.new.self.waiting c.self.inside.place c.further.result c.self.inside.whole c.len-before.result c.min-taken.result = record {
+      split = c.self.invariant;
+      before = c.len-before.ensures.exact;
+      count = c.min-taken.ensures;
+      put = c.put.ensures;
+      read = c.octets.ensures;
+      place = c.further.ensures;
+    } in
+    put_refused _ _ _ _ _ _ _ _ _ c.self.inside.fault _ c.in-Err.fault puts c.self.view_is c.in-Err.ensures.fault
+
+pub returns-in-Ok-clause-so_far : goal.returns-in-Ok-clause-so_far
+returns-in-Ok-clause-so_far c before given fresh stood =
+    let place = ap (λ (f : Feeding). f.place) c.self.view_is in
+    stands_fed c.args.self.now (feeding_of c.put.new.self.waiting (c.self.inside.whole + c.in-Ok.end) c.self.inside.place c.self.inside.fault) c.args.piece.now before given fresh stood place c.in_default.is (returns-in-Ok-clause-stream c)
+
+pub returns-in-Err-clause-so_far : goal.returns-in-Err-clause-so_far
+returns-in-Err-clause-so_far c before given fresh stood =
+    let place = ap (λ (f : Feeding). f.place) c.self.view_is in
+    stands_refused c.args.self.now (feeding_of c.truncate.new.self.waiting c.self.inside.whole c.self.inside.place (Some c.in-Err.fault)) c.args.piece.now before given c.in-Err.fault fresh stood place refl (returns-in-Err-clause-refused c fresh)

@@ -1,0 +1,8 @@
+pub mod Message
+pub mod Fault
+pub mod Stream
+pub mod Given
+pub mod Reading
+pub mod Held
+pub mod Feeding
+pub mod Beat
