@@ -1,0 +1,4 @@
+use Rattle.turn_lock.proofs.turns.Turns.new.Given as goal
+
+abbrev pub ghosts-cut : goal.ghosts-cut
+ghosts-cut g a = record { turns = a.turns }

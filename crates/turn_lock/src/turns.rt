@@ -1,0 +1,353 @@
+// The lock.
+ghost use Rattle.std.specs.Prelude.{◌≡◌, ◌≢◌, ℕ, ◌+◌, ◌-◌, ◌^◌, ◌<◌, ◌≤◌, [], ◌∷◌, ◌++◌, IfOk, IfErr, IsOk, IsOkAnd, MatchResult, IsSome, Some, None};
+ghost use Rattle.turn_lock.specs.Known.{lock_of, known_of};
+ghost use Rattle.turn_lock.specs.Steps.{entering, Takes, HasTaken, resting, giving, given, both, lent};
+ghost use Rattle.turn_lock.specs.declared.pass.Standing.TheVariants.{Ready, InTurn, Closed};
+
+use crate::event::{Event, StandsFor};
+use crate::guard::Guard;
+use crate::pass::Pass;
+use crate::steps::{Close, Draw, End, Give, Learn, Lend, Look, Share, Stub, Unite};
+use crate::turn::Turn;
+use crate::view::{Law, Start, View};
+use atomic_table::{Badge, Seat, Shared, Table};
+use std::alloc::Global;
+use std::hint;
+use std::marker::{Brand, Model};
+use std::snapshot::Snapshot;
+use std::sync::Wait;
+
+/// The word from which tickets are drawn.
+const TICKET: usize = 0;
+
+/// The word with the ticket that is served.
+const SERVING: usize = 1;
+
+/// How often a thread looks again before it sleeps.
+const SPINS: u32 = 100;
+
+/// Why a call of the lock was refused.
+#[derive(Drop, Debug)]
+pub enum LockFault {
+    Memory,
+}
+
+type Words<T, E> = Shared<Option<T>, View<E>, Start<T>, Law>;
+
+type Place<T, E> = Seat<Option<T>, View<E>>;
+
+/// A lock over a value. Threads share it by reference where the value may go from one to another.
+#[derive(Drop)]
+pub struct Turns<T: StandsFor<E>, E: Event> {
+    table: Table<Option<T>, View<E>, Start<T>, Law, Global>,
+    keeper: Guard<View<E>>,
+}
+
+impl<T: StandsFor<E>, E: Event> Model for Turns<T, E> {
+    ghost use Rattle.std.specs.Prelude.{◌≡◌, ◌^◌, ◌≤◌, [], ◌∷◌};
+    ghost use Rattle.turn_lock.specs.Known.{Lock, IsKeeper};
+
+    ghost Value = { Lock E.Origin };
+
+    ghost view = { λ l. record { table = l.table.shared.table_id; origin = T.origin l.table.shared.key.value.value; turns = l.table.shared.key.turns } };
+
+    ghost invariant = { λ l. (l.table.shared.table_id.words ≡ 2) × (l.table.shared.table_id.slots ≡ 1) × (l.table.shared.key.turns ≤ 2 ^ 62) × IsKeeper l.keeper.badge l.table.shared.table_id (T.origin l.table.shared.key.value.value) l.table.shared.key.turns };
+}
+
+/// Draws a ticket for a turn.
+fn draw<T: StandsFor<E>, E: Event>(shared: &Words<T, E>, seat: &mut Place<T, E>) -> u64
+    requires table { (seat.old.table_id ≡ shared.now.table_id) × (shared.now.table_id.words ≡ 2) × (shared.now.key.turns ≤ 2 ^ 62) }
+    requires ready { (seat.old.me.0.ticket ≡ None) × (seat.old.me.0.kept ≡ None) × (0 < seat.old.me.0.left) }
+    ensures seat { (seat.new.table_id ≡ seat.old.table_id) × (seat.new.id ≡ seat.old.id) }
+    ensures drawn { seat.new.me ≡ (entering seat.old.me.0 result, seat.old.me.1) }
+{
+    shared.fetch_add::<Draw>(seat, TICKET, 1)
+}
+
+/// Spins for a short time, and says whether another ticket is served by then.
+fn has_moved<T: StandsFor<E>, E: Event>(shared: &Words<T, E>, serving: u64) -> bool
+    requires { shared.now.table_id.words ≡ 2 }
+{
+    for _ in 0..SPINS {
+        if shared.peek(SERVING) != serving {
+            return true;
+        }
+        hint::spin_loop();
+    }
+    false
+}
+
+/// Reads which ticket is served, and takes the value where it is the seat's.
+fn look<T: StandsFor<E>, E: Event>(shared: &Words<T, E>, seat: &mut Place<T, E>, ticket: u64) -> u64
+    requires table { (seat.old.table_id ≡ shared.now.table_id) × (shared.now.table_id.words ≡ 2) }
+    requires waits { (seat.old.me.0.ticket ≡ Some ticket) × (seat.old.me.0.kept ≡ None) }
+    ensures seat { (seat.new.table_id ≡ seat.old.table_id) × (seat.new.id ≡ seat.old.id) }
+    ensures takes { result ≡ ticket → Takes T.origin T.stands seat.old.me.0 seat.old.me seat.new.me }
+    ensures stays { result ≢ ticket → seat.new.me ≡ seat.old.me }
+{
+    shared.load::<Look>(seat, SERVING)
+}
+
+/// Waits for the ticket of the seat, and takes the value.
+fn wait_for<T: StandsFor<E>, E: Event, R: Wait>(
+    rt: &R,
+    shared: &Words<T, E>,
+    seat: &mut Place<T, E>,
+    ticket: u64,
+)
+    requires table { (seat.old.table_id ≡ shared.now.table_id) × (shared.now.table_id.words ≡ 2) }
+    requires waits { (seat.old.me.0.ticket ≡ Some ticket) × (seat.old.me.0.kept ≡ None) }
+    ensures seat { (seat.new.table_id ≡ seat.old.table_id) × (seat.new.id ≡ seat.old.id) }
+    ensures takes { Takes T.origin T.stands seat.old.me.0 seat.old.me seat.new.me }
+{
+    for _ in rt.forever() {
+        let serving = look(shared, seat, ticket);
+        if serving == ticket {
+            return;
+        }
+        if !has_moved(shared, serving) {
+            shared.park(rt, SERVING, (serving % (1 << 32)) as u32);
+        }
+    }
+    unreachable!()
+}
+
+/// Draws a ticket, waits for it, and takes the value out of the slot.
+fn take_turn<T: StandsFor<E>, E: Event, R: Wait>(
+    rt: &R,
+    shared: &Words<T, E>,
+    seat: &mut Place<T, E>,
+) -> T
+    requires table { (seat.old.table_id ≡ shared.now.table_id) × (shared.now.table_id.words ≡ 2) × (shared.now.key.turns ≤ 2 ^ 62) }
+    requires ready { (seat.old.me.0.ticket ≡ None) × (seat.old.me.0.kept ≡ None) × (0 < seat.old.me.0.left) }
+    ensures seat { (seat.new.table_id ≡ seat.old.table_id) × (seat.new.id ≡ seat.old.id) }
+    ensures value { HasTaken T.origin T.stands seat.old.me seat.new.me result }
+{
+    let ticket = draw(shared, seat);
+    wait_for(rt, shared, seat, ticket);
+    shared.exchange(seat, 0, None).unwrap()
+}
+
+/// Cuts turns off a seat, for a new one.
+fn cut<N: Share, T: StandsFor<E>, E: Event>(
+    shared: &Words<T, E>,
+    seat: &mut Place<T, E>,
+    turns: u64,
+) -> Place<T, E>
+    requires table { (seat.old.table_id ≡ shared.now.table_id) × (shared.now.table_id.words ≡ 2) }
+    requires ready { (seat.old.me.0.kept ≡ None) × IsSome seat.old.me.0.origin }
+    requires turns { (turns ≡ N.turns) × (turns ≤ seat.old.me.0.left) }
+    ensures seat { (seat.new.table_id ≡ seat.old.table_id) × (seat.new.id ≡ seat.old.id) × (seat.new.me ≡ (giving seat.old.me.0 turns, seat.old.me.1)) }
+    ensures new { (result.table_id ≡ seat.old.table_id) × (result.me ≡ (given seat.old.me.0 turns, [])) }
+{
+    shared.split_seat::<Give<N>>(seat)
+}
+
+/// A seat that has no turns, and keeps the lock in mind.
+fn stub<T: StandsFor<E>, E: Event>(shared: &Words<T, E>, seat: &mut Place<T, E>) -> Badge<View<E>>
+    requires table { (seat.old.table_id ≡ shared.now.table_id) × (shared.now.table_id.words ≡ 2) }
+    requires ready { (seat.old.me.0.kept ≡ None) × IsSome seat.old.me.0.origin }
+    ensures seat { (seat.new.table_id ≡ seat.old.table_id) × (seat.new.id ≡ seat.old.id) × (seat.new.me ≡ seat.old.me) }
+    ensures stub { (result.table_id ≡ seat.old.table_id) × (result.views ≡ given seat.old.me.0 0 ∷ []) }
+{
+    shared.split_seat::<Stub>(seat).into_badge()
+}
+
+/// Takes in another seat.
+fn unite<T: StandsFor<E>, E: Event>(
+    shared: &Words<T, E>,
+    seat: &mut Place<T, E>,
+    other: Place<T, E>,
+)
+    requires table { (seat.old.table_id ≡ shared.now.table_id) × (other.table_id ≡ shared.now.table_id) × (shared.now.table_id.words ≡ 2) }
+    requires ready { (seat.old.me.0.ticket ≡ None) × (seat.old.me.0.kept ≡ None) × IsSome seat.old.me.0.origin }
+    requires other { (other.me.0.ticket ≡ None) × (other.me.0.kept ≡ None) × (other.me.1 ≡ []) }
+    ensures seat { (seat.new.table_id ≡ seat.old.table_id) × (seat.new.id ≡ seat.old.id) }
+    ensures both { seat.new.me ≡ (both seat.old.me.0 other.me.0, seat.old.me.1) }
+    ensures few { seat.new.me.0.left + seat.new.me.0.entered ≤ seat.new.me.0.turns + 1 }
+{
+    shared.join_seat::<Unite>(seat, other);
+    shared.load::<Learn>(seat, TICKET);
+}
+
+/// Takes in the turn that closes the lock.
+fn borrow_last<T: StandsFor<E>, E: Event>(
+    shared: &Words<T, E>,
+    seat: &mut Place<T, E>,
+    keeper: Place<T, E>,
+)
+    requires table { (seat.old.table_id ≡ shared.now.table_id) × (keeper.table_id ≡ shared.now.table_id) × (shared.now.table_id.words ≡ 2) }
+    requires ready { (seat.old.me.0.ticket ≡ None) × (seat.old.me.0.kept ≡ None) × IsSome seat.old.me.0.origin }
+    requires keeper { (keeper.me.0.ticket ≡ None) × (keeper.me.0.kept ≡ None) × (keeper.me.1 ≡ []) }
+    ensures seat { (seat.new.table_id ≡ seat.old.table_id) × (seat.new.id ≡ seat.old.id) }
+    ensures lent { seat.new.me ≡ (lent seat.old.me.0 keeper.me.0, seat.old.me.1) }
+{
+    shared.join_seat::<Lend>(seat, keeper);
+}
+
+/// Enters the last turn and takes the value, if all turns so far were entered by the seat. Says how many there were.
+fn take_last<T: StandsFor<E>, E: Event>(
+    shared: &Words<T, E>,
+    seat: &mut Place<T, E>,
+    entered: u64,
+) -> u64
+    requires table { (seat.old.table_id ≡ shared.now.table_id) × (shared.now.table_id.words ≡ 2) }
+    requires ready { (seat.old.me.0.ticket ≡ None) × (seat.old.me.0.kept ≡ None) × IsSome seat.old.me.0.origin }
+    requires turns { (0 < seat.old.me.0.left) × (seat.old.me.0.entered ≡ entered) × (entered < 2 ^ 63) }
+    ensures seat { (seat.new.table_id ≡ seat.old.table_id) × (seat.new.id ≡ seat.old.id) }
+    ensures takes { result ≡ entered → Takes T.origin T.stands (entering seat.old.me.0 result) seat.old.me seat.new.me }
+    ensures stays { result ≢ entered → (seat.new.me ≡ seat.old.me) × (entered < result) × (seat.old.me.0.left + result ≤ seat.old.me.0.turns + 1) }
+{
+    shared.compare_exchange::<Close>(seat, TICKET, entered, entered + 1)
+}
+
+/// Gives the value back, serves the next ticket, and wakes those who wait for it.
+fn end_turn<T: StandsFor<E>, E: Event>(shared: &Words<T, E>, seat: &mut Place<T, E>, value: T)
+    requires table { (seat.old.table_id ≡ shared.now.table_id) × (shared.now.table_id.words ≡ 2) × (shared.now.key.turns ≤ 2 ^ 62) }
+    requires holds { (seat.old.me.1 ≡ (0, None) ∷ []) × IsSome seat.old.me.0.kept }
+    requires value { (seat.old.me.0.origin ≡ Some (T.origin value)) × ((h : _) × T.stands value h) }
+    ensures seat { (seat.new.table_id ≡ seat.old.table_id) × (seat.new.id ≡ seat.old.id) }
+    ensures rests { seat.new.me ≡ (resting seat.old.me.0, []) }
+{
+    let out = shared.exchange(seat, 0, Some(value));
+    let None = out else { unreachable!() };
+    let served = shared.fetch_add::<End>(seat, SERVING, 1);
+    if shared.peek(TICKET) != served.wrapping_add(1) {
+        shared.wake_all(SERVING);
+    }
+}
+
+impl<T: StandsFor<E>, E: Event> Turns<T, E> {
+    /// Opens a turn. It waits until all turns that were entered before have ended.
+    pub fn enter<R: Wait>(&self, rt: &R, pass: &mut Pass<E>) -> Turn<T, E>
+        requires lock { pass.old.lock ≡ Some self.now }
+        requires ready { pass.old.standing ≡ Ready }
+        requires left { 0 < pass.old.left }
+        ensures pass { pass.new ≡ record pass.old { standing = InTurn; left = pass.old.left - 1; entered = pass.old.entered + 1; found = 0 } }
+        ensures turn { result.pass ≡ pass.new }
+        ensures origin { T.origin result.value ≡ self.now.origin }
+        ensures value { T.stands result.value result.list }
+    {
+        let mut seat = pass.take().into_seat::<Option<T>>();
+        pass.begin(stub(&self.table.shared, &mut seat));
+        let value = take_turn(rt, &self.table.shared, &mut seat);
+        Turn { seat, value }
+    }
+
+    /// Ends a turn that added an event. The caller names it in its proof.
+    pub fn commit(&self, pass: &mut Pass<E>, turn: Turn<T, E>)
+        ghost event: { E }
+        requires lock { pass.old.lock ≡ Some self.now }
+        requires turn { turn.pass ≡ pass.old }
+        requires origin { T.origin turn.value ≡ self.now.origin }
+        requires value { T.stands turn.value (turn.list ++ event ∷ []) }
+        ensures { pass.new ≡ record pass.old { standing = Ready } }
+    {
+        self.finish(pass, turn);
+    }
+
+    /// Ends a turn that added no event.
+    pub fn leave(&self, pass: &mut Pass<E>, turn: Turn<T, E>)
+        requires lock { pass.old.lock ≡ Some self.now }
+        requires turn { turn.pass ≡ pass.old }
+        requires origin { T.origin turn.value ≡ self.now.origin }
+        requires value { T.stands turn.value turn.list }
+        ensures { pass.new ≡ record pass.old { standing = Ready } }
+    {
+        self.finish(pass, turn);
+    }
+
+    /// Ends a turn whose value stands for some list.
+    fn finish(&self, pass: &mut Pass<E>, turn: Turn<T, E>)
+        requires lock { pass.old.lock ≡ Some self.now }
+        requires turn { turn.pass ≡ pass.old }
+        requires origin { T.origin turn.value ≡ self.now.origin }
+        requires value { (h : _) × T.stands turn.value h }
+        ensures { pass.new ≡ record pass.old { standing = Ready } }
+    {
+        let Turn { mut seat, value } = turn;
+        end_turn(&self.table.shared, &mut seat, value);
+        pass.rest(seat.into_badge());
+    }
+
+    /// Gives turns of the pass to a new one. It takes no memory, and is never refused.
+    pub fn split(&self, pass: &mut Pass<E>, turns: u64) -> Result<Pass<E>, LockFault>
+        requires lock { pass.old.lock ≡ Some self.now }
+        requires ready { pass.old.standing ≡ Ready }
+        requires turns { turns ≤ pass.old.left }
+        ensures pass { pass.new ≡ record pass.old { left = pass.old.left - turns; found = 0 } }
+        ensures ok { IsOkAnd result (λ r. (r.lock ≡ Some self.now) × (r.standing ≡ Ready) × (r.left ≡ turns) × (r.entered ≡ 0)) }
+    {
+        let mut seat = pass.take().into_seat::<Option<T>>();
+        let other = cut::<Brand, T, E>(&self.table.shared, &mut seat, turns);
+        *pass = Pass::over(seat.into_badge(), pass.left() - turns, pass.entered(), 0);
+        Ok(Pass::over(other.into_badge(), turns, 0, 0))
+    }
+
+    /// Gives the turns of the other pass, those left and those entered, to this one.
+    pub fn join(&self, pass: &mut Pass<E>, mut other: Pass<E>)
+        requires lock { (pass.old.lock ≡ Some self.now) × (other.lock ≡ Some self.now) }
+        requires ready { (pass.old.standing ≡ Ready) × (other.standing ≡ Ready) }
+        ensures { pass.new ≡ record pass.old { left = pass.old.left + other.left; entered = pass.old.entered + other.entered; found = 0 } }
+    {
+        let mut seat = pass.take().into_seat::<Option<T>>();
+        let given = other.take().into_seat::<Option<T>>();
+        unite(&self.table.shared, &mut seat, given);
+        let left = pass.left() + other.left();
+        let entered = pass.entered() + other.entered();
+        *pass = Pass::over(seat.into_badge(), left, entered, 0);
+    }
+}
+
+impl<T: StandsFor<E> + Drop, E: Event> Turns<T, E> {
+    /// A lock over the value, and the pass that has all its turns, at most 2^62.
+    pub fn new(alloc: Global, value: T, turns: u64) -> Result<(Turns<T, E>, Pass<E>), LockFault>
+        requires turns { (1 ≤ turns) × (turns ≤ 2 ^ 62) }
+        requires empty { T.stands value [] }
+        ensures lock { IfOk result (λ r. (r.0.origin ≡ T.origin value) × (r.0.turns ≡ turns)) }
+        ensures pass { IfOk result (λ r. (r.1.lock ≡ Some r.0) × (r.1.standing ≡ Ready) × (r.1.left ≡ turns) × (r.1.entered ≡ 0)) }
+    {
+        let about = Start {
+            value: Snapshot::of(&value),
+            turns,
+        };
+        let Ok(mut slots) = Vec::with_capacity(alloc, 1) else {
+            return Err(LockFault::Memory);
+        };
+        slots.push_reserved(Some(value));
+        let Ok((table, mut seat)) = Table::new(alloc, &[0, 0], slots, &about) else {
+            return Err(LockFault::Memory);
+        };
+        let keeper = cut::<Brand, T, E>(&table.shared, &mut seat, 1);
+        let keeper = Guard::new(keeper.into_badge());
+        let pass = Pass::over(seat.into_badge(), turns, 0, 0);
+        Ok((Turns { table, keeper }, pass))
+    }
+
+    /// Gives the value out, if all turns were entered by the pass and those joined into it.
+    /// Else it hands both back, and `found` says how many turns were entered by any pass.
+    pub fn close(self, mut pass: Pass<E>) -> Result<(T, Pass<E>), (Turns<T, E>, Pass<E>)>
+        requires lock { pass.lock ≡ Some self }
+        requires ready { pass.standing ≡ Ready }
+        ensures ok { IfOk result (λ r. (r.1 ≡ record pass { standing = Closed; found = pass.entered }) × (T.origin r.0 ≡ self.origin) × ((h : _) × T.stands r.0 h)) }
+        ensures err { IfErr result (λ r. (r.0 ≡ self) × (r.1 ≡ record pass { found = r.1.found }) × (pass.entered < r.1.found) × (pass.left + r.1.found ≤ self.turns)) }
+        ensures whole { pass.left + pass.entered ≡ self.turns → IsOk result }
+    {
+        let Turns { table, keeper } = self;
+        let (left, entered) = (pass.left(), pass.entered());
+        let mut seat = pass.take().into_seat::<Option<T>>();
+        let stub = stub(&table.shared, &mut seat);
+        let last = keeper.into_badge().into_seat::<Option<T>>();
+        borrow_last(&table.shared, &mut seat, last);
+        let found = take_last(&table.shared, &mut seat, entered);
+        if found != entered {
+            let keeper = cut::<Brand, T, E>(&table.shared, &mut seat, 1);
+            let keeper = Guard::new(keeper.into_badge());
+            let pass = Pass::over(seat.into_badge(), left, entered, found);
+            return Err((Turns { table, keeper }, pass));
+        }
+        let value = table.shared.exchange(&mut seat, 0, None).unwrap();
+        pass.close(stub);
+        Ok((value, pass))
+    }
+}
