@@ -1,1 +1,3 @@
 pub mod Patched
+pub mod Replay
+pub mod Calls

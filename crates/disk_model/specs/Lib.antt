@@ -1,2 +1,4 @@
 pub mod Images
 pub mod Moments
+pub mod Memory
+pub mod MemoryLaws
