@@ -1,10 +1,9 @@
 -- What a counted call of the disk in memory makes of its images.
-use Rattle.std.proofs.Common.{◌≡◌, ◌⊎◌, inl, inr, ℕ, ◌+◌, ◌≤◌, ◌<◌, List, [], ◌∷◌, ◌++◌, length, take, Some, Result, Ok, Err, OnOk, OnErr, refl, sym, ◌∙◌, ap, subst, arith}
-use Rattle.std.proofs.lemmas.Bool.{cases_lt}
+use Rattle.std.proofs.Common.{◌≡◌, ◌⊎◌, inl, inr, ℕ, ◌+◌, ◌≤◌, List, [], ◌∷◌, ◌++◌, length, take, Some, Result, Ok, Err, OnOk, OnErr, sym, ◌∙◌, ap, subst, arith}
 use Rattle.std.proofs.lemmas.Bool.Decides.{nat_tests}
 use Rattle.std.proofs.lemmas.Grind.{common_steps}
 use Rattle.std.proofs.lemmas.List.{take-append-le, take_all, length-append, places}
-use Rattle.disk_model.specs.Images.{Pending, IsImage, IsTorn, FailsToWrite, overwritten}
+use Rattle.disk_model.specs.Images.{IsImage, IsTorn, FailsToWrite, overwritten}
 use Rattle.disk_model.specs.Moments.{Elapses}
 use Rattle.disk_model.specs.Memory.{DiskState, IsImageSince, IsFailedCall, pending_after, pending_of, content_of, with_call, counted}
 use Rattle.disk_model.specs.declared.memory.Call.{Call}
@@ -66,8 +65,11 @@ whole_is_torn content octets place there = record {
 pub failed_write : (old new : DiskState) (place : ℕ) (octets : List ℕ) → place ≤ length (content_of old) → IsFailedCall old (Write place octets) new
     → FailsToWrite place (length octets) (pending_of old) (pending_of new)
 failed_write old new place octets there (inl marked) =
-    inr (overwritten (content_of old) place octets, whole_is_torn (content_of old) octets place there,
-         ap pending_of marked.1 ∙ pending_more old.start old.log (Write place octets))
+    inr (
+      overwritten (content_of old) place octets,
+      whole_is_torn (content_of old) octets place there,
+      ap pending_of marked.1 ∙ pending_more old.start old.log (Write place octets),
+    )
 failed_write old new place octets there (inr (inl told)) = inl (ap pending_of told.1)
 failed_write old new place octets there (inr (inr refused)) = inl (ap pending_of refused)
 

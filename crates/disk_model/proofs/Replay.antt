@@ -1,5 +1,5 @@
 -- The log of a disk in memory, one call on, and what a stop leaves.
-use Rattle.std.proofs.Common.{◌≡◌, ◌⊎◌, inl, inr, ℕ, ◌+◌, ◌≤◌, List, [], ◌∷◌, ◌++◌, length, take, drop, fold, refl, sym, ◌∙◌, ap, arith}
+use Rattle.std.proofs.Common.{◌≡◌, ℕ, ◌+◌, List, [], ◌∷◌, ◌++◌, length, take, drop, fold, refl, sym, ◌∙◌, ap, arith}
 use Rattle.std.proofs.lemmas.Grind.{common_steps, fold-append}
 use Rattle.std.proofs.lemmas.List.{take-append-le, drop-append-le, take_all, drop_all, length-append}
 use Rattle.disk_model.specs.Images.{Pending, IsImage, all_synced, after_write, after_cut, after_sync, overwritten}
@@ -91,7 +91,7 @@ left_more : (pick : Pick) (calls : List Call) (pending : Pending) (since : List 
 left_more pick [] pending since is = is
 left_more pick (Write place octets ∷ calls) pending since is =
     left_more pick calls (after_write place octets pending) (since ++ Write place octets ∷ [])
-        (rw (fold-append (left_of pick) pending.synced since (Write place octets ∷ [])) (left_of_write_is pick pending _ place octets is))
+    (rw (fold-append (left_of pick) pending.synced since (Write place octets ∷ [])) (left_of_write_is pick pending _ place octets is))
 left_more pick (Cut size ∷ calls) pending since is =
     left_more pick calls (after_cut size pending) (since ++ Cut size ∷ []) (rw (fold-append (left_of pick) pending.synced since (Cut size ∷ [])) (left_of_cut pending _ is size))
 left_more pick (Sync ∷ calls) pending since is =

@@ -2,3 +2,4 @@ pub mod Images
 pub mod Moments
 pub mod Memory
 pub mod MemoryLaws
+pub mod File

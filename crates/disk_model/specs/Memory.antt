@@ -1,5 +1,5 @@
 -- The disk in memory: what is pending after its calls, and what a stop leaves by its pick.
-use Rattle.std.specs.Prelude.{ℕ, ◌+◌, ◌-◌, ◌/◌, ◌≤◌, ◌≡◌, ◌⊎◌, Bool, true, false, ◌&&◌, ◌||◌, not, IsTrue, nat_le, Option, Some, None, is_some, is_none, List, [], ◌∷◌, ◌++◌, length, take, drop, replicate, fold, if◌then◌else◌}
+use Rattle.std.specs.Prelude.{ℕ, ◌-◌, ◌/◌, ◌≤◌, ◌≡◌, ◌⊎◌, Bool, true, false, ◌&&◌, ◌||◌, not, IsTrue, nat_le, Option, Some, None, is_some, is_none, List, [], ◌∷◌, ◌++◌, length, take, drop, replicate, fold, if◌then◌else◌}
 use Rattle.std.specs.Option.{option_or}
 use Rattle.octet_core.specs.Fault.{count_up}
 use Rattle.octet_core.specs.Doubles.{fails_next}

@@ -1,11 +1,10 @@
 -- What the disk in memory proves of itself as a disk.
-use Rattle.std.specs.Prelude.{ℕ, ◌+◌, ◌<◌, ◌≤◌, ◌≡◌, ◌⊎◌, Bool, true, false, ◌||◌, slice_index, List, [], ◌∷◌, ◌++◌, length, take, fold, refl}
-use Rattle.std.proofs.Common.{arith, ◌∙◌, ap, sym, subst}
+use Rattle.std.specs.Prelude.{ℕ, ◌<◌, ◌≤◌, ◌≡◌, Bool, true, false, ◌||◌, slice_index, List, [], ◌∷◌, length, fold, refl}
+use Rattle.std.proofs.Common.{arith, ◌∙◌, sym, subst}
 use Rattle.std.proofs.lemmas.List.{take_all, places}
 use Rattle.std.proofs.lemmas.Bool.Decides.{nat_tests}
 use Rattle.std.proofs.lemmas.Grind.{common_steps}
 use Rattle.disk_model.specs.Images.{Pending, IsImage, IsHeld, all_synced, after_write, after_cut, overwritten, is_inside}
-use Rattle.disk_model.specs.Moments.{IsImageOf}
 use Rattle.disk_model.specs.Memory.{DiskState, IsImageSince, after_call, pending_after, pending_of}
 use Rattle.disk_model.specs.declared.memory.Call.{Call}
 use Rattle.disk_model.specs.declared.memory.Call.TheVariants.{Write, Cut, Sync}

@@ -1,5 +1,5 @@
 -- The images of a disk at every moment since an earlier one, and what its calls say of them.
-use Rattle.std.specs.Prelude.{ℕ, ◌+◌, ◌≤◌, ◌≡◌, ◌⊎◌, Option, None, MatchOption, IfSome, IsSomeAnd, List, length, take, drop}
+use Rattle.std.specs.Prelude.{ℕ, ◌≤◌, ◌≡◌, ◌⊎◌, Option, None, MatchOption, IfSome, IsSomeAnd, List, length, take, drop}
 use Rattle.disk_model.specs.Images.{Pending, IsImage}
 
 -- an image of a disk that tells

@@ -13,15 +13,13 @@ pub fn a_read_gives_an_image()
     ensures torn { (old new : Pending) (place count : ℕ) → IsHeld old → FailsToWrite place count old new
         → IsHeld new }
     ensures cut_short { (old new : Pending) (size : ℕ) → IsHeld old → FailsToCut size old new → IsHeld new }
-{
-}
+{}
 
 /// After a good sync what a read gives is the only image.
 pub fn a_sync_leaves_one_image()
     ensures { (pending : Pending) (image : List ℕ) → IsImage (after_sync pending) image
         → image ≡ pending.content }
-{
-}
+{}
 
 /// After a write, whole or torn, each image is an old one with free octets in the range and past its
 /// end, and is no longer than the range reaches. Each old one is still an image.
@@ -31,8 +29,7 @@ pub fn a_write_frees_its_range()
         → (old : List ℕ) × IsImage pending old × IsTorn place count old image }
     ensures old { (pending : Pending) (place count : ℕ) (content image : List ℕ)
         → IsImage pending image → IsImage (with_range place count content pending) image }
-{
-}
+{}
 
 /// After a cut each image agrees with an old one below the cut, is no longer than it, and is at least
 /// as long as the lesser of the old least length and the cut. Each old one is still an image.
@@ -40,8 +37,7 @@ pub fn a_cut_frees_what_lies_past_it()
     ensures new { (pending : Pending) (size : ℕ) (content image : List ℕ) → IsHeld pending
         → IsImage (with_cut size content pending) image
         → (old : List ℕ) × IsImage pending old × IsCutShort size old image
-            × (min pending.least size ≤ length image) }
+        × (min pending.least size ≤ length image) }
     ensures old { (pending : Pending) (size : ℕ) (content image : List ℕ)
         → IsImage pending image → IsImage (with_cut size content pending) image }
-{
-}
+{}

@@ -2,8 +2,10 @@
 #![tactic(auto)]
 
 mod disk;
+mod file;
 pub mod laws;
 mod memory;
 
 pub use disk::Disk;
+pub use file::FileDisk;
 pub use memory::{Call, MemoryDisk, Pick, Stop};

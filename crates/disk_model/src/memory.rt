@@ -82,7 +82,6 @@ impl Model for MemoryDisk {
 }
 
 impl MemoryDisk {
-
     /// A disk that holds nothing, and neither fails nor stops. It takes no memory.
     pub fn new(alloc: Global) -> MemoryDisk
         ensures { result ≡ record {
@@ -468,4 +467,108 @@ impl Disk for MemoryDisk {
     ghost counts_now = { counted_now };
 
     ghost only_now = { only_one_now };
+}
+
+#[cfg(test)]
+mod tests {
+    use super::*;
+    use std::test::Fail;
+
+    // Through the bound alone, as callers use a disk.
+    fn write<D: Disk>(disk: &mut D, place: u64, octets: &[u8]) -> Result<(), Failed> {
+        if place > disk.size() {
+            return Err(Failed);
+        }
+        disk.write_at(place, octets)
+    }
+
+    fn cut<D: Disk>(disk: &mut D, size: u64) -> Result<(), Failed> {
+        if size > disk.size() {
+            return Err(Failed);
+        }
+        disk.cut(size)
+    }
+
+    fn first_three<D: Disk>(disk: &mut D) -> Result<[u8; 3], Failed> {
+        let mut octets = [0; 3];
+        if disk.size() < 3 {
+            return Err(Failed);
+        }
+        disk.read_at(0, &mut octets)?;
+        Ok(octets)
+    }
+
+    #[test]
+    fn a_disk_in_memory_keeps_what_is_written_and_cut(rt: HostRuntime) -> Result<(), Fail> {
+        let mut disk = MemoryDisk::new(rt.alloc());
+        assert_eq!(rt; write(&mut disk, 0, b"abcdef"), Ok(()));
+        assert_eq!(rt; cut(&mut disk, 4), Ok(()));
+        assert_eq!(rt; write(&mut disk, 2, b"xyz"), Ok(()));
+        assert_eq!(rt; disk.sync(), Ok(()));
+        assert_eq!(rt; disk.content(), b"abxyz".as_slice());
+        assert_eq!(rt; first_three(&mut disk), Ok(*b"abx"));
+        assert_eq!(rt; disk.log().len(), 4);
+        assert_eq!(rt; disk.faults(), 0);
+        assert!(rt; !disk.memory_refused());
+        Ok(())
+    }
+
+    // What is pending at the stop: two writes, the second past the end, and a cut before them.
+    #[test]
+    fn a_stop_leaves_what_its_pick_says(rt: HostRuntime) -> Result<(), Fail> {
+        let table = [
+            (Pick::Old, b"abcde".as_slice()),
+            (Pick::New, b"xyc12345".as_slice()),
+            (Pick::Torn, b"xZc12ZZZ".as_slice()),
+        ];
+        for (pick, left) in table {
+            let mut disk = MemoryDisk::holding(rt.alloc(), b"abcdef")?;
+            disk.set_stop(Some(Stop { calls: 3, pick }));
+            assert_eq!(rt; cut(&mut disk, 5), Ok(()));
+            assert_eq!(rt; write(&mut disk, 0, b"xy"), Ok(()));
+            assert_eq!(rt; write(&mut disk, 3, b"12345"), Err(Failed));
+            assert!(rt; disk.is_stopped());
+            assert_eq!(rt; first_three(&mut disk), Err(Failed));
+            assert_eq!(rt; disk.sync(), Err(Failed));
+            assert_eq!(rt; disk.faults(), 3);
+            assert_eq!(rt; disk.restart(), Ok(()));
+            assert!(rt; !disk.is_stopped());
+            assert_eq!(rt; disk.content(), left, "{pick:?}");
+            assert_eq!(rt; disk.sync(), Ok(()));
+        }
+        Ok(())
+    }
+
+    #[test]
+    fn calls_fail_as_listed_and_leave_all_as_it_was(rt: HostRuntime) -> Result<(), Fail> {
+        let mut disk = MemoryDisk::holding(rt.alloc(), b"abc")?;
+        disk.set_failing(vec![in rt.alloc(); 1, 3]?);
+        assert_eq!(rt; write(&mut disk, 0, b"x"), Err(Failed));
+        assert_eq!(rt; disk.content(), b"abc".as_slice());
+        assert_eq!(rt; write(&mut disk, 1, b"y"), Ok(()));
+        assert_eq!(rt; disk.sync(), Err(Failed));
+        // The write is still pending, so a stop may take it back.
+        disk.set_stop(Some(Stop {
+            calls: 0,
+            pick: Pick::Old,
+        }));
+        assert!(rt; disk.is_stopped());
+        assert_eq!(rt; disk.restart(), Ok(()));
+        assert_eq!(rt; disk.content(), b"abc".as_slice());
+        Ok(())
+    }
+
+    #[test]
+    fn a_stop_is_cleared(rt: HostRuntime) -> Result<(), Fail> {
+        let mut disk = MemoryDisk::new(rt.alloc());
+        disk.set_stop(Some(Stop {
+            calls: 1,
+            pick: Pick::Torn,
+        }));
+        disk.set_stop(None);
+        assert_eq!(rt; write(&mut disk, 0, b"abc"), Ok(()));
+        assert_eq!(rt; disk.restart(), Ok(()));
+        assert_eq!(rt; disk.content(), b"abc".as_slice());
+        Ok(())
+    }
 }

@@ -1,4 +1,4 @@
-use Rattle.std.proofs.Common.{◌≡◌, ◌⊎◌, inl, inr, ℕ, ◌+◌, ◌≤◌, ◌<◌, min, max, List, length, slice_index, false, arith, ◌∙◌, sym}
+use Rattle.std.proofs.Common.{◌≡◌, ◌⊎◌, inl, inr, ℕ, ◌≤◌, ◌<◌, min, max, List, length, slice_index, false, arith, ◌∙◌, sym}
 use Rattle.disk_model.specs.Images.{Pending, IsImage, IsHeld, with_cut, is_written}
 use Rattle.disk_model.proofs.Patched.{patched, length-patched, patched-inside, patched-outside}
 use Rattle.disk_model.proofs.laws.a_cut_frees_what_lies_past_it.Goals as goal
@@ -29,15 +29,16 @@ module _ (pending : Pending) (size : ℕ) (content image : List ℕ) (held : IsH
 
 pub returns-clause-new : goal.returns-clause-new
 returns-clause-new c pending size content image held is =
-    let same_length = old-length pending size content image held is in
-    (old pending size image,
-     record {
-       no_shorter = omega (arith, same_length);
-       no_longer = omega (arith, same_length, is.no_longer, held.content.no_shorter, held.content.no_longer);
-       kept = λ k below free. old-kept pending size content image held is k below free (inside_or k (min pending.least size) pending.least);
-     },
-     record {
-       no_longer = omega (arith, same_length);
-       kept = λ k below there. sym (old-outside pending size content image held is k (outside_or k pending.least size below));
-     },
-     is.no_shorter)
+    let same_length = old-length pending size content image held is in (
+      old pending size image,
+      record {
+        no_shorter = omega (arith, same_length);
+        no_longer = omega (arith, same_length, is.no_longer, held.content.no_shorter, held.content.no_longer);
+        kept = λ k below free. old-kept pending size content image held is k below free (inside_or k (min pending.least size) pending.least);
+      },
+      record {
+        no_longer = omega (arith, same_length);
+        kept = λ k below there. sym (old-outside pending size content image held is k (outside_or k pending.least size below));
+      },
+      is.no_shorter,
+    )

@@ -1,8 +1,6 @@
-use Rattle.std.proofs.Common.{◌≡◌, ◌⊎◌, inl, inr, ℕ, ◌+◌, ◌≤◌, ◌<◌, min, List, length, take, slice_index, Bool, true, false, ◌||◌, arith, ◌∙◌, sym, refl, nat_lt}
-use Rattle.std.proofs.lemmas.Bool.{cases_lt}
-use Rattle.std.proofs.lemmas.Bool.Decides.{nat_tests}
+use Rattle.std.proofs.Common.{◌≡◌, ◌⊎◌, inl, inr, ℕ, ◌+◌, ◌≤◌, ◌<◌, min, List, length, take, slice_index, false, arith, ◌∙◌, sym}
 use Rattle.std.proofs.lemmas.List.{get_or-take, length-take}
-use Rattle.disk_model.specs.Images.{Pending, IsImage, IsHeld, with_range, is_written, is_inside}
+use Rattle.disk_model.specs.Images.{Pending, IsImage, IsHeld, with_range, is_written}
 use Rattle.disk_model.proofs.Patched.{patched, length-patched, patched-inside, patched-outside, before_or_behind, not_inside}
 use Rattle.disk_model.proofs.laws.a_write_frees_its_range.Goals as goal
 
@@ -22,8 +20,13 @@ module _ (pending : Pending) (place count : ℕ) (content image : List ℕ) (hel
   least_there = omega (arith, length-take pending.greatest image, is.no_shorter, held.content.no_shorter, held.content.no_longer)
 
   old-length : length (old pending place count image) ≡ min pending.greatest (length image)
-  old-length = omega (arith, least_there, held.synced, length-take pending.greatest image,
-      length-patched pending.synced (take pending.greatest image) (min place pending.least) (min (place + count) pending.least) (omega arith) (omega (arith, held.synced)) (omega (arith, least_there)))
+  old-length = omega (
+    arith,
+    least_there,
+    held.synced,
+    length-take pending.greatest image,
+    length-patched pending.synced (take pending.greatest image) (min place pending.least) (min (place + count) pending.least) (omega arith) (omega (arith, held.synced)) (omega (arith, least_there)),
+  )
 
   -- outside of the range the old octets are the image's
   old-outside : (k : ℕ) → k < pending.greatest → (k < place) ⊎ (place + count ≤ k)
@@ -44,15 +47,16 @@ module _ (pending : Pending) (place count : ℕ) (content image : List ℕ) (hel
 
 pub returns-clause-new : goal.returns-clause-new
 returns-clause-new c pending place count content image held is =
-    let same_length = old-length pending place count content image held is in
-    (old pending place count image,
-     record {
-       no_shorter = omega (arith, same_length, held.content.no_shorter, held.content.no_longer, is.no_shorter);
-       no_longer = omega (arith, same_length);
-       kept = λ k below free. old-kept pending place count content image held is k below free (inside_or k place count);
-     },
-     record {
-       no_shorter = omega (arith, same_length);
-       no_longer = omega (arith, same_length, is.no_longer);
-       kept = λ k below outside. sym (old-outside pending place count content image held is k (omega (arith, same_length)) (before_or_behind k place count outside));
-     })
+    let same_length = old-length pending place count content image held is in (
+      old pending place count image,
+      record {
+        no_shorter = omega (arith, same_length, held.content.no_shorter, held.content.no_longer, is.no_shorter);
+        no_longer = omega (arith, same_length);
+        kept = λ k below free. old-kept pending place count content image held is k below free (inside_or k place count);
+      },
+      record {
+        no_shorter = omega (arith, same_length);
+        no_longer = omega (arith, same_length, is.no_longer);
+        kept = λ k below outside. sym (old-outside pending place count content image held is k (omega (arith, same_length)) (before_or_behind k place count outside));
+      },
+    )

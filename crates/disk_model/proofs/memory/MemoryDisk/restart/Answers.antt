@@ -1,7 +1,4 @@
-use Rattle.std.proofs.Common.{◌≡◌, List, take, drop, fold, rules, arith}
-use Rattle.std.proofs.lemmas.Grind.{common_steps}
-use Rattle.disk_model.specs.Memory.{left_of}
-use Rattle.disk_model.specs.declared.memory.Pick.TheVariants.{New}
+use Rattle.std.proofs.Common.{rules}
 use Rattle.disk_model.specs.MemoryLaws.{held_after}
 use Rattle.disk_model.proofs.Replay.{restarted_is_image}
 use Rattle.disk_model.proofs.memory.MemoryDisk.restart.Goals as goal
@@ -13,4 +10,4 @@ pub returns-clause-image : goal.returns-clause-image
 returns-clause-image c =
     rw (← c.self.view_is)
     (restarted_is_image c.in-Some.pick c.self.inside.start.items c.self.inside.log.items c.self.inside.content.items c.self.inside.settled
-        c.replay-2.new.image.items c.clear.new.self.items c.self.invariant (search rules) c.clear.ensures.items)
+    c.replay-2.new.image.items c.clear.new.self.items c.self.invariant (search rules) c.clear.ensures.items)

@@ -9,11 +9,11 @@ pub returns-in-Ok-clause-torn : goal.returns-in-Ok-clause-torn
 returns-in-Ok-clause-torn c =
     let same : c.in-Ok.octets ≡ c.args.octets.now = c.in-Ok.ensures in
     where_failed c.run.result c.run.ensures.failed
-        (λ failed. subst (λ (octets : List ℕ). FailsToWrite c.args.place (length octets) (pending_of c.args.self.now) (pending_of c.run.new.self)) same
-            (failed_write c.args.self.now c.run.new.self c.args.place c.in-Ok.octets c.requires failed))
+    (λ failed. subst (λ (octets : List ℕ). FailsToWrite c.args.place (length octets) (pending_of c.args.self.now) (pending_of c.run.new.self)) same
+    (failed_write c.args.self.now c.run.new.self c.args.place c.in-Ok.octets c.requires failed))
 
 pub returns-in-Ok-clause-time : goal.returns-in-Ok-clause-time
 returns-in-Ok-clause-time c =
     either_way c.run.result c.run.ensures.ok c.run.ensures.failed
-        (good_elapses c.args.self.now c.run.new.self (Write c.args.place c.in-Ok.octets))
-        (failed_elapses c.args.self.now c.run.new.self (Write c.args.place c.in-Ok.octets))
+    (good_elapses c.args.self.now c.run.new.self (Write c.args.place c.in-Ok.octets))
+    (failed_elapses c.args.self.now c.run.new.self (Write c.args.place c.in-Ok.octets))
