@@ -1,0 +1,3 @@
+pub mod Throughout
+pub mod Writes
+pub mod Gates
