@@ -1,3 +1,2 @@
-pub mod Throughout
 pub mod Writes
 pub mod Gates

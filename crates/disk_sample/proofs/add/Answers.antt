@@ -1,5 +1,5 @@
 use Rattle.disk_sample.specs.Gated.{kept_in, IsOldOrNew}
-use Rattle.disk_sample.proofs.Throughout.{weaker, and_then}
+use Rattle.disk_model.specs.Throughout.{weaker, and_then}
 use Rattle.disk_sample.proofs.Writes.{where_good}
 use Rattle.disk_sample.proofs.Gates.{first_holds, second_holds, added}
 use Rattle.disk_sample.proofs.add.Goals as goal

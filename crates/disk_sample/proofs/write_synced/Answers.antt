@@ -1,7 +1,7 @@
 use Rattle.std.proofs.Common.{[], length, option_map}
 use Rattle.disk_model.specs.Images.{with_range}
 use Rattle.disk_model.specs.Moments.{IsImageOf}
-use Rattle.disk_sample.proofs.Throughout.{started, goes_on}
+use Rattle.disk_model.specs.Throughout.{started, goes_on}
 use Rattle.disk_sample.proofs.Writes.{before_write, during_write, during_sync}
 use Rattle.disk_sample.proofs.write_synced.Goals as goal
 

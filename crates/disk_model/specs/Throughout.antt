@@ -1,4 +1,5 @@
--- What holds of each image at every moment of a call, over several calls.
+-- What holds of each image at every moment, over several calls: theorems on HoldsThroughout for callers of a disk, which
+-- stand here since a clause can range over no facts.
 use Rattle.std.proofs.Common.{inl, inr, ⊎_elim, ℕ, List, Option, arith}
 use Rattle.disk_model.specs.Images.{Pending}
 use Rattle.disk_model.specs.Moments.{Elapses, HoldsThroughout, IsImageOf}
