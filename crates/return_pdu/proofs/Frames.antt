@@ -44,4 +44,8 @@ pub length_of_four : length (shortest_length 4) ≡ 1
 unfolding shortest_length
 length_of_four = refl
 
-pub ruleset end_sizes = (null_size, end_size, length_of_four)
+pub end_of_data_size : length (canonical end_of_data) ≡ 6
+unfolding canonical element shortest_length
+end_of_data_size = refl
+
+pub ruleset end_sizes = (null_size, end_size, length_of_four, end_of_data_size)

@@ -164,6 +164,7 @@ pub fn raf_end_of_data(writer: &mut Writer)
     requires { 6 ≤ writer.old.room }
     ensures octets { writer.new.octets ≡ writer.old.octets ++ canonical end_of_data }
     ensures room { writer.new.room + 6 ≡ writer.old.room }
+    ensures six { length (canonical end_of_data) ≡ 6 }
 {
     writer.head(&NOTIFICATION, 4);
     writer.null(&ABSENT);
