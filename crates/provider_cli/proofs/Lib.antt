@@ -1,0 +1,10 @@
+pub mod Digits
+pub mod Parts
+pub mod Behind
+pub mod Pass
+pub mod Turns
+pub mod Floors
+pub mod Messages
+pub mod Steps
+pub mod FirstLines
+pub mod Outcomes

@@ -1,0 +1,43 @@
+-- One step of a START's pass over the archive.
+use Rattle.std.specs.Prelude.{ℕ, ◌+◌, ℤ, pos, negsuc, Bool, ◌&&◌, ◌||◌, ◌==◌, nat_le, min, if◌then◌else◌, Option, Some, None, option_map}
+use Rattle.return_pdu.specs.Items.{Frame, frame_of}
+use Rattle.provider_cli.specs.declared.entry.Entry as script
+use Rattle.provider_cli.specs.declared.entry.Entry.TheVariants as entries
+use Rattle.provider_cli.specs.declared.desk.Picked.{Picked}
+use Rattle.provider_cli.specs.Held.{moment}
+
+-- whether a START from `start` to `stop` asks for frames of this quality at this moment
+abbrev pub wants : ℕ → ℕ → ℕ → ℕ → ℕ → Bool
+wants start stop quality found time =
+    (quality == 2 || found == quality) && nat_le start time && nat_le time stop
+
+-- frames lost since the last one that was handed over, with those before one more
+abbrev pub lost_with : Option ℕ → ℕ → Option ℕ
+lost_with gap lost = option_map (λ earlier. min (earlier + lost) 16777215) gap
+
+-- the continuity that a gap tells: -1 before the first frame
+abbrev pub told : Option ℕ → ℤ
+told None = negsuc 0
+told (Some lost) = pos lost
+
+-- the gap behind an entry that isn't handed over itself
+abbrev pub gap_behind : Option ℕ → script.Entry → Option ℕ
+gap_behind gap (entries.Frame ert quality antenna lost octets) = lost_with gap lost
+gap_behind gap (entries.Seal at) = gap
+
+-- the frame that is handed over of an entry, if it is wanted
+abbrev pub picked_of : ℕ → ℕ → ℕ → Option ℕ → script.Entry → Option Frame
+picked_of start stop quality gap (entries.Frame ert found antenna lost octets) =
+    if wants start stop quality found (moment ert)
+    then Some (frame_of ert antenna (told (lost_with gap lost)) found octets)
+    else None
+picked_of start stop quality gap (entries.Seal at) = None
+
+-- the gap behind an entry: none is lost since one that is handed over
+abbrev pub gap_after : Option Frame → Option ℕ → script.Entry → Option ℕ
+gap_after None gap entry = gap_behind gap entry
+gap_after (Some frame) gap entry = Some 0
+
+-- what a picked frame says
+abbrev pub frame_in : Picked → Frame
+frame_in picked = frame_of picked.ert picked.antenna.now picked.continuity picked.quality picked.octets.now

@@ -1,0 +1,9 @@
+pub mod Words
+pub mod Grammar
+pub mod Held
+pub mod Floor
+pub mod Output
+pub mod Desk
+pub mod Transcript
+pub mod Command
+pub mod Script

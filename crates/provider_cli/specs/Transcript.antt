@@ -1,0 +1,105 @@
+-- What a drill writes: the transcript of its script. The lines' forms are this product's own.
+use Rattle.std.specs.Prelude.{ℕ, ◌+◌, Bool, nat_lt, if◌then◌else◌, Option, Some, None, List, [], ◌∷◌, ◌++◌, map, length, codes, slice_get, false}
+use Rattle.std.specs.List.{list_all}
+use Rattle.std.specs.Option.{option_map_or, is_some}
+use Rattle.std.specs.Int.{w32, to_be_bytes}
+use Rattle.std.specs.Fmt.{decimal}
+use Rattle.hex.specs.Hex.{encode_lower}
+use Rattle.cds_time.specs.declared.moment.Cds.{Cds}
+use Rattle.ber_core.specs.Tree.{Tree}
+use Rattle.ber_core.specs.Spelling.{canonical}
+use Rattle.return_pdu.specs.Items.{frame_of, absent, transfer_buffer}
+use Rattle.return_pdu.specs.Items as pdu
+use Rattle.archive_terms.specs.Archive.{may_follow, is_closed}
+use Rattle.archive_terms.specs.Selection.{Selection, by_quality, picked}
+use Rattle.archive_terms.specs.Delivery.{Item, archived, backlog, end_of_data, offline_buffers}
+use Rattle.archive_terms.specs.Continuity.{continuity, last_frame, with_frame_before}
+use Rattle.provider_cli.specs.declared.entry.Entry.{Entry}
+use Rattle.provider_cli.specs.declared.entry.Entry.TheVariants.{Frame}
+use Rattle.provider_cli.specs.declared.grammar.ScriptLine.{ScriptLine}
+use Rattle.provider_cli.specs.declared.grammar.ScriptLine.TheVariants.{Offer, Desk}
+use Rattle.provider_cli.specs.Held.{moment, entry_of, archive_of}
+use Rattle.provider_cli.specs.Grammar.{line_of}
+
+-- a PDU as a transport message (CCSDS 913.1-B): kind 1, three octets 0, the length, the PDU
+abbrev pub message_head : ℕ → List ℕ
+message_head length = 1 ∷ 0 ∷ 0 ∷ 0 ∷ to_be_bytes w32 length
+
+abbrev pub message : List ℕ → List ℕ
+message pdu = message_head (length pdu) ++ pdu
+
+-- connection 0 was handed a message, in lower-case hexadecimal digits
+abbrev pub sent_line : List ℕ → List ℕ
+sent_line octets = codes "sent 0 " ++ encode_lower octets ++ 10 ∷ []
+
+-- a transfer buffer of these items, handed over
+abbrev pub sent_buffer : List Tree → List ℕ
+sent_buffer items = sent_line (message (canonical (transfer_buffer items)))
+
+-- a frame with its fields as it was received, and its continuity
+abbrev pub frame_tree : List Entry → Option ℕ → ℕ → Option Entry → Tree
+frame_tree entries before place (Some (Frame ert quality antenna lost octets)) =
+    pdu.frame (frame_of ert antenna (continuity (archive_of entries) before place) quality octets)
+frame_tree entries before place _ = absent
+
+-- an item of a buffer, with the place of the last frame before it; an offline delivery has frames and the end of data
+abbrev pub item_tree : List Entry → Option ℕ × Item → Tree
+item_tree entries (before, archived place _) = frame_tree entries before place (slice_get entries place)
+item_tree entries (before, end_of_data) = pdu.end_of_data
+item_tree entries (before, backlog) = absent
+
+-- buffers handed over one after another, behind a frame that was handed over last
+abbrev pub sent_buffers : List Entry → Option ℕ → List (List Item) → List ℕ
+sent_buffers entries before [] = []
+sent_buffers entries before (buffer ∷ buffers) =
+    sent_buffer (map (item_tree entries) (with_frame_before before buffer))
+    ++ sent_buffers entries (last_frame before buffer) buffers
+
+-- what a START of the desk asks for
+abbrev pub selection : Cds → Cds → ℕ → Selection
+selection start stop quality =
+    record { filter = by_quality quality; start = Some (moment start); stop = Some (moment stop); first = 0; notices = false }
+
+-- what a START of the desk hands over: buffers of two items, over a link that takes everything
+abbrev pub start_buffers : List Entry → Cds → Cds → ℕ → List ℕ
+start_buffers entries start stop quality =
+    sent_buffers entries None
+    (offline_buffers 2
+    (picked (archive_of entries) (selection start stop quality))
+    (is_closed (archive_of entries) (moment stop)))
+
+-- a START of the desk whose stop time lies before its start time is refused
+abbrev pub start_text : List Entry → Cds → Cds → ℕ → List ℕ
+start_text entries start stop quality =
+    if nat_lt (moment stop) (moment start) then codes "refused 3" ++ 10 ∷ [] else start_buffers entries start stop quality
+
+-- what is written for a line, with the archived entries before it
+abbrev pub line_text : List Entry → ScriptLine → List ℕ
+line_text entries (Offer entry) =
+    if may_follow (archive_of entries) (entry_of entry) then [] else codes "backward" ++ 10 ∷ []
+line_text entries (Desk start stop quality) = start_text entries start stop quality
+
+-- the archived entries after a line; one that goes backward isn't archived
+abbrev pub after_line : List Entry → ScriptLine → List Entry
+after_line entries (Offer entry) =
+    if may_follow (archive_of entries) (entry_of entry) then entries ++ entry ∷ [] else entries
+after_line entries (Desk start stop quality) = entries
+
+-- the number of the first line that is none
+abbrev pub bad_line : ℕ → List ℕ
+bad_line number = codes "bad line " ++ decimal number ++ 10 ∷ []
+
+-- what is written for lines from a number on, up to the first that is none
+abbrev pub transcript_from : ℕ → List Entry → List (List ℕ) → List ℕ
+transcript_from number entries [] = []
+transcript_from number entries (line ∷ lines) =
+    option_map_or (λ says. line_text entries says ++ transcript_from (number + 1) (after_line entries says) lines)
+    (line_of line) (bad_line number)
+
+-- the transcript of a script's lines
+abbrev pub transcript : List (List ℕ) → List ℕ
+transcript lines = transcript_from 1 [] lines
+
+-- whether each line is one
+abbrev pub is_script : List (List ℕ) → Bool
+is_script lines = list_all (λ line. is_some (line_of line)) lines

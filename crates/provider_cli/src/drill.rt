@@ -1,0 +1,157 @@
+// `drill`: runs a script, and writes what a user would be handed.
+ghost use Rattle.std.specs.Prelude.{◌≡◌, ◌<◌, ◌≤◌, ◌⊎◌, IsTrue, IsFalse, IsErrOf, IfOk, OnOk, IfSome, length};
+ghost use Rattle.octet_core.specs.Fault.{Rose};
+ghost use Rattle.provider_cli.specs.Grammar.{lines_of};
+ghost use Rattle.provider_cli.specs.Output.{Wrote};
+ghost use Rattle.provider_cli.specs.Script.{IsValidLine, Drilled};
+ghost use Rattle.provider_cli.specs.Transcript.{line_text, after_line, bad_line, transcript, is_script};
+
+use crate::archive::{Archive, OfferFault};
+use crate::desk::answer_start;
+use crate::entry::moment;
+use crate::grammar::{LineFault, ScriptLine, parse_line};
+use crate::lines::split_line;
+use crate::status::Status;
+use crate::transcript::{Stop, put_line};
+use octet_core::{Sink, Source};
+use std::alloc::{AllocError, Global};
+
+/// The most octets that a script may have.
+pub const SCRIPT_OCTETS: usize = 16_777_216;
+
+/// Runs the script on the input, and writes its transcript and the last line of its status.
+pub fn drill<I: Source, O: Sink>(alloc: Global, input: &mut I, output: &mut O) -> Status
+    ensures { Drilled (I.left input.old) (I.faults input.old) (I.faults input.new)
+        (O.written output.old) (O.written output.new) (O.faults output.old) (O.faults output.new) result }
+{
+    match read_script(alloc, input) {
+        Ok(script) => match run_script(alloc, script.as_slice(), output) {
+            Ok(status) => status,
+            Err(Stop::WriteFault) => Status::WriteFault,
+            Err(Stop::Memory) => Status::Memory,
+        },
+        // Where the line of one of these can't be written, its status stands all the same.
+        Err(ScriptFault::ReadFault) => {
+            let _ = put_line(b"read fault\n", output);
+            Status::ReadFault
+        }
+        Err(ScriptFault::TooLong) => {
+            let _ = put_line(b"input too long\n", output);
+            Status::InputTooLong
+        }
+        Err(ScriptFault::Memory) => Status::Memory,
+    }
+}
+
+/// Why a script can't be run.
+#[derive(Clone, Copy, Debug, PartialEq, Eq)]
+pub enum ScriptFault {
+    /// The input failed.
+    ReadFault,
+    /// The input holds more octets than a script may have.
+    TooLong,
+    /// Memory was refused.
+    Memory,
+}
+
+impl From<AllocError> for ScriptFault {
+    ghost use Rattle.std.specs.Prelude.{◌≡◌};
+    ghost use Rattle.provider_cli.specs.declared.drill.ScriptFault.TheVariants.{Memory};
+
+    ghost from_gives = { λ _ fault. fault ≡ Memory };
+
+    fn from(_: AllocError) -> ScriptFault {
+        ScriptFault::Memory
+    }
+}
+
+// Reads the input to its end, in pieces.
+fn read_script<I: Source>(alloc: Global, input: &mut I) -> Result<Vec<u8>, ScriptFault>
+    ensures ok { IfOk result (λ script. length script.items ≤ SCRIPT_OCTETS) }
+    ensures octets { IfOk result (λ script. IfSome (I.left input.old) (λ octets. script.items ≡ octets)) }
+    ensures too_long { IsErrOf result ScriptFault.TooLong → IfSome (I.left input.old) (λ octets. SCRIPT_OCTETS < length octets) }
+    ensures never_falls { I.faults input.old ≤ I.faults input.new }
+    ensures rose { IsErrOf result ScriptFault.ReadFault → Rose (I.faults input.old) (I.faults input.new) }
+{
+    let mut script = Vec::with_capacity(alloc, SCRIPT_OCTETS)?;
+    let mut piece = [0u8; 16_384];
+    while script.len() <= SCRIPT_OCTETS {
+        let Ok(count) = input.take(&mut piece) else {
+            return Err(ScriptFault::ReadFault);
+        };
+        if count == 0 {
+            return Ok(script);
+        }
+        script.extend_from_slice(&piece[..count])?;
+    }
+    Err(ScriptFault::TooLong)
+}
+
+// Runs a script line by line, up to the first line outside the grammar.
+fn run_script<O: Sink>(alloc: Global, script: &[u8], output: &mut O) -> Result<Status, Stop>
+    requires { length script.now ≤ SCRIPT_OCTETS }
+    ensures written { Wrote (O.written output.old) (O.written output.new) (O.faults output.old) (O.faults output.new)
+        (transcript (lines_of script.now)) result }
+    ensures done { IfOk result (λ status. (status ≡ Status.Done) ⊎ (status ≡ Status.BadLine)) }
+    ensures all { IfOk result (λ status. status ≡ Status.Done → IsTrue (is_script (lines_of script.now))) }
+    ensures bad { IfOk result (λ status. status ≡ Status.BadLine → IsFalse (is_script (lines_of script.now))) }
+{
+    let mut archive = Archive::new(alloc);
+    let mut rest = script;
+    let mut number = 1u32;
+    while !rest.is_empty() {
+        let (line, after) = split_line(rest);
+        match parse_line(alloc, line) {
+            Ok(says) => run_line(alloc, &mut archive, says, output)?,
+            Err(LineFault::Bad) => {
+                put_bad_line(alloc, number, output)?;
+                return Ok(Status::BadLine);
+            }
+            Err(LineFault::Memory) => return Err(Stop::Memory),
+        }
+        rest = after;
+        number += 1;
+    }
+    Ok(Status::Done)
+}
+
+// Does what a line says.
+fn run_line<O: Sink>(
+    alloc: Global,
+    archive: &mut Archive,
+    says: ScriptLine,
+    output: &mut O,
+) -> Result<(), Stop>
+    requires { IsValidLine says }
+    ensures written { Wrote (O.written output.old) (O.written output.new) (O.faults output.old) (O.faults output.new)
+        (line_text archive.old says) result }
+    ensures archive { OnOk result (archive.new ≡ after_line archive.old says) }
+{
+    match says {
+        ScriptLine::Offer(entry) => match archive.offer(entry) {
+            Ok(()) => Ok(()),
+            Err(OfferFault::Backward) => put_line(b"backward\n", output),
+            Err(OfferFault::Memory) => Err(Stop::Memory),
+        },
+        ScriptLine::Desk {
+            start,
+            stop,
+            quality,
+        } => {
+            if moment(&stop) < moment(&start) {
+                put_line(b"refused 3\n", output)
+            } else {
+                answer_start(alloc, archive, &start, &stop, quality, output)
+            }
+        }
+    }
+}
+
+// Says which line is outside the grammar.
+fn put_bad_line<O: Sink>(alloc: Global, number: u32, output: &mut O) -> Result<(), Stop>
+    ensures { Wrote (O.written output.old) (O.written output.new) (O.faults output.old) (O.faults output.new)
+        (bad_line number) result }
+{
+    let line = format!(in alloc; "bad line {number}\n")?;
+    put_line(line.as_bytes(), output)
+}

@@ -1,0 +1,39 @@
+// How a command ends.
+ghost use Rattle.std.specs.Prelude.{◌≡◌};
+ghost use Rattle.provider_cli.specs.Command.{code};
+
+/// How a command ended.
+#[derive(Clone, Copy, Debug, PartialEq, Eq)]
+pub enum Status {
+    /// All was done.
+    Done,
+    /// The words are no command.
+    Usage,
+    /// A line of the script is outside the grammar.
+    BadLine,
+    /// The input failed.
+    ReadFault,
+    /// The output failed.
+    WriteFault,
+    /// The input holds more octets than a script may have.
+    InputTooLong,
+    /// Memory was refused.
+    Memory,
+}
+
+impl Status {
+    /// The program's exit code.
+    pub fn code(self) -> u8
+        ensures { result ≡ code self }
+    {
+        match self {
+            Status::Done => 0,
+            Status::Usage => 2,
+            Status::BadLine => 3,
+            Status::ReadFault => 6,
+            Status::WriteFault => 7,
+            Status::InputTooLong => 11,
+            Status::Memory => 70,
+        }
+    }
+}
