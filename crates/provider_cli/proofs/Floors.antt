@@ -61,7 +61,7 @@ pub record Follows (entries : List script.Entry) (entry : script.Entry) (floors 
   pub follows : IsTrue (may_follow (archive_of entries) (entry_of entry))
   pub held : IsHeld (archive_of (entries ++ entry ∷ [])) floors
 
-archive-push : (entries : List script.Entry) (entry : script.Entry) → archive_of (entries ++ entry ∷ []) ≡ archive_of entries ++ entry_of entry ∷ []
+pub archive-push : (entries : List script.Entry) (entry : script.Entry) → archive_of (entries ++ entry ∷ []) ≡ archive_of entries ++ entry_of entry ∷ []
 archive-push [] entry = refl
 archive-push (e ∷ es) entry = ap (λ others. entry_of e ∷ others) (archive-push es entry)
 

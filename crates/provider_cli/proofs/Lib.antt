@@ -8,3 +8,4 @@ pub mod Messages
 pub mod Steps
 pub mod FirstLines
 pub mod Outcomes
+pub mod Promises

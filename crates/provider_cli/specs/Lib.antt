@@ -7,3 +7,4 @@ pub mod Desk
 pub mod Transcript
 pub mod Command
 pub mod Script
+pub mod Headline

@@ -10,7 +10,6 @@ use Rattle.provider_cli.specs.declared.grammar.ScriptLine.TheVariants.{Offer, De
 use Rattle.provider_cli.specs.Grammar.{lines_of}
 use Rattle.provider_cli.specs.Held.{entry_of}
 use Rattle.provider_cli.specs.Transcript.{transcript, is_script}
-use Rattle.provider_cli.specs.Command.{code}
 
 -- an entry of a line may be archived as far as its fields go
 abbrev pub IsValidLine : ScriptLine → Type 0
@@ -46,9 +45,3 @@ pub record Drilled (input : Option (List ℕ)) (read_before read_after : ℕ) (b
   pub no_usage : status ≡ Usage → ⊥
   pub read_never_falls : read_before ≤ read_after
   pub never_falls : faults_before ≤ faults_after
-
--- the same, with the program's exit code
-pub record DrilledWith (input : Option (List ℕ)) (read_before read_after : ℕ) (before after : Option (List ℕ)) (faults_before faults_after : ℕ) (exit : ℕ) : Type 0 where
-  pub status : Status
-  pub exit_is : exit ≡ code status
-  pub drilled : Drilled input read_before read_after before after faults_before faults_after status

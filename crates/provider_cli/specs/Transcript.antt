@@ -60,13 +60,15 @@ abbrev pub selection : Cds → Cds → ℕ → Selection
 selection start stop quality =
     record { filter = by_quality quality; start = Some (moment start); stop = Some (moment stop); first = 0; notices = false }
 
--- what a START of the desk hands over: buffers of two items, over a link that takes everything
-abbrev pub start_buffers : List Entry → Cds → Cds → ℕ → List ℕ
-start_buffers entries start stop quality =
-    sent_buffers entries None
-    (offline_buffers 2
+-- the buffers that a START of the desk hands over: they have two items, and its link takes everything
+abbrev pub desk_buffers : List Entry → Cds → Cds → ℕ → List (List Item)
+desk_buffers entries start stop quality =
+    offline_buffers 2
     (picked (archive_of entries) (selection start stop quality))
-    (is_closed (archive_of entries) (moment stop)))
+    (is_closed (archive_of entries) (moment stop))
+
+abbrev pub start_buffers : List Entry → Cds → Cds → ℕ → List ℕ
+start_buffers entries start stop quality = sent_buffers entries None (desk_buffers entries start stop quality)
 
 -- a START of the desk whose stop time lies before its start time is refused
 abbrev pub start_text : List Entry → Cds → Cds → ℕ → List ℕ

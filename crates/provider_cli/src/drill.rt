@@ -4,6 +4,7 @@ ghost use Rattle.octet_core.specs.Fault.{Rose};
 ghost use Rattle.provider_cli.specs.Grammar.{lines_of};
 ghost use Rattle.provider_cli.specs.Output.{Wrote};
 ghost use Rattle.provider_cli.specs.Script.{IsValidLine, Drilled};
+ghost use Rattle.provider_cli.specs.Headline.{Promised};
 ghost use Rattle.provider_cli.specs.Transcript.{line_text, after_line, bad_line, transcript, is_script};
 
 use crate::archive::{Archive, OfferFault};
@@ -13,14 +14,32 @@ use crate::grammar::{LineFault, ScriptLine, parse_line};
 use crate::lines::split_line;
 use crate::status::Status;
 use crate::transcript::{Stop, put_line};
+use archive_terms::laws::{
+    archive_grows, handed_over_stays_a_prefix, offline_buffers_hold_a_prefix, prefix_of_all_items,
+};
 use octet_core::{Sink, Source};
 use std::alloc::{AllocError, Global};
 
 /// The most octets that a script may have.
 pub const SCRIPT_OCTETS: usize = 16_777_216;
 
+// How many octets of the input are asked for at once.
+const PIECE_OCTETS: usize = 65_536;
+
 /// Runs the script on the input, and writes its transcript and the last line of its status.
 pub fn drill<I: Source, O: Sink>(alloc: Global, input: &mut I, output: &mut O) -> Status
+    ensures { Promised (I.left input.old) (I.faults input.old) (I.faults input.new)
+        (O.written output.old) (O.written output.new) (O.faults output.old) (O.faults output.new) result }
+{
+    archive_grows();
+    offline_buffers_hold_a_prefix();
+    prefix_of_all_items();
+    handed_over_stays_a_prefix();
+    read_and_run(alloc, input, output)
+}
+
+// Reads the script, and runs it.
+fn read_and_run<I: Source, O: Sink>(alloc: Global, input: &mut I, output: &mut O) -> Status
     ensures { Drilled (I.left input.old) (I.faults input.old) (I.faults input.new)
         (O.written output.old) (O.written output.new) (O.faults output.old) (O.faults output.new) result }
 {
@@ -73,8 +92,8 @@ fn read_script<I: Source>(alloc: Global, input: &mut I) -> Result<Vec<u8>, Scrip
     ensures never_falls { I.faults input.old ≤ I.faults input.new }
     ensures rose { IsErrOf result ScriptFault.ReadFault → Rose (I.faults input.old) (I.faults input.new) }
 {
-    let mut script = Vec::with_capacity(alloc, SCRIPT_OCTETS)?;
-    let mut piece = [0u8; 16_384];
+    let mut script = Vec::with_capacity(alloc, SCRIPT_OCTETS + PIECE_OCTETS)?;
+    let mut piece = [0u8; PIECE_OCTETS];
     while script.len() <= SCRIPT_OCTETS {
         let Ok(count) = input.take(&mut piece) else {
             return Err(ScriptFault::ReadFault);

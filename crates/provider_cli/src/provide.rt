@@ -2,7 +2,7 @@
 ghost use Rattle.std.specs.Prelude.{◌≡◌, None, Some, map};
 ghost use Rattle.provider_cli.specs.declared.words.Plan.TheVariants.{Drill};
 ghost use Rattle.provider_cli.specs.Command.{plan_of, code, Misused};
-ghost use Rattle.provider_cli.specs.Script.{DrilledWith};
+ghost use Rattle.provider_cli.specs.Headline.{PromisedWith};
 
 use crate::command::plan;
 use crate::drill::drill;
@@ -24,7 +24,7 @@ pub struct Equipment<I, O> {
 /// Runs the command that the words are, and answers its exit code.
 pub fn provide<I: Source, O: Sink>(alloc: Global, words: &[&str], kit: &mut Equipment<I, O>) -> u8
     ensures drilled { plan_of (map (λ word. word.now) words.now) ≡ Some Drill →
-        DrilledWith (I.left kit.old.input) (I.faults kit.old.input) (I.faults kit.new.input)
+        PromisedWith (I.left kit.old.input) (I.faults kit.old.input) (I.faults kit.new.input)
         (O.written kit.old.output) (O.written kit.new.output) (O.faults kit.old.output) (O.faults kit.new.output) result }
     ensures misused { plan_of (map (λ word. word.now) words.now) ≡ None →
         Misused (O.written kit.old.output) (O.written kit.new.output) (O.faults kit.old.output) (O.faults kit.new.output) result }

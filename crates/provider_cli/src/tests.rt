@@ -1,5 +1,5 @@
-// The program over inputs and outputs in memory. The expected octets were worked out by hand from the
-// standards' forms, as `examples/first-pass.script` shows for the first row.
+// The program over inputs and outputs in memory. The expected messages were spelled by hand (X.690, and
+// CCSDS 911.1-B for the fields of a transfer buffer).
 use crate::provide::{Equipment, provide};
 use octet_core::{MemorySink, MemorySource, Octets};
 use std::test::Fail;

@@ -1,0 +1,106 @@
+-- From the exact transcript to the headline and to completeness.
+use Rattle.std.proofs.Common.{◌≡◌, ℕ, Bool, true, false, ◌&&◌, IsTrue, IsFalse, if◌then◌else◌, List, [], ◌∷◌, ◌++◌, length, take, Option, Some, None, refl, sym, ap, ◌∙◌, append_assoc, arith, inl, inr}
+use Rattle.std.proofs.lemmas.List.{append-nil}
+use Rattle.std.specs.List.{list_any, flat_map}
+use Rattle.std.specs.Option.{option_map_or, IfSome}
+use Rattle.archive_terms.specs.Archive as terms
+use Rattle.archive_terms.specs.Archive.{is_archive, IsArchive, may_follow, is_closed}
+use Rattle.archive_terms.specs.Selection.{picked}
+use Rattle.archive_terms.specs.Delivery.{Item, offline, Terms, entries_of, archived_items, all_items, end_of_data, is_end_of_data, offline_buffers}
+use Rattle.archive_terms.specs.Rounds.{to_hand_over}
+use Rattle.cds_time.specs.declared.moment.Cds.{Cds}
+use Rattle.provider_cli.specs.declared.entry.Entry.{Entry}
+use Rattle.provider_cli.specs.declared.grammar.ScriptLine.{ScriptLine}
+use Rattle.provider_cli.specs.declared.grammar.ScriptLine.TheVariants.{Offer, Desk}
+use Rattle.provider_cli.specs.declared.status.Status.{Status}
+use Rattle.provider_cli.specs.declared.status.Status.TheVariants.{Done, Usage, BadLine, ReadFault, WriteFault, InputTooLong, Memory}
+use Rattle.provider_cli.specs.Grammar.{line_of, lines_of}
+use Rattle.provider_cli.specs.Held.{moment, entry_of, archive_of}
+use Rattle.provider_cli.specs.Transcript.{selection, after_line, is_script}
+use Rattle.provider_cli.specs.Script.{Drilled}
+use Rattle.provider_cli.specs.Headline.{archive_after, IsRightFor, Headline, Completes}
+use Rattle.provider_cli.proofs.Floors.{archive-push}
+
+-- the laws of archives and deliveries that the headline rests on
+pub record Laws : Type 0 where
+  pub grows : (a : List terms.Entry) (e : terms.Entry) → is_archive (a ++ e ∷ []) ≡ (is_archive a && may_follow a e)
+  pub holds : (size : ℕ) (entries : List (ℕ × terms.Entry)) (closed : Bool) → let items = flat_map (λ b. b) (offline_buffers size entries closed) in take (length items) (all_items entries closed) ≡ items
+  pub begins : (entries : List (ℕ × terms.Entry)) (closed : Bool) (items : List Item) → take (length items) (all_items entries closed) ≡ items → take (length (entries_of items)) entries ≡ entries_of items
+  pub ends : (entries : List (ℕ × terms.Entry)) (closed : Bool) (items : List Item) → take (length items) (all_items entries closed) ≡ items → IsTrue (list_any is_end_of_data items) → IsTrue closed × (items ≡ archived_items entries ++ end_of_data ∷ [])
+  pub stays : (t : Terms) (a b : List terms.Entry) (items : List Item) → IsArchive (a ++ b) → take (length items) (to_hand_over t a) ≡ items → take (length items) (to_hand_over t (a ++ b)) ≡ items
+
+-- the entries stay an archive, with more entries behind them
+pub record Extends (old new : List Entry) : Type 0 where
+  pub more : List terms.Entry
+  pub appended : archive_of new ≡ archive_of old ++ more
+  pub archive : IsArchive (archive_of new)
+
+same : (entries : List Entry) → IsArchive (archive_of entries) → Extends entries entries
+same entries archive = record { more = []; appended = sym (append-nil (archive_of entries)); archive = archive }
+
+extends_by : Laws → (entries : List Entry) (entry : Entry) (follows : Bool) → follows ≡ may_follow (archive_of entries) (entry_of entry) → IsArchive (archive_of entries) → Extends entries (if follows then entries ++ entry ∷ [] else entries)
+extends_by laws entries entry true is archive = record {
+  more = entry_of entry ∷ [];
+  appended = archive-push entries entry;
+  archive = rw (archive-push entries entry, laws.grows, ← is) (grind (arith, archive));
+}
+extends_by laws entries entry false is archive = same entries archive
+
+extends_line : Laws → (entries : List Entry) (says : ScriptLine) → IsArchive (archive_of entries) → Extends entries (after_line entries says)
+extends_line laws entries (Offer entry) archive = extends_by laws entries entry (may_follow (archive_of entries) (entry_of entry)) refl archive
+extends_line laws entries (Desk start stop quality) archive = same entries archive
+
+extends_option : Laws → (entries : List Entry) (says : Option ScriptLine) → IsArchive (archive_of entries) → Extends entries (option_map_or (after_line entries) says entries)
+extends_option laws entries None archive = same entries archive
+extends_option laws entries (Some says) archive = extends_line laws entries says archive
+
+joined : (a b c : List Entry) → Extends a b → Extends b c → Extends a c
+joined a b c first second = record {
+  more = first.more ++ second.more;
+  appended = second.appended ∙ ap (λ xs. xs ++ second.more) first.appended ∙ append_assoc (archive_of a) first.more second.more;
+  archive = second.archive;
+}
+
+pub extends_lines : Laws → (entries : List Entry) (lines : List (List ℕ)) → IsArchive (archive_of entries) → Extends entries (archive_after entries lines)
+extends_lines laws entries [] archive = same entries archive
+extends_lines laws entries (line ∷ lines) archive =
+    let first = extends_option laws entries (line_of line) archive in
+    joined entries (option_map_or (after_line entries) (line_of line) entries) (archive_after entries (line ∷ lines)) first (extends_lines laws (option_map_or (after_line entries) (line_of line) entries) lines first.archive)
+
+-- what a START handed over stays right
+right_for : Laws → (archive more : List terms.Entry) (start stop : Cds) (quality : ℕ) → IsArchive (archive ++ more) →
+    IsRightFor (flat_map (λ buffer. buffer) (offline_buffers 2 (picked archive (selection start stop quality)) (is_closed archive (moment stop)))) (archive ++ more) start stop quality
+right_for laws archive more start stop quality longer =
+    let items : List Item = flat_map (λ buffer. buffer) (offline_buffers 2 (picked archive (selection start stop quality)) (is_closed archive (moment stop))) in
+    let now : take (length items) (all_items (picked (archive ++ more) (selection start stop quality)) (is_closed (archive ++ more) (moment stop))) ≡ items =
+    laws.stays (record { mode = offline; size = 2; latency = 0; selection = selection start stop quality }) archive more items longer
+    (laws.holds 2 (picked archive (selection start stop quality)) (is_closed archive (moment stop))) in
+    record {
+      frames = laws.begins _ _ items now;
+      end_of_data = laws.ends _ _ items now;
+    }
+
+pub headline_of : Laws → (lines : List (List ℕ)) → Headline lines
+headline_of laws lines before later line start stop quality _ _ =
+    let archived : List Entry = archive_after [] before in
+    let first = extends_lines laws [] before refl in
+    let second = extends_lines laws archived later first.archive in
+    rw second.appended (right_for laws (archive_of archived) second.more start stop quality (rw (← second.appended) second.archive))
+
+-- a good script is done, or memory is wanted
+contradicts : (script : List ℕ) → IsTrue (is_script (lines_of script)) → IsFalse (is_script (lines_of script)) → ⊥
+contradicts script good bad = grind (arith, good, bad)
+
+pub complete_of : (input : Option (List ℕ)) (r s : ℕ) (before after : Option (List ℕ)) (f g : ℕ) (status : Status) → Drilled input r s before after f g status → Completes input r s f g status
+complete_of None r s before after f g status drilled = tt
+complete_of (Some script) r s before after f g Done drilled = λ _ _ _ _. inl refl
+complete_of (Some script) r s before after f g Usage drilled = λ _ _ _ _. absurd (drilled.no_usage refl)
+complete_of (Some script) r s before after f g BadLine drilled = λ _ good _ _. absurd (contradicts script good ((drilled.bad_line refl).1))
+complete_of (Some script) r s before after f g ReadFault drilled = λ _ _ calm _. absurd (calm ((drilled.read_fault refl).0))
+complete_of (Some script) r s before after f g WriteFault drilled = λ _ _ _ calm. absurd (calm ((drilled.write_fault refl).0))
+complete_of (Some script) r s before after f g InputTooLong drilled = λ short _ _ _. let long = (drilled.too_long refl).0 in absurd (omega (arith, short, long))
+complete_of (Some script) r s before after f g Memory drilled = λ _ _ _ _. inr refl
+
+pub headline_if : Laws → (input : Option (List ℕ)) → IfSome input (λ script. Headline (lines_of script))
+headline_if laws None = tt
+headline_if laws (Some script) = headline_of laws (lines_of script)
