@@ -49,14 +49,11 @@ Completes input read_before read_after faults_before faults_after status =
     IfSome input (λ script. length script ≤ most_octets → IsTrue (is_script (lines_of script))
     → ¬ Rose read_before read_after → ¬ Rose faults_before faults_after → (status ≡ Done) ⊎ (status ≡ Memory))
 
--- all that a drill promises
-pub record Promised (input : Option (List ℕ)) (read_before read_after : ℕ) (before after : Option (List ℕ)) (faults_before faults_after : ℕ) (status : Status) : Type 0 where
+-- All that a drill promises: it ended with the status of this exit code, with what it has written then, with a good
+-- script done, and with each START right.
+pub record Promised (input : Option (List ℕ)) (read_before read_after : ℕ) (before after : Option (List ℕ)) (faults_before faults_after : ℕ) (exit : ℕ) : Type 0 where
+  pub status : Status
+  pub exit_is : exit ≡ code status
   pub drilled : Drilled input read_before read_after before after faults_before faults_after status
   pub complete : Completes input read_before read_after faults_before faults_after status
   pub headline : IfSome input (λ script. Headline (lines_of script))
-
--- the same, with the program's exit code
-pub record PromisedWith (input : Option (List ℕ)) (read_before read_after : ℕ) (before after : Option (List ℕ)) (faults_before faults_after : ℕ) (exit : ℕ) : Type 0 where
-  pub status : Status
-  pub exit_is : exit ≡ code status
-  pub promised : Promised input read_before read_after before after faults_before faults_after status

@@ -26,8 +26,9 @@ pub const SCRIPT_OCTETS: usize = 16_777_216;
 // How many octets of the input are asked for at once.
 const PIECE_OCTETS: usize = 65_536;
 
-/// Runs the script on the input, and writes its transcript and the last line of its status.
-pub fn drill<I: Source, O: Sink>(alloc: Global, input: &mut I, output: &mut O) -> Status
+/// Runs the script on the input, writes its transcript and the last line of its status, and answers
+/// the status's exit code.
+pub fn drill<I: Source, O: Sink>(alloc: Global, input: &mut I, output: &mut O) -> u8
     ensures { Promised (I.left input.old) (I.faults input.old) (I.faults input.new)
         (O.written output.old) (O.written output.new) (O.faults output.old) (O.faults output.new) result }
 {
@@ -35,7 +36,7 @@ pub fn drill<I: Source, O: Sink>(alloc: Global, input: &mut I, output: &mut O) -
     offline_buffers_hold_a_prefix();
     prefix_of_all_items();
     handed_over_stays_a_prefix();
-    read_and_run(alloc, input, output)
+    read_and_run(alloc, input, output).code()
 }
 
 // Reads the script, and runs it.

@@ -21,8 +21,11 @@ mod transcript;
 mod words;
 
 use crate::provide::{Equipment, provide};
-use octet_core::{ReaderSource, WriterSink};
+use crate::status::Status;
+use octet_core::{ReaderSource, Sink, Source, WriterSink};
+use std::alloc::AllocError;
 use std::process::ExitCode;
+use std::rt::Env;
 use std::{env, io};
 
 fn main(rt: HostRuntime) -> ExitCode {
@@ -30,24 +33,29 @@ fn main(rt: HostRuntime) -> ExitCode {
         input: ReaderSource::new(rt.reader()),
         output: WriterSink::new(io::writer(&rt)),
     };
-    let status = match command_words(&rt) {
-        Ok(words) => {
-            let mut list = Vec::new(rt.alloc());
-            for word in &words {
-                if list.push(word.as_str()).is_err() {
-                    return ExitCode::from(70);
-                }
-            }
-            provide(rt.alloc(), list.as_slice(), &mut kit)
-        }
+    ExitCode::from(answer(&rt, &mut kit))
+}
+
+// The exit code of the command line's command.
+fn answer<R: Env + AllocGlobal, I: Source, O: Sink>(rt: &R, kit: &mut Equipment<I, O>) -> u8 {
+    let words = match command_words(rt) {
+        Ok(words) => words,
+        Err(error) if error.kind() == io::ErrorKind::OutOfMemory => return Status::Memory.code(),
         // A word that is no text is outside every command, as no word at all is.
-        Err(_) => provide(rt.alloc(), &[], &mut kit),
+        Err(_) => return provide(rt.alloc(), &[], kit),
     };
-    ExitCode::from(status)
+    let texts: Result<Vec<&str>, AllocError> = words
+        .iter()
+        .map(|word| word.as_str())
+        .collect(rt.alloc());
+    match texts {
+        Ok(texts) => provide(rt.alloc(), texts.as_slice(), kit),
+        Err(_) => Status::Memory.code(),
+    }
 }
 
 // The words behind the program's name.
-fn command_words<R: std::rt::Env + Alloc>(rt: &R) -> io::Result<Vec<String<R::A>, R::A>> {
+fn command_words<R: Env + AllocGlobal>(rt: &R) -> io::Result<Vec<String>> {
     let mut words = Vec::new(rt.alloc());
     for word in env::args(rt)?.skip(1) {
         words.push(word)?;

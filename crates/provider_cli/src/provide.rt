@@ -2,7 +2,7 @@
 ghost use Rattle.std.specs.Prelude.{◌≡◌, None, Some, map};
 ghost use Rattle.provider_cli.specs.declared.words.Plan.TheVariants.{Drill};
 ghost use Rattle.provider_cli.specs.Command.{plan_of, code, Misused};
-ghost use Rattle.provider_cli.specs.Headline.{PromisedWith};
+ghost use Rattle.provider_cli.specs.Headline.{Promised};
 
 use crate::command::plan;
 use crate::drill::drill;
@@ -24,13 +24,13 @@ pub struct Equipment<I, O> {
 /// Runs the command that the words are, and answers its exit code.
 pub fn provide<I: Source, O: Sink>(alloc: Global, words: &[&str], kit: &mut Equipment<I, O>) -> u8
     ensures drilled { plan_of (map (λ word. word.now) words.now) ≡ Some Drill →
-        PromisedWith (I.left kit.old.input) (I.faults kit.old.input) (I.faults kit.new.input)
+        Promised (I.left kit.old.input) (I.faults kit.old.input) (I.faults kit.new.input)
         (O.written kit.old.output) (O.written kit.new.output) (O.faults kit.old.output) (O.faults kit.new.output) result }
     ensures misused { plan_of (map (λ word. word.now) words.now) ≡ None →
         Misused (O.written kit.old.output) (O.written kit.new.output) (O.faults kit.old.output) (O.faults kit.new.output) result }
 {
     match plan(words) {
-        Ok(Some(Plan::Drill)) => drill(alloc, &mut kit.input, &mut kit.output).code(),
+        Ok(Some(Plan::Drill)) => drill(alloc, &mut kit.input, &mut kit.output),
         Ok(None) => tell_usage(&mut kit.output).code(),
         Err(_) => Status::Memory.code(),
     }

@@ -11,6 +11,8 @@ returns g c =
       stays = c.handed_over_stays_a_prefix.ensures;
     } in
     record {
+      status = c.read_and_run.result;
+      exit_is = c.code.ensures;
       drilled = c.read_and_run.ensures;
       complete = complete_of _ _ _ _ _ _ _ _ c.read_and_run.ensures;
       headline = headline_if laws _;
