@@ -4,7 +4,7 @@ ghost use Rattle.std.specs.Prelude.{◌≡◌, ℕ, ◌+◌, ◌^◌, ◌<◌, �
 ghost use Rattle.ber_core.specs.Length.{without_zeros, shortest_length};
 ghost use Rattle.ber_core.specs.Integer.{is_redundant, without_redundant, integer_octets};
 
-/// The octets from the first one that isn't 0 on.
+// The octets from the first one that isn't 0 on.
 pub(crate) fn significant(octets: &[u8]) -> &[u8]
     ensures { result.now ≡ without_zeros octets.now }
 {
@@ -25,7 +25,7 @@ pub(crate) fn has_redundant_first(octets: &[u8]) -> bool
     }
 }
 
-/// A two's complement without the first octets that X.690 8.3.2 forbids.
+// A two's complement without the first octets that X.690 8.3.2 forbids.
 #[tactic(auto, unfolding(crate::specs::Integer::without_redundant))]
 pub(crate) fn shortest_complement(octets: &[u8]) -> &[u8]
     ensures shortest { result.now ≡ without_redundant octets.now }
