@@ -26,3 +26,5 @@ leave_inside place free input_end ends some inside at_end =
     rw here split.1
 
 pub ruleset leaving = (leave_inside, drop-drop)
+
+pub ruleset staying = (IsInside-reached, IsInside-within)

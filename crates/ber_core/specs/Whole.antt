@@ -5,7 +5,7 @@ use Rattle.ber_core.specs.declared.fault.BerFault.{BerFault}
 use Rattle.ber_core.specs.declared.fault.BerFault.TheVariants.{BadContent}
 use Rattle.ber_core.specs.Length.{IsOctets}
 use Rattle.ber_core.specs.Tree.{Tree, Trees, primitive, constructed, no_trees, tree_and}
-use Rattle.ber_core.specs.Spelling.{Spells}
+use Rattle.ber_core.specs.Spelling.{Spells, SpellsAll}
 use Rattle.ber_core.specs.View.{View, left}
 use Rattle.ber_core.specs.Reading.{◌>>=◌, primitive_at, enter, leave}
 
@@ -43,3 +43,15 @@ abbrev pub ReadWhereSpelled : Type 0
 ReadWhereSpelled =
     (t : Tree) (view new : View) → IsOctets view.octets
     → (read_tree t view ≡ Ok new) ↔ ((spelled rest : List ℕ) × Spells t spelled × Passes view new spelled rest × (depth t + length view.ends ≤ 16))
+
+-- Trees that are read one after another stand next, spelled one after another.
+abbrev pub AllReadAreSpelled : Type 0
+AllReadAreSpelled =
+    (ts : Trees) (view new : View) → IsOctets view.octets → length view.ends ≤ 16 → read_trees ts view ≡ Ok new
+    → (spelled rest : List ℕ) × SpellsAll ts spelled × Passes view new spelled rest × (depth_all ts + length view.ends ≤ 16)
+
+-- Trees that stand next, spelled one after another, are read, within the limit on nesting.
+abbrev pub AllSpelledAreRead : Type 0
+AllSpelledAreRead =
+    (ts : Trees) (view new : View) (spelled rest : List ℕ) → SpellsAll ts spelled → Passes view new spelled rest → depth_all ts + length view.ends ≤ 16
+    → read_trees ts view ≡ Ok new

@@ -1,7 +1,7 @@
 // What holds of every tree and every spelling.
 
 ghost use Rattle.ber_core.specs.Reading.{FoundWhereSpelled, IntegerWhereSpelled, IntegerReadBack, ElementReadBack, ContentIsInside, RestIsBehind};
-ghost use Rattle.ber_core.specs.Whole.{ReadWhereSpelled};
+ghost use Rattle.ber_core.specs.Whole.{ReadWhereSpelled, AllReadAreSpelled, AllSpelledAreRead};
 ghost use Rattle.ber_core.specs.Spelling.{CanonicalSpells, NoneBeginsAnother, OneTree};
 
 /// The canonical spelling is one of the spellings.
@@ -54,4 +54,14 @@ pub fn rest_is_behind()
 /// within the limit on nesting.
 pub fn read_where_spelled()
     ensures { ReadWhereSpelled }
+{}
+
+/// The same for a list of trees: what is read was spelled, tree behind tree.
+pub fn all_read_are_spelled()
+    ensures { AllReadAreSpelled }
+{}
+
+/// What is spelled, tree behind tree, is read.
+pub fn all_spelled_are_read()
+    ensures { AllSpelledAreRead }
 {}

@@ -47,8 +47,11 @@ impl<'a> Reader<'a> {
     }
 
     /// The place of the next octet, counted from the first one given to `new`.
+    #[tactic(auto, using(crate::proofs::Ends::staying))]
     pub fn place(&self) -> usize
-        ensures { result ≡ self.now.place }
+        ensures exact { result ≡ self.now.place }
+        ensures reached { result ≤ end_of self.now }
+        ensures within { end_of self.now ≤ length self.now.octets }
     {
         self.place
     }
