@@ -61,7 +61,7 @@ shallow_view view e = grind (arith, nat_tests)
 not_full : (view : View) → length view.ends < 16 → is_full view ≡ false
 not_full view shallow = grind (arith, nat_tests)
 
-IsOctets-take : (n : ℕ) (octets : List ℕ) → IsOctets octets → IsOctets (take n octets)
+pub IsOctets-take : (n : ℕ) (octets : List ℕ) → IsOctets octets → IsOctets (take n octets)
 IsOctets-take zero octets h = tt
 IsOctets-take (suc n) [] h = tt
 IsOctets-take (suc n) (octet ∷ octets) h = (h.0, IsOctets-take n octets h.1)
@@ -138,7 +138,7 @@ length_at view at size content behind shallow (inl (small, short)) = rw short (s
 length_at view at size content behind shallow (inr (digits, long, value, spelled)) =
     rw (spelled) (long_at view at digits content behind shallow long value ∙ ap (λ start. Ok (start, content)) (omega arith))
 
-IsOctets-drop : (n : ℕ) (octets : List ℕ) → IsOctets octets → IsOctets (drop n octets)
+pub IsOctets-drop : (n : ℕ) (octets : List ℕ) → IsOctets octets → IsOctets (drop n octets)
 IsOctets-drop zero octets h = h
 IsOctets-drop (suc n) [] h = tt
 IsOctets-drop (suc n) (octet ∷ octets) h = IsOctets-drop n octets h.1

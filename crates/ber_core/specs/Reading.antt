@@ -162,6 +162,10 @@ ElementReadBack =
 abbrev pub ContentIsInside : Type 0
 ContentIsInside = (view : View) (tag content : List ℕ) (start : ℕ) → Stands view tag content start → left (inside view start content) ≡ content
 
+-- The content of an element in octets is octets.
+abbrev pub ContentIsOctets : Type 0
+ContentIsOctets = (view : View) (tag content : List ℕ) (start : ℕ) → IsOctets view.octets → Stands view tag content start → IsOctets content
+
 -- Behind an element what follows its spelling is left to read.
 abbrev pub RestIsBehind : Type 0
 RestIsBehind = (view : View) (tag content : List ℕ) (start : ℕ) (found : Stands view tag content start) → left (behind view start content) ≡ found.rest

@@ -1,6 +1,6 @@
 // What holds of every tree and every spelling.
 
-ghost use Rattle.ber_core.specs.Reading.{FoundWhereSpelled, IntegerWhereSpelled, IntegerReadBack, ElementReadBack, ContentIsInside, RestIsBehind};
+ghost use Rattle.ber_core.specs.Reading.{FoundWhereSpelled, IntegerWhereSpelled, IntegerReadBack, ElementReadBack, ContentIsInside, ContentIsOctets, RestIsBehind};
 ghost use Rattle.ber_core.specs.Whole.{ReadWhereSpelled, AllReadAreSpelled, AllSpelledAreRead};
 ghost use Rattle.ber_core.specs.Spelling.{CanonicalSpells, NoneBeginsAnother, OneTree};
 
@@ -43,6 +43,11 @@ pub fn element_read_back()
 /// Inside an element its content is left to read.
 pub fn content_is_inside()
     ensures { ContentIsInside }
+{}
+
+/// The content of an element in octets is octets.
+pub fn content_is_octets()
+    ensures { ContentIsOctets }
 {}
 
 /// Behind an element what follows its spelling is left to read.
