@@ -1,7 +1,7 @@
 // The rules of content octets. Each function answers what the content says, or its fault, with the place at which the
 // content begins.
 
-ghost use Rattle.std.specs.Prelude.{◌≡◌, ℕ, ℤ, ◌+◌, ◌*◌, ◌^◌, ◌<◌, ◌≤◌, ◌&&◌, true, length};
+ghost use Rattle.std.specs.Prelude.{◌≡◌, ℕ, ℤ, ◌+◌, ◌*◌, ◌^◌, ◌<◌, ◌≤◌, ◌≤ℤ◌, ◌&&◌, true, length, IfOk};
 ghost use Rattle.std.specs.List.{list_all};
 ghost use Rattle.ber_core.specs.Length.{number_of};
 ghost use Rattle.ber_core.specs.Integer.{is_wide, signed_of};
@@ -63,7 +63,8 @@ pub(crate) fn integer_of(
     least: i128,
     greatest: i128,
 ) -> Result<i128, BerFault>
-    ensures { Gives (λ value. value) result (integer_of least greatest place content.now) }
+    ensures exact { Gives (λ value. value) result (integer_of least greatest place content.now) }
+    ensures range { IfOk result (λ value. (least ≤ℤ value) × (value ≤ℤ greatest)) }
 {
     if content.is_empty() || has_redundant_first(content) {
         return Err(BerFault::BadContent { place });

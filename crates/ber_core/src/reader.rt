@@ -1,4 +1,4 @@
-ghost use Rattle.std.specs.Prelude.{◌≡◌, ℕ, ℤ, ◌+◌, ◌^◌, ◌<◌, ◌≤◌, ◌==◌, ◌↔◌, IsTrue, IsOk, IfOk, IfSome, take, option_map, List, length, Ok, Err};
+ghost use Rattle.std.specs.Prelude.{◌≡◌, ℕ, ℤ, ◌+◌, ◌^◌, ◌<◌, ◌≤◌, ◌≤ℤ◌, ◌==◌, ◌↔◌, IsTrue, IsOk, IfOk, IfSome, take, option_map, List, length, Ok, Err};
 ghost use Rattle.ber_core.specs.Tree.{begins_number, through_last, first_identifier};
 ghost use Rattle.ber_core.specs.View.{View, view_before, end_of, left};
 ghost use Rattle.ber_core.specs.Reading.{Reads, Gives, missing, content_from, content_behind, content_at, next_content, primitive_at, integer_of, string_of, visible_of, object_id_of, null_of, enter, leave};
@@ -224,7 +224,8 @@ impl<'a> Reader<'a> {
         least: i128,
         greatest: i128,
     ) -> Result<i128, BerFault>
-        ensures { Reads (λ value. value) self.old self.new result (primitive_at (integer_of least greatest) self.old identifier.now) }
+        ensures exact { Reads (λ value. value) self.old self.new result (primitive_at (integer_of least greatest) self.old identifier.now) }
+        ensures range { IfOk result (λ value. (least ≤ℤ value) × (value ≤ℤ greatest)) }
     {
         let (start, content) = self.next_content(identifier)?;
         let value = content::integer_of(content, start, least, greatest)?;

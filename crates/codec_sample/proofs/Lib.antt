@@ -1,0 +1,5 @@
+pub mod Trees
+pub mod Fields
+pub mod Times
+pub mod Listed
+pub mod Samples

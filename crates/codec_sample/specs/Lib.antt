@@ -1,0 +1,5 @@
+pub mod Sample
+pub mod Reading
+pub mod Items
+pub mod Seen
+pub mod Laws

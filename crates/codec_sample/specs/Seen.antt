@@ -1,0 +1,14 @@
+-- What contracts see of a sample.
+use Rattle.std.specs.Prelude.{ℕ, pos, Option, Some, None, List, [], Result, Ok, Err}
+use Rattle.ber_core.specs.declared.fault.BerFault.{BerFault}
+use Rattle.codec_sample.specs.declared.sample.Credentials.{Credentials}
+use Rattle.codec_sample.specs.declared.sample.Credentials.TheVariants.{Unused, Used}
+use Rattle.codec_sample.specs.declared.sample.Sample.{Sample}
+use Rattle.codec_sample.specs.Sample.{Content}
+
+abbrev pub used : Credentials → Option (List ℕ)
+used Unused = None
+used (Used octets) = Some octets.now
+
+abbrev pub content : Sample → Content
+content s = record { credentials = used s.credentials; invoke = pos s.invoke; time = s.time; items = s.items }

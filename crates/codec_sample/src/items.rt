@@ -1,0 +1,50 @@
+// The items of a sample.
+
+ghost use Rattle.std.specs.Prelude.{◌≡◌, ◌∷◌, [], MatchOption, IsOk};
+ghost use Rattle.codec_sample.specs.Reading.{items_of};
+
+use ber_core::Reader;
+use std::marker::Model;
+
+pub(crate) const ITEM: [u8; 1] = [0x04];
+
+/// At most 8 items, OCTET STRINGs of 1 to 16 octets, one after another in octets that are lent. Contracts see the list
+/// of the items.
+#[derive(Drop)]
+pub struct Items<'a> {
+    octets: &'a [u8],
+}
+
+impl<'a> Model for Items<'a> {
+    ghost use Rattle.std.specs.Prelude.{ℕ, List, IsOk};
+    ghost use Rattle.codec_sample.specs.Reading.{items_of};
+    ghost use Rattle.codec_sample.specs.Items.{items_in};
+
+    ghost Value = { List (List ℕ) };
+
+    ghost view = { λ i. items_in i.octets.now };
+
+    ghost invariant = { λ i. IsOk (items_of i.octets.now) };
+}
+
+impl<'a> Items<'a> {
+    // Items that were found in these octets.
+    pub(crate) fn found(octets: &'a [u8]) -> Items<'a>
+        requires { IsOk (items_of octets.now) }
+        ensures { items_of octets.now ≡ Ok result }
+    {
+        Items { octets }
+    }
+
+    /// The next item, or none behind the last one.
+    pub fn next(&mut self) -> Option<&'a [u8]>
+        ensures { MatchOption result ((self.old ≡ []) × (self.new ≡ [])) (λ item. self.old ≡ item.now ∷ self.new) }
+    {
+        let mut reader = Reader::new(self.octets);
+        let Ok(item) = reader.octet_string(&ITEM, 1, 16) else {
+            return None;
+        };
+        self.octets = &self.octets[reader.place()..];
+        Some(item)
+    }
+}
