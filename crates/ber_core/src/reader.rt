@@ -194,7 +194,8 @@ impl<'a> Reader<'a> {
 
     /// Enters an element that is a list of elements.
     pub fn element(&mut self, identifier: &[u8]) -> Result<(), BerFault>
-        ensures { Reads (λ _. tt) self.old self.new result (enter self.old identifier.now) }
+        ensures exact { Reads (λ _. tt) self.old self.new result (enter self.old identifier.now) }
+        ensures octets { self.new.octets ≡ self.old.octets }
     {
         let (start, content) = self.next_content(identifier)?;
         self.free -= 1;
@@ -206,7 +207,8 @@ impl<'a> Reader<'a> {
     /// Leaves the innermost entered element, or where none is entered, tests that the octets end here.
     #[tactic(auto, using(crate::proofs::Ends::leaving))]
     pub fn leave(&mut self) -> Result<(), BerFault>
-        ensures { Reads (λ _. tt) self.old self.new result (leave self.old) }
+        ensures exact { Reads (λ _. tt) self.old self.new result (leave self.old) }
+        ensures octets { self.new.octets ≡ self.old.octets }
     {
         if self.place != self.end() {
             return Err(BerFault::BadLength { place: self.place });
@@ -225,6 +227,7 @@ impl<'a> Reader<'a> {
         greatest: i128,
     ) -> Result<i128, BerFault>
         ensures exact { Reads (λ value. value) self.old self.new result (primitive_at (integer_of least greatest) self.old identifier.now) }
+        ensures octets { self.new.octets ≡ self.old.octets }
         ensures range { IfOk result (λ value. (least ≤ℤ value) × (value ≤ℤ greatest)) }
     {
         let (start, content) = self.next_content(identifier)?;
@@ -240,7 +243,8 @@ impl<'a> Reader<'a> {
         least: usize,
         greatest: usize,
     ) -> Result<&'a [u8], BerFault>
-        ensures { Reads (λ octets. octets.now) self.old self.new result (primitive_at (string_of least greatest) self.old identifier.now) }
+        ensures exact { Reads (λ octets. octets.now) self.old self.new result (primitive_at (string_of least greatest) self.old identifier.now) }
+        ensures octets { self.new.octets ≡ self.old.octets }
     {
         let (start, content) = self.next_content(identifier)?;
         let octets = content::string_of(content, start, least, greatest)?;
@@ -255,7 +259,8 @@ impl<'a> Reader<'a> {
         least: usize,
         greatest: usize,
     ) -> Result<&'a [u8], BerFault>
-        ensures { Reads (λ octets. octets.now) self.old self.new result (primitive_at (visible_of least greatest) self.old identifier.now) }
+        ensures exact { Reads (λ octets. octets.now) self.old self.new result (primitive_at (visible_of least greatest) self.old identifier.now) }
+        ensures octets { self.new.octets ≡ self.old.octets }
     {
         let (start, content) = self.next_content(identifier)?;
         let octets = content::visible_of(content, start, least, greatest)?;
@@ -265,7 +270,8 @@ impl<'a> Reader<'a> {
 
     /// Reads an OBJECT IDENTIFIER, and answers its content octets (X.690 8.19).
     pub fn object_id(&mut self, identifier: &[u8]) -> Result<&'a [u8], BerFault>
-        ensures { Reads (λ octets. octets.now) self.old self.new result (primitive_at object_id_of self.old identifier.now) }
+        ensures exact { Reads (λ octets. octets.now) self.old self.new result (primitive_at object_id_of self.old identifier.now) }
+        ensures octets { self.new.octets ≡ self.old.octets }
     {
         let (start, content) = self.next_content(identifier)?;
         let octets = content::object_id_of(content, start)?;
@@ -275,7 +281,8 @@ impl<'a> Reader<'a> {
 
     /// Reads a NULL (X.690 8.8).
     pub fn null(&mut self, identifier: &[u8]) -> Result<(), BerFault>
-        ensures { Reads (λ _. tt) self.old self.new result (primitive_at null_of self.old identifier.now) }
+        ensures exact { Reads (λ _. tt) self.old self.new result (primitive_at null_of self.old identifier.now) }
+        ensures octets { self.new.octets ≡ self.old.octets }
     {
         let (start, content) = self.next_content(identifier)?;
         content::null_of(content, start)?;

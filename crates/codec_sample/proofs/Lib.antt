@@ -3,3 +3,4 @@ pub mod Fields
 pub mod Times
 pub mod Listed
 pub mod Samples
+pub mod Lending

@@ -27,7 +27,7 @@ pub record Laws : Type 0 where
   pub back : IntegerReadBack
   pub trees_read : ReadWhereSpelled
 
-kept : ReadWhereSpelled → (t : Tree) (view new : View) → IsOctets view.octets → read_tree t view ≡ Ok new → IsOctets new.octets
+pub kept : ReadWhereSpelled → (t : Tree) (view new : View) → IsOctets view.octets → read_tree t view ≡ Ok new → IsOctets new.octets
 kept law t view new octets e =
     let (spelled, rest, spells, passes, shallow) = (law t view new octets).0 e in
     subst IsOctets (sym (ap (λ v. v.octets) passes.1)) octets
@@ -98,7 +98,7 @@ module _ (laws : Laws) where
   unfolding sample
   sample_field = within_field fields_at (0xa0 ∷ []) (λ s. trees (fields s)) IsSample sample_fields
 
-all_left : (octets : List ℕ) → left (view_before octets) ≡ octets
+pub all_left : (octets : List ℕ) → left (view_before octets) ≡ octets
 all_left octets = ap (λ n. take n octets) (omega arith) ∙ take-length octets
 
 -- the end of octets whose trees were read from their front
@@ -128,7 +128,7 @@ tree_alone : (t : Tree) (view new : View) → read_tree t view ≡ Ok new → re
 unfolding read_trees
 tree_alone t view new e = rw e refl
 
-alone_tree : (t : Tree) (view new : View) → read_trees (tree_and t no_trees) view ≡ Ok new → read_tree t view ≡ Ok new
+pub alone_tree : (t : Tree) (view new : View) → read_trees (tree_and t no_trees) view ≡ Ok new → read_tree t view ≡ Ok new
 unfolding read_trees
 alone_tree t view new e = let (behind, read, same) = bind_ok (read_tree t view) (λ behind. Ok behind) new e in read ∙ same
 

@@ -91,7 +91,7 @@ pub record Entered (view new inner after : View) (tag : List ℕ) : Type 0 where
   pub at_end : after.place ≡ end_of after
   pub left_it : leave after ≡ Ok (tt, new)
 
-entered_is : (view : View) (tag : List ℕ) (entered : Unit {0} × View) → enter view tag ≡ Ok entered → entered.1.octets ≡ view.octets
+pub entered_is : (view : View) (tag : List ℕ) (entered : Unit {0} × View) → enter view tag ≡ Ok entered → entered.1.octets ≡ view.octets
 entered_is view tag entered e =
     let found = bind_ok (next_content view tag) (λ found. Ok (tt {0}, inside view found.0 found.1)) entered e in
     sym (ap (λ p. p.1.octets) (ok_is (tt {0}, inside view found.0.0 found.0.1) entered found.2))

@@ -3,7 +3,7 @@
 ghost use Rattle.std.specs.Prelude.{◌≡◌, ◌∷◌, [], MatchOption, IsOk};
 ghost use Rattle.codec_sample.specs.Reading.{items_of};
 
-use ber_core::Reader;
+use ber_core::{Reader, laws};
 use std::marker::Model;
 
 pub(crate) const ITEM: [u8; 1] = [0x04];
@@ -40,6 +40,8 @@ impl<'a> Items<'a> {
     pub fn next(&mut self) -> Option<&'a [u8]>
         ensures { MatchOption result ((self.old ≡ []) × (self.new ≡ [])) (λ item. self.old ≡ item.now ∷ self.new) }
     {
+        laws::all_read_are_spelled();
+        laws::all_spelled_are_read();
         let mut reader = Reader::new(self.octets);
         let Ok(item) = reader.octet_string(&ITEM, 1, 16) else {
             return None;

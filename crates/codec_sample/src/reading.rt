@@ -1,6 +1,6 @@
 // A sample from its octets.
 
-ghost use Rattle.std.specs.Prelude.{◌≡◌};
+ghost use Rattle.std.specs.Prelude.{◌≡◌, ◌-◌, ◌≤◌, length, take, drop};
 ghost use Rattle.ber_core.specs.Reading.{Reads, Gives};
 ghost use Rattle.codec_sample.specs.Reading.{is_next, passed, credentials_at, time_at, conditional_time_at, items_at, item_list_at, fields_at, sample_of};
 ghost use Rattle.codec_sample.specs.Seen.{used, content};
@@ -22,7 +22,8 @@ fn is_next(identifier: u8, reader: &Reader) -> bool
 
 #[tactic(auto, unfolding(crate::specs::Reading::credentials_at))]
 fn credentials<'a>(reader: &mut Reader<'a>) -> Result<Credentials<'a>, BerFault>
-    ensures { Reads used reader.old reader.new result (credentials_at reader.old) }
+    ensures exact { Reads used reader.old reader.new result (credentials_at reader.old) }
+    ensures octets { reader.new.octets ≡ reader.old.octets }
 {
     if is_next(0x81, reader) {
         let octets = reader.octet_string(&[0x81], 8, 256)?;
@@ -34,7 +35,8 @@ fn credentials<'a>(reader: &mut Reader<'a>) -> Result<Credentials<'a>, BerFault>
 
 #[tactic(auto, unfolding(crate::specs::Reading::time_at))]
 fn time(reader: &mut Reader) -> Result<Cds, BerFault>
-    ensures { Reads (λ time. time) reader.old reader.new result (time_at reader.old) }
+    ensures exact { Reads (λ time. time) reader.old reader.new result (time_at reader.old) }
+    ensures octets { reader.new.octets ≡ reader.old.octets }
 {
     if is_next(0x81, reader) {
         let octets = reader.octet_string(&[0x81], 10, 10)?;
@@ -46,7 +48,8 @@ fn time(reader: &mut Reader) -> Result<Cds, BerFault>
 
 #[tactic(auto, unfolding(crate::specs::Reading::conditional_time_at))]
 fn conditional_time(reader: &mut Reader) -> Result<Option<Cds>, BerFault>
-    ensures { Gives (λ time. (time, reader.new)) result (conditional_time_at reader.old) }
+    ensures exact { Gives (λ time. (time, reader.new)) result (conditional_time_at reader.old) }
+    ensures octets { reader.new.octets ≡ reader.old.octets }
 {
     if is_next(0xa1, reader) {
         reader.element(&[0xa1])?;
@@ -58,11 +61,14 @@ fn conditional_time(reader: &mut Reader) -> Result<Option<Cds>, BerFault>
     Ok(None)
 }
 
-// Goes over the items of a list, which are at most 8.
+const MOST_ITEMS: usize = 8;
+
+// Goes over the items of a list.
 fn pass_items(reader: &mut Reader) -> Result<(), BerFault>
-    ensures { Gives (λ _. reader.new) result (passed (items_at 8 reader.old)) }
+    ensures exact { Gives (λ _. reader.new) result (passed (items_at 8 reader.old)) }
+    ensures octets { reader.new.octets ≡ reader.old.octets }
 {
-    for _ in 0..8 {
+    for _ in 0..MOST_ITEMS {
         if reader.at_end() {
             return Ok(());
         }
@@ -71,11 +77,23 @@ fn pass_items(reader: &mut Reader) -> Result<(), BerFault>
     Ok(())
 }
 
-// The items of a list, as they lie in all the octets of the reader.
+// The octets from start to end.
+fn between(octets: &[u8], start: usize, end: usize) -> &[u8]
+    requires start { start ≤ end }
+    requires end { end ≤ length octets.now }
+    ensures { result.now ≡ take (end - start) (drop start octets.now) }
+{
+    &octets[start..end]
+}
+
+// The items of a list, lent from all the octets of the reader.
+#[tactic(auto, unfolding(crate::specs::Reading::item_list_at))]
 fn items<'a>(octets: &'a [u8], reader: &mut Reader<'a>) -> Result<Items<'a>, BerFault>
     requires { reader.old.octets ≡ octets.now }
-    ensures { Gives (λ items. (items, reader.new)) result (item_list_at reader.old) }
+    ensures exact { Gives (λ items. (items, reader.new)) result (item_list_at reader.old) }
+    ensures octets { reader.new.octets ≡ reader.old.octets }
 {
+    laws::found_where_spelled();
     laws::all_read_are_spelled();
     laws::all_spelled_are_read();
     reader.element(&[0x30])?;
@@ -83,15 +101,15 @@ fn items<'a>(octets: &'a [u8], reader: &mut Reader<'a>) -> Result<Items<'a>, Ber
     pass_items(reader)?;
     let end = reader.place();
     reader.leave()?;
-    Ok(Items::found(&octets[start..end]))
+    Ok(Items::found(between(octets, start, end)))
 }
 
 #[tactic(auto, unfolding(crate::specs::Reading::fields_at))]
 fn fields<'a>(octets: &'a [u8], reader: &mut Reader<'a>) -> Result<Sample<'a>, BerFault>
     requires { reader.old.octets ≡ octets.now }
-    ensures { Gives (λ sample. (content sample, reader.new)) result (fields_at reader.old) }
+    ensures exact { Gives (λ sample. (content sample, reader.new)) result (fields_at reader.old) }
+    ensures octets { reader.new.octets ≡ reader.old.octets }
 {
-    laws::read_where_spelled();
     let credentials = credentials(reader)?;
     let invoke = reader.integer(&[0x02], 0, 65535)?;
     let time = conditional_time(reader)?;

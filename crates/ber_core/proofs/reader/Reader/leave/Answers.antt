@@ -7,7 +7,7 @@ use Rattle.ber_core.proofs.reader.Reader.leave.Goals as goal
 at_end : (view : View) → view.place ≡ end_of view → leave view ≡ Ok (tt, record view { ends = drop 1 view.ends })
 at_end view e = rw (eq-eqb view.place (end_of view) e) refl
 
-pub returns-then-self-lt-DEEPEST : goal.returns-then-self-lt-DEEPEST
-returns-then-self-lt-DEEPEST c =
+pub returns-then-self-lt-DEEPEST-clause-exact : goal.returns-then-self-lt-DEEPEST-clause-exact
+returns-then-self-lt-DEEPEST-clause-exact c =
     let end : c.args.self.now.place ≡ end_of c.args.self.now = search rules in
     rw (at_end c.args.self.now end, ← c.self.view_is, drop-drop) refl
