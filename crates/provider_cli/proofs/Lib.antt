@@ -6,6 +6,7 @@ pub mod Turns
 pub mod Floors
 pub mod Messages
 pub mod Steps
+pub mod PlainText
 pub mod FirstLines
 pub mod Outcomes
 pub mod Promises

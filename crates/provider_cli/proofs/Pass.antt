@@ -118,7 +118,7 @@ frame_alone place f storable =
     let few : sum_by frame_octets (item ∷ []) < 524288 = omega (arith, short, sum_by-cons frame_octets item []) in
     ap (λ b. (nat_le 2 (length (item ∷ [])) || b) || list_any is_notice_item (item ∷ [])) (lt-leb 524288 (sum_by frame_octets (item ∷ [])) few)
 
-held_first : (closed : Bool) (entries : List (ℕ × terms.Entry)) (place : ℕ) (f : terms.Frame)
+pub held_first : (closed : Bool) (entries : List (ℕ × terms.Entry)) (place : ℕ) (f : terms.Frame)
     → is_complete 2 (archived place (frame f) ∷ []) ≡ false
     → buffers closed ((place, frame f) ∷ entries) [] ≡ buffers closed entries (archived place (frame f) ∷ [])
 held_first closed entries place f alone =
@@ -127,7 +127,7 @@ held_first closed entries place f alone =
     ap (λ b. cond b ((item ∷ []) ∷ cut_onto 2 (archived_items entries) []) (cut_onto 2 (archived_items entries) (item ∷ []))) alone in
     ap (λ xs. cond closed (xs ++ (end_of_data ∷ []) ∷ []) (filter (is_complete 2) xs)) first
 
-pair_first : (closed : Bool) (entries : List (ℕ × terms.Entry)) (held : Item) (place : ℕ) (entry : terms.Entry)
+pub pair_first : (closed : Bool) (entries : List (ℕ × terms.Entry)) (held : Item) (place : ℕ) (entry : terms.Entry)
     → buffers closed ((place, entry) ∷ entries) (held ∷ []) ≡ (held ∷ archived place entry ∷ []) ∷ buffers closed entries []
 pair_first true entries held place entry = refl
 pair_first false entries held place entry = refl
@@ -143,7 +143,7 @@ pub record Goes (start stop : Cds) (quality : ℕ) (closed : Bool) (entries : Li
       → pass_text start stop quality closed gap (Some shown) rest
       ≡ sent_buffers entries before (buffers closed (picks start stop quality entries n rest) (archived place (frame f) ∷ []))
 
-end_fresh : (closed : Bool) (entries : List Entry) (before : Option ℕ) → end_text closed None ≡ sent_buffers entries before (buffers closed [] [])
+pub end_fresh : (closed : Bool) (entries : List Entry) (before : Option ℕ) → end_text closed None ≡ sent_buffers entries before (buffers closed [] [])
 end_fresh true entries before = sym (append-nil (sent_buffer (pdu.end_of_data ∷ [])))
 end_fresh false entries before = refl
 

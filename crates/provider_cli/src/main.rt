@@ -13,6 +13,8 @@ mod entry;
 mod grammar;
 mod lines;
 mod numbers;
+#[cfg(test)]
+mod plain;
 mod provide;
 mod status;
 #[cfg(test)]

@@ -1,7 +1,14 @@
 // The program over inputs and outputs in memory. The expected messages were spelled by hand (X.690, and
 // CCSDS 911.1-B for the fields of a transfer buffer).
+use crate::archive::Archive;
+use crate::desk::answer_start;
+use crate::entry::moment;
+use crate::grammar::{ScriptLine, parse_line};
+use crate::lines::split_line;
+use crate::plain;
 use crate::provide::{Equipment, provide};
 use octet_core::{MemorySink, MemorySource, Octets};
+use std::process::Abort;
 use std::test::Fail;
 
 const FIRST_PASS: &[u8] = b"frame 20000/1000/0 0 41 0 0010a1
@@ -161,6 +168,186 @@ fn a_script_has_at_most_sixteen_mebibytes(rt: HostRuntime) -> Result<(), Fail> {
         };
         assert_eq!(rt; provide(rt.alloc(), &["drill"], &mut kit), status);
         assert_eq!(rt; kit.output.written(), written);
+    }
+    Ok(())
+}
+
+// A script, and how many lines are written for its STARTs.
+const STARTS: [(&[u8], usize); 12] = [
+    (FIRST_PASS, 3),
+    // No entry, and a seal alone.
+    (
+        b"start 20000/0/0 20000/1/0 2\nmark 20000/1/0\nstart 20000/0/0 20000/1/0 2\n",
+        1,
+    ),
+    // One frame, with an open stop and with a closed one.
+    (
+        b"frame 20000/1000/0 0 41 9 0010a1
+start 20000/0/0 20000/1000/0 0
+start 20000/0/0 20000/999/999 0
+mark 20000/1000/0
+start 20000/0/0 20000/1000/0 0
+",
+        3,
+    ),
+    // Two frames fill a buffer, behind which nothing is held.
+    (
+        b"frame 20000/1000/0 0 41 0 0010a1
+frame 20000/2000/0 0 41 6 0010a2
+start 20000/0/0 20000/2000/0 0
+mark 20000/2000/0
+start 20000/0/0 20000/2000/0 0
+",
+        3,
+    ),
+    // Five frames with an open stop.
+    (
+        b"frame 20000/1000/0 0 41 1 0010a1
+frame 20000/2000/0 0 41 2 0010a2
+frame 20000/3000/0 0 41 3 0010a3
+frame 20000/4000/0 0 41 4 0010a4
+frame 20000/5000/0 0 41 5 0010a5
+start 20000/0/0 20000/5000/0 0
+",
+        2,
+    ),
+    // Seven frames, closed by an eighth one above the stop.
+    (
+        b"frame 20000/1000/0 0 41 0 0010a1
+frame 20000/2000/0 0 4142 1 0010a2
+frame 20000/3000/0 0 41 0 0010a3
+frame 20000/4000/0 0 414243 200 0010a4
+frame 20000/5000/0 0 41 0 0010a5
+frame 20000/6000/0 0 41 70000 0010a6
+frame 20000/7000/0 0 41 0 0010a7
+frame 20000/8000/0 0 41 0 0010a8
+start 20000/1000/0 20000/7000/0 0
+",
+        5,
+    ),
+    // Frames of other qualities between them, with lost frames; each quality is asked for.
+    (
+        b"frame 20000/1000/0 1 41 5 0010a1
+frame 20000/2000/0 0 41 3 0010a2
+mark 20000/2500/0
+frame 20000/3000/0 1 41 4 0010a3
+frame 20000/4000/0 2 41 11 0010a4
+frame 20000/5000/0 0 41 2 0010a5
+mark 20000/5000/0
+frame 20000/6000/0 0 41 1 0010a6
+start 20000/0/0 20000/5000/0 0
+start 20000/0/0 20000/5000/0 1
+start 20000/0/0 20000/5000/0 2
+",
+        8,
+    ),
+    // More frames were lost than a continuity tells.
+    (
+        b"frame 20000/1000/0 0 41 16777215 0010a1
+frame 20000/2000/0 1 41 16777215 0010a2
+frame 20000/3000/0 1 41 16777215 0010a3
+frame 20000/4000/0 0 41 1 0010a4
+frame 20000/5000/0 0 41 16777215 0010a5
+mark 20000/5000/0
+start 20000/0/0 20000/5000/0 0
+",
+        3,
+    ),
+    // A START past the end, with an open stop and with a closed one.
+    (
+        b"frame 20000/1000/0 0 41 0 0010a1
+start 20001/0/0 20001/1000/0 2
+mark 20001/1000/0
+start 20001/0/0 20001/1000/0 2
+",
+        1,
+    ),
+    // Two STARTs are refused, one at a single time isn't.
+    (
+        b"frame 20000/1000/0 0 41 0 0010a1
+mark 20000/1000/0
+start 20000/1000/1 20000/1000/0 2
+start 20000/1000/0 20000/1000/0 2
+start 20001/0/0 20000/1000/0 0
+",
+        4,
+    ),
+    // Frames of equal times.
+    (
+        b"frame 20000/1000/0 0 41 0 0010a1
+frame 20000/1000/0 0 41 8 0010a2
+frame 20000/1000/0 2 41 1 0010a3
+frame 20000/1000/0 0 41 0 0010a4
+start 20000/1000/0 20000/1000/0 2
+mark 20000/1000/0
+start 20000/1000/0 20000/1000/0 0
+start 20000/0/0 20000/999/0 0
+",
+        6,
+    ),
+    // STARTs on an archive that grows, also by long frames.
+    (
+        b"frame 20000/1000/0 0 41424344454647484950515253545556 0 00
+start 20000/0/0 20000/9000/0 0
+frame 20000/2000/0 0 41 127 000102030405060708090a0b0c0d0e0f101112131415161718191a1b1c1d1e1f202122232425262728292a2b2c2d2e2f303132333435363738393a3b3c3d3e3f404142434445464748494a4b4c4d4e4f505152535455565758595a5b5c5d5e5f606162636465666768696a6b6c6d6e6f707172737475767778797a7b7c7d7e7f
+start 20000/0/0 20000/9000/0 0
+frame 20000/3000/0 0 41 128 000102030405060708090a0b0c0d0e0f101112131415161718191a1b1c1d1e1f202122232425262728292a2b2c2d2e2f303132333435363738393a3b3c3d3e3f404142434445464748494a4b4c4d4e4f505152535455565758595a5b5c5d5e5f606162636465666768696a6b6c6d6e6f707172737475767778797a7b7c7d7e7f
+mark 20000/3000/0
+start 20000/1001/0 20000/3000/0 0
+",
+        3,
+    ),
+];
+
+// What the plain program writes for the STARTs of a script, having compared the desk's own text of
+// each that isn't refused.
+fn plain_text(rt: &(impl Abort + AllocGlobal), script: &[u8]) -> Result<Vec<u8>, Fail> {
+    let mut archive = Archive::new(rt.alloc());
+    let mut text = Vec::new(rt.alloc());
+    let mut rest = script;
+    while !rest.is_empty() {
+        let (line, after) = split_line(rest);
+        rest = after;
+        match parse_line(rt.alloc(), line) {
+            Ok(ScriptLine::Offer(entry)) => assert_eq!(rt; archive.offer(entry), Ok(())),
+            Ok(
+                ScriptLine::Desk {
+                    start,
+                    stop,
+                    quality,
+                },
+            ) => {
+                let entries = archive.entries();
+                let plain = plain::start_text(rt.alloc(), entries, &start, &stop, quality)?;
+                if moment(&start) <= moment(&stop) {
+                    let mut sink = MemorySink::new(rt.alloc(), Vec::new(rt.alloc()));
+                    let answer = answer_start(
+                        rt.alloc(),
+                        &archive,
+                        &start,
+                        &stop,
+                        quality,
+                        &mut sink,
+                    );
+                    assert_eq!(rt; answer, Ok(()));
+                    assert_eq!(rt; sink.written(), plain.as_slice());
+                }
+                text.extend_from_slice(plain.as_slice())?;
+            }
+            Err(fault) => panic!(rt; "{fault:?}"),
+        }
+    }
+    Ok(text)
+}
+
+#[test]
+fn the_plain_program_and_the_desk_give_one_text(rt: HostRuntime) -> Result<(), Fail> {
+    for (script, lines) in STARTS {
+        let text = plain_text(&rt, script)?;
+        assert_eq!(rt; text.iter().filter(|octet| **octet == b'\n').count(), lines);
+        let mut kit = kit_of(&rt, script, &[], &[])?;
+        assert_eq!(rt; provide(rt.alloc(), &["drill"], &mut kit), 0);
+        assert_eq!(rt; kit.output.written(), text.as_slice());
     }
     Ok(())
 }

@@ -1,0 +1,175 @@
+-- What the plain program of a START adds up, picks and cuts.
+use Rattle.std.proofs.Common.{◌≡◌, ℕ, ◌+◌, ◌-◌, ◌<◌, ◌≤◌, min, Bool, true, false, cond, ◌&&◌, List, [], ◌∷◌, ◌++◌, length, map, take, drop, get_or, slice_get, Option, Some, None, IsTrue, refl, sym, ap, ◌∙◌, add-one, drop-cons, append-nil, append_assoc, length-take, arith}
+use Rattle.std.specs.Prelude.{nat_le}
+use Rattle.std.specs.List.{sum_by, filter, list_all, enumerate_from}
+use Rattle.std.proofs.lemmas.Bool.{and_parts}
+use Rattle.std.proofs.lemmas.List.{drop_all, take_all, take_min, length-map}
+use Rattle.ber_core.specs.Tree.{Tree}
+use Rattle.ber_core.specs.Spelling.{canonical}
+use Rattle.return_pdu.specs.Items.{buffer_start, items_spelled, BufferIsHeadAndItems}
+use Rattle.return_pdu.specs.Items as pdu
+use Rattle.archive_terms.specs.Archive.{closes, is_closed, frame, loss_of_sync, production, seal}
+use Rattle.archive_terms.specs.Archive as terms
+use Rattle.archive_terms.specs.Selection.{Selection, admits, picked}
+use Rattle.archive_terms.specs.Delivery.{Item, archived, archived_items, is_short_frame, is_complete, offline_buffers}
+use Rattle.archive_terms.specs.Continuity.{lost_of, lost_between}
+use Rattle.cds_time.specs.declared.moment.Cds.{Cds}
+use Rattle.provider_cli.specs.declared.entry.Entry.{Entry}
+use Rattle.provider_cli.specs.Held.{moment, entry_of, archive_of}
+use Rattle.provider_cli.specs.Transcript.{message, sent_line, sent_buffer, sent_buffers, frame_tree, selection, start_buffers}
+use Rattle.provider_cli.proofs.Behind.{lost_before, lost_before-next}
+use Rattle.provider_cli.proofs.Pass.{held_first, pair_first, end_fresh}
+
+-- an entry behind the first place and up to the second one counts
+pub lost_step : (entries : List Entry) (before place i : ℕ) (entry : Entry) → i < length entries → entry ≡ get_or entries i entry
+    → before < i → i ≤ place
+    → lost_before entries before (min (place + 1) (i + 1)) ≡ lost_before entries before (min (place + 1) i) + lost_of (entry_of entry)
+lost_step entries before place i entry h here above within =
+    let next : min (place + 1) (i + 1) ≡ i + 1 = omega arith in
+    let now : min (place + 1) i ≡ i = omega arith in
+    let stands : drop i entries ≡ entry ∷ drop (i + 1) entries = rw (drop-cons entries i entry h, ← here, add-one) refl in
+    rw (next, now) (lost_before-next entries before i entry (drop (i + 1) entries) stands above)
+
+lost_none : (entries : List Entry) (before n : ℕ) → n ≤ before + 1 → lost_before entries before n ≡ 0
+lost_none entries before n le =
+    ap (sum_by lost_of)
+    (drop_all (before + 1) (take n (archive_of entries)) (omega (arith, length-take n (archive_of entries))))
+
+-- an earlier one doesn't, and a later one doesn't
+pub lost_early : (entries : List Entry) (before place i : ℕ) → i ≤ before
+    → lost_before entries before (min (place + 1) (i + 1)) ≡ lost_before entries before (min (place + 1) i)
+lost_early entries before place i h =
+    lost_none entries before (min (place + 1) (i + 1)) (omega arith) ∙ sym (lost_none entries before (min (place + 1) i) (omega arith))
+
+pub lost_late : (entries : List Entry) (before place i : ℕ) → place < i
+    → lost_before entries before (min (place + 1) (i + 1)) ≡ lost_before entries before (min (place + 1) i)
+lost_late entries before place i h =
+    let same : min (place + 1) (i + 1) ≡ min (place + 1) i = omega arith in
+    ap (lost_before entries before) same
+
+pub lost_all : (entries : List Entry) (before place : ℕ)
+    → lost_before entries before (min (place + 1) (length entries)) ≡ lost_between (archive_of entries) before place
+lost_all entries before place =
+    let whole : take (min (place + 1) (length entries)) (archive_of entries) ≡ take (place + 1) (archive_of entries) =
+    rw (sym (length-map entries entry_of)) (take_min (place + 1) (archive_of entries)) in
+    ap (λ xs. sum_by lost_of (drop (before + 1) xs)) whole
+
+-- the places of the admitted frames from a place on
+abbrev pub admitted : Selection → ℕ → List Entry → List ℕ
+admitted s n rest = map (λ x. x.0) (filter (λ x. admits s x.0 x.1) (enumerate_from n (archive_of rest)))
+
+-- the tree of the frame at a place
+abbrev pub tree_at : List Entry → Option ℕ → ℕ → Tree
+tree_at entries before place = frame_tree entries before place (slice_get entries place)
+
+-- what is written for picked frames at these places, behind one that was handed over last
+abbrev pub places_text : Bool → List Entry → Option ℕ → List ℕ → List ℕ
+places_text closed entries before [] = cond closed (sent_buffer (pdu.end_of_data ∷ [])) []
+places_text closed entries before (place ∷ []) =
+    cond closed (sent_buffer (tree_at entries before place ∷ []) ++ sent_buffer (pdu.end_of_data ∷ [])) []
+places_text closed entries before (first ∷ second ∷ places) =
+    sent_buffer (tree_at entries before first ∷ tree_at entries (Some first) second ∷ [])
+    ++ places_text closed entries (Some second) places
+
+-- frames fill a buffer by their number
+abbrev pub FillByNumber : Type 0
+FillByNumber = (size : ℕ) (items : List Item) → size ≤ 8
+    → IsTrue (list_all is_short_frame items) → is_complete size items ≡ nat_le size (length items)
+
+frame_alone : FillByNumber → (place : ℕ) (f : terms.Frame) → nat_le (length f.octets) 65536 ≡ true
+    → is_complete 2 (archived place (frame f) ∷ []) ≡ false
+frame_alone fill place f short = fill 2 (archived place (frame f) ∷ []) (omega arith) (ap (λ b. b && true) short)
+
+pub places_text-buffers : FillByNumber → (closed : Bool) (entries : List Entry) (before : Option ℕ) (xs : List (ℕ × terms.Entry))
+    → list_all is_short_frame (archived_items xs) ≡ true
+    → places_text closed entries before (map (λ x. x.0) xs) ≡ sent_buffers entries before (offline_buffers 2 xs closed)
+places_text-buffers fill true entries before [] short = end_fresh true entries before
+places_text-buffers fill false entries before [] short = refl
+places_text-buffers fill true entries before ((p, frame f) ∷ []) short =
+    let fits = and_parts (nat_le (length f.octets) 65536) true short in
+    ap (λ xs. sent_buffer (tree_at entries before p ∷ []) ++ xs) (sym (append-nil (sent_buffer (pdu.end_of_data ∷ []))))
+    ∙ ap (sent_buffers entries before) (sym (held_first true [] p f (frame_alone fill p f fits.0)))
+places_text-buffers fill false entries before ((p, frame f) ∷ []) short =
+    let fits = and_parts (nat_le (length f.octets) 65536) true short in
+    let item : Item = archived p (frame f) in
+    sym (ap (λ b. sent_buffers entries before (cond b ((item ∷ []) ∷ []) [])) (frame_alone fill p f fits.0))
+    ∙ ap (sent_buffers entries before) (sym (held_first false [] p f (frame_alone fill p f fits.0)))
+places_text-buffers fill closed entries before ((p, frame f) ∷ (q, frame g) ∷ xs) short =
+    let fits = and_parts (nat_le (length f.octets) 65536) (nat_le (length g.octets) 65536 && list_all is_short_frame (archived_items xs)) short in
+    let later = and_parts (nat_le (length g.octets) 65536) (list_all is_short_frame (archived_items xs)) fits.1 in
+    ap (λ text. sent_buffer (tree_at entries before p ∷ tree_at entries (Some p) q ∷ []) ++ text)
+    (places_text-buffers fill closed entries (Some q) xs later.1)
+    ∙ ap (sent_buffers entries before)
+    (sym (held_first closed ((q, frame g) ∷ xs) p f (frame_alone fill p f fits.0) ∙ pair_first closed xs (archived p (frame f)) q (frame g)))
+places_text-buffers fill closed entries before ((p, frame f) ∷ (q, loss_of_sync l) ∷ xs) short =
+    let fits = and_parts (nat_le (length f.octets) 65536) false short in absurd cc
+places_text-buffers fill closed entries before ((p, frame f) ∷ (q, production n) ∷ xs) short =
+    let fits = and_parts (nat_le (length f.octets) 65536) false short in absurd cc
+places_text-buffers fill closed entries before ((p, frame f) ∷ (q, seal t) ∷ xs) short =
+    let fits = and_parts (nat_le (length f.octets) 65536) false short in absurd cc
+places_text-buffers fill closed entries before ((p, loss_of_sync l) ∷ xs) short = absurd cc
+places_text-buffers fill closed entries before ((p, production n) ∷ xs) short = absurd cc
+places_text-buffers fill closed entries before ((p, seal t) ∷ xs) short = absurd cc
+
+-- the line of a buffer whose items have these octets
+pub line_of_one : BufferIsHeadAndItems → (item : Tree) (octets : List ℕ) → octets ≡ canonical item
+    → sent_line (message (buffer_start (length octets) ++ octets)) ≡ sent_buffer (item ∷ [])
+line_of_one law item octets is =
+    let same : items_spelled (item ∷ []) ≡ octets = append-nil (canonical item) ∙ sym is in
+    sym (ap (λ xs. sent_line (message xs)) (law (item ∷ []) ∙ ap (λ (xs : List ℕ). buffer_start (length xs) ++ xs) same))
+
+pub line_of_two : BufferIsHeadAndItems → (first second : Tree) (octets : List ℕ) → octets ≡ canonical first ++ canonical second
+    → sent_line (message (buffer_start (length octets) ++ octets)) ≡ sent_buffer (first ∷ second ∷ [])
+line_of_two law first second octets is =
+    let same : items_spelled (first ∷ second ∷ []) ≡ octets = ap (λ xs. canonical first ++ xs) (append-nil (canonical second)) ∙ sym is in
+    sym (ap (λ xs. sent_line (message xs)) (law (first ∷ second ∷ []) ∙ ap (λ (xs : List ℕ). buffer_start (length xs) ++ xs) same))
+
+-- the whole text is that of all picked places
+pub all_places : FillByNumber → (entries : List Entry) (start stop : Cds) (quality : ℕ)
+    → list_all is_short_frame (archived_items (picked (archive_of entries) (selection start stop quality))) ≡ true
+    → places_text (is_closed (archive_of entries) (moment stop)) entries None (map (λ x. x.0) (picked (archive_of entries) (selection start stop quality)))
+    ≡ start_buffers entries start stop quality
+all_places fill entries start stop quality short =
+    places_text-buffers fill (is_closed (archive_of entries) (moment stop)) entries None (picked (archive_of entries) (selection start stop quality)) short
+
+-- two places are written
+pub two_written : (closed : Bool) (entries : List Entry) (before : Option ℕ) (places text now whole : List ℕ) → 2 ≤ length places
+    → now ≡ text ++ sent_buffer (tree_at entries before (get_or places 0 0) ∷ tree_at entries (Some (get_or places 0 0)) (get_or places 1 0) ∷ [])
+    → text ++ places_text closed entries before places ≡ whole
+    → now ++ places_text closed entries (Some (get_or places 1 0)) (take (length places - 2) (drop 2 places)) ≡ whole
+two_written closed entries before [] text now whole two written all = absurd (omega arith)
+two_written closed entries before (first ∷ []) text now whole two written all = absurd (omega arith)
+two_written closed entries before (first ∷ second ∷ places) text now whole two written all =
+    ap (λ xs. now ++ places_text closed entries (Some second) xs) (take_all (length (first ∷ second ∷ places) - 2) places (omega arith))
+    ∙ ap (λ (xs : List ℕ). xs ++ places_text closed entries (Some second) places) written
+    ∙ append_assoc text (sent_buffer (tree_at entries before first ∷ tree_at entries (Some first) second ∷ [])) (places_text closed entries (Some second) places)
+    ∙ all
+
+-- with an open stop nothing more is written behind the full buffers
+pub end_open : (closed : Bool) (entries : List Entry) (before : Option ℕ) (places text whole : List ℕ) → closed ≡ false
+    → length places < 2 → text ++ places_text closed entries before places ≡ whole → text ≡ whole
+end_open true entries before places text whole is few all = absurd cc
+end_open false entries before [] text whole is few all = sym (append-nil text) ∙ all
+end_open false entries before (last ∷ []) text whole is few all = sym (append-nil text) ∙ all
+end_open false entries before (first ∷ second ∷ places) text whole is few all = absurd (omega arith)
+
+-- with a closed one a last frame, if there is one, and the end of data
+pub end_none : (closed : Bool) (entries : List Entry) (before : Option ℕ) (places text now whole : List ℕ) → closed ≡ true
+    → None ≡ slice_get places 0 → now ≡ text ++ sent_buffer (pdu.end_of_data ∷ [])
+    → text ++ places_text closed entries before places ≡ whole → now ≡ whole
+end_none true entries before [] text now whole is none written all = written ∙ all
+end_none true entries before (first ∷ places) text now whole is none written all = absurd cc
+end_none false entries before places text now whole is none written all = absurd cc
+
+pub end_one : (closed : Bool) (entries : List Entry) (before : Option ℕ) (places : List ℕ) (last : ℕ) (text between now whole : List ℕ) → closed ≡ true
+    → Some last ≡ slice_get places 0 → length places < 2 → between ≡ text ++ sent_buffer (tree_at entries before last ∷ [])
+    → now ≡ between ++ sent_buffer (pdu.end_of_data ∷ [])
+    → text ++ places_text closed entries before places ≡ whole → now ≡ whole
+end_one true entries before [] last text between now whole is some few one written all = absurd cc
+end_one true entries before (place ∷ []) last text between now whole is some few one written all =
+    let same : last ≡ place = cc in
+    written
+    ∙ ap (λ (xs : List ℕ). xs ++ sent_buffer (pdu.end_of_data ∷ [])) (one ∙ ap (λ n. text ++ sent_buffer (tree_at entries before n ∷ [])) same)
+    ∙ append_assoc text (sent_buffer (tree_at entries before place ∷ [])) (sent_buffer (pdu.end_of_data ∷ [])) ∙ all
+end_one true entries before (first ∷ second ∷ places) last text between now whole is some few one written all = absurd (omega arith)
+end_one false entries before places last text between now whole is some few one written all = absurd cc
