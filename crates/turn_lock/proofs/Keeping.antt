@@ -1,18 +1,20 @@
 -- Each step keeps the rule of the table.
-use Rattle.std.proofs.Common.{◌≡◌, ◌≢◌, ◌⊎◌, ◌==◌, ℕ, ◌+◌, ◌-◌, ◌%◌, ◌^◌, ◌<◌, ◌≤◌, Bool, true, false, List, [], ◌∷◌, ◌++◌, set, get_or, Option, Some, None, IsSome, MatchBool, if◌then◌else◌, inl, inr, ⊎_elim, refl, sym, ap, ◌∙◌, subst, arith, eq-eqb, ne_eqb}
+use Rattle.std.proofs.Common.{◌≡◌, ◌≢◌, ◌⊎◌, ◌==◌, ℕ, zero, suc, ◌+◌, ◌-◌, ◌%◌, ◌^◌, ◌<◌, ◌≤◌, Bool, true, false, List, [], ◌∷◌, ◌++◌, set, get_or, length, length-append, Option, Some, None, IsSome, MatchBool, if◌then◌else◌, inl, inr, ⊎_elim, refl, sym, ap, ◌∙◌, subst, arith, eq-eqb, ne_eqb}
 use Rattle.std.specs.List.{sum_by}
 use Rattle.std.proofs.lemmas.List.Sums.{sum_by-cons, sum_by-append}
+use mathlib.Core.List.{IsPrefix}
 use mathlib.Core.Logic.{dite}
-use mathlib.Core.Option.{none, some, some-injective}
+use mathlib.Core.Option.{none, some, some-injective, some-ne-none}
 use mathlib.Core.Option as maybe
 use native.Mathlib.Decide.{ℕ_discrete}
 use lib.ListN.{get_elem?}
 use prog.Atomic.{either}
-use Rattle.atomic_table.specs.Table.{State, Me, step, keeps, takes, gives, rest, put_back, Allows, Splits, Joins}
+use Rattle.atomic_table.specs.Table.{State, Me, opening, step, keeps, takes, gives, rest, put_back, Allows, Splits, Joins}
 use Rattle.atomic_table.proofs.Lists.{at_set, at_snoc, at_longer, set_else}
 use Rattle.turn_lock.specs.declared.view.View.{View}
-use Rattle.turn_lock.specs.Rule.{drawn, is_ticket, spent_view, IsOf, Fits, IsHome, IsOut, Kept}
-use Rattle.turn_lock.specs.Steps.{entering, holding, resting, giving, given, Draws, Takes, Looks, Ends, Learns, Closes}
+use Rattle.turn_lock.specs.Rule.{counts, pending, is_ticket, with_added, fresh_view, spent_view, IsOf, Fits, IsHome, IsOut, Kept}
+use Rattle.turn_lock.specs.Steps.{entering, holding, seeing, adding, resting, giving, given, Draws, Takes, Looks, Sees, Adds, Ends, Learns, Closes}
+use Rattle.turn_lock.proofs.Prefixes.{prefix_self, prefix_same, prefix_trans}
 use Rattle.turn_lock.proofs.Sums.{sum_set, one_of, two_of, sum_none, here_set}
 
 is_ticket-small : (n : ℕ) (t : Option ℕ) → is_ticket n t ≤ 1
@@ -25,8 +27,11 @@ is_ticket-same n t e = ap (is_ticket n) e ∙ ap (λ (b : Bool). if b then 1 els
 is_ticket-other : (n t : ℕ) → t ≢ n → is_ticket n (Some t) ≡ 0
 is_ticket-other n t other = ap (λ (b : Bool). if b then 1 else 0) (ne_eqb t n other)
 
-drawn-some : (n : ℕ) (t : Option ℕ) → t ≡ Some n → drawn t ≡ 1
-drawn-some n t e = ap drawn e
+counts-some : {A : Type 0} (a : A) (o : Option A) → o ≡ Some a → counts o ≡ 1
+counts-some a o e = ap counts e
+
+not_both : {A : Type 0} (o : Option A) (a : A) → o ≡ None → ¬ (o ≡ Some a)
+not_both o a e d = let k : None ≡ Some a = sym e ∙ d in absurd (cc k)
 
 none_not_some : {A : Type 0} (o : Option A) → o ≡ None → ¬ IsSome o
 none_not_some {A = A} o e k = let h : IsSome {T = A} None = subst (λ (x : Option A). IsSome x) e k in absurd (cc h)
@@ -73,53 +78,89 @@ module _ {T E O : Type 0} (origin : T → O) (stands : T → List E → Type 0) 
   of_same v w t some_view (Some o) k = (k.0, t ∙ k.1)
   of_same v w t some_view None k = absurd (some_view k)
 
-  -- the seat `id` goes from v to w, and the words and the slot change
-  moved : (s : S) (r : Rule s) (id : ℕ) (v w : V) (ticket serving : ℕ) (homes : List (maybe.Option (Option T))) → get_elem? s.views id ≡ some v → r.ticket ≤ ticket
-      → (serving + drawn w.ticket) + r.ticket ≡ (r.serving + drawn v.ticket) + ticket
+  abbrev Homes : Type 0
+  Homes = List (maybe.Option (Option T))
+
+  -- the seat `id` goes from v to w, and the words, the history and the slot change
+  moved : (s : S) (r : Rule s) (id : ℕ) (v w : V) (ticket serving : ℕ) (log : List E) (homes : Homes) → get_elem? s.views id ≡ some v → r.ticket ≤ ticket
+      → (serving + counts w.ticket) + r.ticket ≡ (r.serving + counts v.ticket) + ticket
       → ((n : ℕ) → (is_ticket n w.ticket ≤ is_ticket n v.ticket) ⊎ ((r.ticket ≤ n) × (n < ticket)))
-      → w.entered + r.ticket ≡ v.entered + ticket → w.left + ticket ≤ v.left + r.ticket
-      → Fits first turns serving w → ((j : ℕ) (u : V) → j ≢ id → get_elem? s.views j ≡ some u → Fits first turns serving u)
-      → IsHome origin stands first homes ⊎ IsOut homes (set s.views id w)
-      → Rule record { words = ticket ∷ serving ∷ []; homes = homes; views = set s.views id w }
-  moved s r id v w ticket serving homes at more waiting tickets entered left mine others slot = record {
+      → w.entered + r.ticket ≡ v.entered + ticket → (length log + pending w) + r.ticket ≤ (length r.log + pending v) + ticket → w.left + ticket ≤ v.left + r.ticket
+      → Fits first turns serving log homes w → ((j : ℕ) (u : V) → j ≢ id → get_elem? s.views j ≡ some u → Fits first turns serving log homes u)
+      → IsHome origin stands first log homes ⊎ IsOut homes (set s.views id w)
+      → Rule record { words = ticket ∷ serving ∷ length log ∷ []; homes = homes; views = set s.views id w }
+  moved s r id v w ticket serving log homes at more waiting tickets entered few left mine others slot = record {
     ticket = ticket;
     serving = serving;
+    log = log;
     words = refl;
-    waiting = omega (arith, sum_set (λ (u : V). drawn u.ticket) s.views id v w at, r.waiting);
+    waiting = omega (arith, sum_set (λ (u : V). counts u.ticket) s.views id v w at, r.waiting);
     once = λ n. ⊎_elim (λ (l : is_ticket n w.ticket ≤ is_ticket n v.ticket). omega (arith, sum_set (λ (u : V). is_ticket n u.ticket) s.views id v w at, r.once n))
         (λ (l : (r.ticket ≤ n) × (n < ticket)). omega (arith, sum_set (λ (u : V). is_ticket n u.ticket) s.views id v w at, r.undrawn n l.0, is_ticket-small n w.ticket)) (tickets n);
     undrawn = λ n l. ⊎_elim (λ (t : is_ticket n w.ticket ≤ is_ticket n v.ticket). omega (arith, sum_set (λ (u : V). is_ticket n u.ticket) s.views id v w at, r.undrawn n (omega arith)))
         (λ (t : (r.ticket ≤ n) × (n < ticket)). absurd (omega arith)) (tickets n);
     entered = omega (arith, sum_set (λ (u : V). u.entered) s.views id v w at, r.entered);
+    few = omega (arith, sum_set pending s.views id v w at, r.few);
     bounded = omega (arith, sum_set (λ (u : V). u.left) s.views id v w at, r.bounded);
-    each_view = λ j u e. ⊎_elim (λ (t : (j ≡ id) × (w ≡ u)). subst (Fits first turns serving) t.1 mine) (λ (t : (j ≢ id) × (get_elem? s.views j ≡ some u)). others j u t.0 t.1) (at_set s.views id j w u e);
+    each_view = λ j u e. ⊎_elim (λ (t : (j ≡ id) × (w ≡ u)). subst (Fits first turns serving log homes) t.1 mine) (λ (t : (j ≢ id) × (get_elem? s.views j ≡ some u)). others j u t.0 t.1) (at_set s.views id j w u e);
     slot = slot;
   }
 
-  abbrev HomeOrOut : List (maybe.Option (Option T)) → List V → Type 0
-  HomeOrOut homes views = IsHome origin stands first homes ⊎ IsOut homes views
+  abbrev HomeOrOut : List E → Homes → List V → Type 0
+  HomeOrOut log homes views = IsHome origin stands first log homes ⊎ IsOut homes views
 
   same_view : (views : List V) (i j : ℕ) (v u : V) → j ≡ i → get_elem? views i ≡ some v → get_elem? views j ≡ some u → u ≡ v
   same_view views i j v u e at there = some-injective u v (sym there ∙ ap (get_elem? views) e ∙ at)
 
   -- the value is where it was
-  slot_stays : (homes : List (maybe.Option (Option T))) (views : List V) (id : ℕ) (v w : V) → get_elem? views id ≡ some v → (IsSome v.kept → IsSome w.kept)
-      → HomeOrOut homes views → HomeOrOut homes (set views id w)
-  slot_stays homes views id v w at still (inl home) = inl home
-  slot_stays homes views id v w at still (inr out) = let j = out.0 in let u = out.1 in inr (dite (ℕ_discrete j id)
-      (λ (e : j ≡ id). (id, w, out.2, here_set views id v w at, still (subst (λ (x : V). IsSome x.kept) (same_view views id j v u e at out.3) out.4)))
-      (λ (other : j ≢ id). (j, u, out.2, set_else views id j w other ∙ out.3, out.4)))
+  out_stays : (homes : Homes) (views : List V) (id : ℕ) (v w : V) → get_elem? views id ≡ some v → w.kept ≡ v.kept → IsOut homes views → IsOut homes (set views id w)
+  out_stays homes views id v w at still out = let j = out.0 in let u = out.1 in dite (ℕ_discrete j id)
+      (λ (e : j ≡ id). (id, w, out.2, out.3, here_set views id v w at, still ∙ (ap (λ (x : V). x.kept) (sym (same_view views id j v u e at out.4)) ∙ out.5)))
+      (λ (other : j ≢ id). (j, u, out.2, out.3, set_else views id j w other ∙ out.4, out.5))
 
-  longer_views : (homes : List (maybe.Option (Option T))) (views : List V) (w : V) → HomeOrOut homes views → HomeOrOut homes (views ++ w ∷ [])
-  longer_views homes views w (inl home) = inl home
-  longer_views homes views w (inr out) = inr (out.0, out.1, out.2, at_longer views (w ∷ []) out.0 out.1 out.3, out.4)
+  slot_stays : (log : List E) (homes : Homes) (views : List V) (id : ℕ) (v w : V) → get_elem? views id ≡ some v → w.kept ≡ v.kept → HomeOrOut log homes views → HomeOrOut log homes (set views id w)
+  slot_stays log homes views id v w at still (inl home) = inl home
+  slot_stays log homes views id v w at still (inr out) = inr (out_stays homes views id v w at still out)
+
+  -- the history goes on while a seat has the value
+  slot_goes_on : (log more : List E) (homes : Homes) (views : List V) (id : ℕ) (v w : V) → get_elem? views id ≡ some v → w.kept ≡ v.kept → homes ≡ none ∷ [] → HomeOrOut log homes views → HomeOrOut more homes (set views id w)
+  slot_goes_on log more homes views id v w at still empty (inl home) = absurd (some-ne-none (Some home.0) (ap (λ (hs : Homes). get_or hs 0 none) (sym home.1 ∙ empty)))
+  slot_goes_on log more homes views id v w at still empty (inr out) = inr (out_stays homes views id v w at still out)
+
+  longer_views : (log : List E) (homes : Homes) (views : List V) (w : V) → HomeOrOut log homes views → HomeOrOut log homes (views ++ w ∷ [])
+  longer_views log homes views w (inl home) = inl home
+  longer_views log homes views w (inr out) = inr (out.0, out.1, out.2, out.3, at_longer views (w ∷ []) out.0 out.1 out.4, out.5)
+
+  one_view : (serving : ℕ) (log : List E) (homes : Homes) (v : V) → Fits first turns serving log homes v → (j : ℕ) (u : V) → get_elem? (v ∷ []) j ≡ some u → Fits first turns serving log homes u
+  one_view serving log homes v fit zero u e = subst (Fits first turns serving log homes) (some-injective v u e) fit
+  one_view serving log homes v fit (suc j) u e = absurd (some-ne-none u (sym e))
+
+  -- a new table, whose value stands for no events
+  pub starts : (slots : List (Option T)) (x : T) → slots ≡ Some x ∷ [] → origin x ≡ first → stands x [] → Rule (opening (0 ∷ 0 ∷ 0 ∷ []) slots (fresh_view first turns (turns + 1)))
+  starts slots x full mine st =
+      let v : V = fresh_view first turns (turns + 1) in
+      let fit : Fits {T = T} first turns 0 [] (some (Some x) ∷ []) v = record { of = (refl, refl); counted = omega arith; holding = λ h k. absurd (not_both v.kept h refl k); early = omega arith; prefix = ([], refl) } in
+      subst (λ (xs : List (Option T)). Rule (opening (0 ∷ 0 ∷ 0 ∷ []) xs v)) (sym full) (record {
+        ticket = 0;
+        serving = 0;
+        log = [];
+        words = refl;
+        waiting = omega (arith, sum_by-cons (λ (u : V). counts u.ticket) v []);
+        once = λ n. omega (arith, sum_by-cons (λ (u : V). is_ticket n u.ticket) v []);
+        undrawn = λ n l. omega (arith, sum_by-cons (λ (u : V). is_ticket n u.ticket) v []);
+        entered = omega (arith, sum_by-cons (λ (u : V). u.entered) v []);
+        few = omega (arith, sum_by-cons pending v []);
+        bounded = omega (arith, sum_by-cons (λ (u : V). u.left) v []);
+        each_view = λ j u e. one_view 0 [] (some (Some x) ∷ []) v fit j u e;
+        slot = inl (x, refl, mine, st);
+      })
 
   -- another seat with this ticket is no other seat
   one_seat : (s : S) (r : Rule s) (i j : ℕ) (v u : V) (n : ℕ) → get_elem? s.views i ≡ some v → get_elem? s.views j ≡ some u → v.ticket ≡ Some n → u.ticket ≡ Some n → j ≡ i
   one_seat s r i j v u n at there e d = dite (ℕ_discrete j i) (λ (same : j ≡ i). same)
       (λ (other : j ≢ i). absurd (omega (arith, two_of (λ (x : V). is_ticket n x.ticket) s.views j i u v other there at, is_ticket-same n v.ticket e, is_ticket-same n u.ticket d, r.once n)))
 
-  -- what a view with a ticket that is drawn now says of tickets
+  -- what a view with a ticket that is counts now says of tickets
   drawn_now : (r t : ℕ) (v : Option ℕ) → (n : ℕ) → t ≡ r → (is_ticket n (Some t) ≤ is_ticket n v) ⊎ ((r ≤ n) × (n < r + 1))
   drawn_now r t v n e = dite (ℕ_discrete t n) (λ (d : t ≡ n). inr (omega arith, omega arith)) (λ (d : t ≢ n). inl (omega (arith, is_ticket-other n t d)))
 
@@ -130,8 +171,8 @@ module _ {T E O : Type 0} (origin : T → O) (stands : T → List E → Type 0) 
       let here : found ≡ r.ticket = ap (λ (ws : List ℕ). get_or ws 0 0) r.words in
       let v : V = me.0 in
       let w : V = entering v found in
-      let fit : Fits first turns r.serving v = r.each_view id v at in
-      let none_drawn : drawn v.ticket ≡ 0 = ap drawn no_ticket in
+      let fit : Fits first turns r.serving r.log s.homes v = r.each_view id v at in
+      let none_drawn : counts v.ticket ≡ 0 = ap counts no_ticket in
       let some_view : v ≢ spent_view = λ e. absurd (omega (arith, ap (λ (u : V). u.left) e)) in
       let b = r.bounded in
       let up : (r.ticket + 1) % 2 ^ 64 ≡ r.ticket + 1 = omega arith in (
@@ -139,35 +180,44 @@ module _ {T E O : Type 0} (origin : T → O) (stands : T → List E → Type 0) 
         keeps,
         tt,
         subst (λ (ws : List ℕ). Rule record { words = set ws 0 ((get_or ws 0 0 + 1) % 2 ^ 64); homes = s.homes; views = set s.views id w }) (sym r.words)
-            (subst (λ (n : ℕ). Rule record { words = n ∷ r.serving ∷ []; homes = s.homes; views = set s.views id w }) (sym up)
-            (moved s r id v w (r.ticket + 1) r.serving s.homes at (omega arith) (omega arith) (λ n. drawn_now r.ticket found v.ticket n here) (omega arith) (omega arith)
+            (subst (λ (n : ℕ). Rule record { words = n ∷ r.serving ∷ length r.log ∷ []; homes = s.homes; views = set s.views id w }) (sym up)
+            (moved s r id v w (r.ticket + 1) r.serving r.log s.homes at (omega arith) (omega arith) (λ n. drawn_now r.ticket found v.ticket n here) (omega arith) (omega arith) (omega arith)
             (record {
               of = of_same v w refl some_view v.origin fit.of;
               counted = omega arith;
-              holding = λ some_value. absurd (none_not_some v.kept no_value some_value);
+              holding = λ h k. absurd (not_both v.kept h no_value k);
+              early = fit.early;
+              prefix = fit.prefix;
             })
             (λ j u _ e. r.each_view j u e)
-            (slot_stays s.homes s.views id v w at (λ some_value. some_value) r.slot))),
+            (slot_stays r.log s.homes s.views id v w at refl r.slot))),
         refl,
       )
 
+  -- the slot is empty now
+  emptied : (s : S) (r : Rule s) (u : V) → Fits first turns r.serving r.log s.homes u → Fits {T = T} first turns r.serving r.log (none ∷ []) u
+  emptied s r u f = record { of = f.of; counted = f.counted; holding = λ h k. ((f.holding h k).0, refl, (f.holding h k).2); early = f.early; prefix = f.prefix }
+
   -- the seat takes the value that is at home, as its ticket is served
   taken : (s : S) (r : Rule s) (id : ℕ) (v w : V) (ticket : ℕ) → get_elem? s.views id ≡ some v → r.ticket ≤ ticket
-      → (r.serving + drawn w.ticket) + r.ticket ≡ (r.serving + drawn v.ticket) + ticket
+      → (r.serving + counts w.ticket) + r.ticket ≡ (r.serving + counts v.ticket) + ticket
       → ((n : ℕ) → (is_ticket n w.ticket ≤ is_ticket n v.ticket) ⊎ ((r.ticket ≤ n) × (n < ticket)))
-      → w.entered + r.ticket ≡ v.entered + ticket → w.left + ticket ≤ v.left + r.ticket
-      → IsOf first turns w w.origin → drawn w.ticket ≤ w.entered → w.ticket ≡ Some r.serving → IsSome w.kept
-      → Rule record { words = ticket ∷ r.serving ∷ []; homes = none ∷ []; views = set s.views id w }
-  taken s r id v w ticket at more waiting tickets entered left of counted served value =
-      moved s r id v w ticket r.serving (none ∷ []) at more waiting tickets entered left (record { of = of; counted = counted; holding = λ _. served }) (λ j u _ e. r.each_view j u e)
-      (inr (id, w, refl, here_set s.views id v w at, value))
+      → w.entered + r.ticket ≡ v.entered + ticket → pending w + r.ticket ≤ pending v + ticket → w.left + ticket ≤ v.left + r.ticket
+      → IsOf first turns w w.origin → counts w.ticket ≤ w.entered → w.ticket ≡ Some r.serving → w.kept ≡ Some r.log → w.added ≡ None → IsPrefix w.seen r.log
+      → Rule record { words = ticket ∷ r.serving ∷ length r.log ∷ []; homes = none ∷ []; views = set s.views id w }
+  taken s r id v w ticket at more waiting tickets entered few left of counted served value nothing prefix =
+      let none_added : counts w.added ≡ 0 = ap counts nothing in
+      moved s r id v w ticket r.serving r.log (none ∷ []) at more waiting tickets entered (omega (arith, few)) left
+      (record { of = of; counted = counted; holding = λ h k. (served, refl, some_same w.kept r.log h value k ∙ ap (with_added h) (sym nothing)); early = omega arith; prefix = prefix })
+      (λ j u _ e. emptied s r u (r.each_view j u e))
+      (inr (id, w, r.log, refl, here_set s.views id v w at, value))
 
   -- where the seat's ticket is served and it has no value, the value is at home
-  at_home : (s : S) (r : Rule s) (id : ℕ) (v : V) → get_elem? s.views id ≡ some v → v.ticket ≡ Some r.serving → v.kept ≡ None → HomeOrOut s.homes s.views → IsHome origin stands first s.homes
+  at_home : (s : S) (r : Rule s) (id : ℕ) (v : V) → get_elem? s.views id ≡ some v → v.ticket ≡ Some r.serving → v.kept ≡ None → HomeOrOut r.log s.homes s.views → IsHome origin stands first r.log s.homes
   at_home s r id v at served no_value (inl home) = home
   at_home s r id v at served no_value (inr out) = let j = out.0 in let u = out.1 in
-      let same : u ≡ v = same_view s.views id j v u (one_seat s r id j v u r.serving at out.3 served ((r.each_view j u out.3).holding out.4)) at out.3 in
-      absurd (none_not_some v.kept no_value (subst (λ (x : V). IsSome x.kept) same out.4))
+      let same : u ≡ v = same_view s.views id j v u (one_seat s r id j v u r.serving at out.4 served ((r.each_view j u out.4).holding out.2 out.5).0) at out.4 in
+      absurd (not_both v.kept out.2 no_value (ap (λ (x : V). x.kept) (sym same) ∙ out.5))
 
   has_origin : (v : V) (x : O) (o : Option O) → v ≢ spent_view → IsOf first turns v o → x ≡ first → o ≡ Some x
   has_origin v x (Some o) some_view k e = ap Some (k.0 ∙ sym e)
@@ -178,47 +228,50 @@ module _ {T E O : Type 0} (origin : T → O) (stands : T → List E → Type 0) 
       let found : ℕ = get_or s.words 1 0 in
       let here : found ≡ r.serving = ap (λ (ws : List ℕ). get_or ws 1 0) r.words in
       let v : V = me.0 in
-      let fit : Fits first turns r.serving v = r.each_view id v at in
+      let fit : Fits first turns r.serving r.log s.homes v = r.each_view id v at in
+      let early = fit.early in
+      let no_kept : counts v.kept ≡ 0 = ap counts no_value in
       let some_view : v ≢ spent_view = λ e. let d : Some n ≡ None = sym ticket ∙ ap (λ (u : V). u.ticket) e in absurd (cc d) in
       dite (ℕ_discrete found n)
       (λ (hit : found ≡ n).
       let served : v.ticket ≡ Some r.serving = ticket ∙ ap Some (sym hit ∙ here) in
       let home = at_home s r id v at served no_value r.slot in
-      let w : V = holding v home.1 in (
+      let w : V = holding v r.log in (
         w,
         takes 0 (Some home.0),
-        ap (λ (hs : List (maybe.Option (Option T))). get_elem? hs 0) home.2,
+        ap (λ (hs : Homes). get_elem? hs 0) home.1,
         subst (λ (ws : List ℕ). Rule record { words = set ws 1 (get_or ws 1 0); homes = set s.homes 0 none; views = set s.views id w }) (sym r.words)
-            (subst (λ (hs : List (maybe.Option (Option T))). Rule record { words = r.ticket ∷ r.serving ∷ []; homes = set hs 0 none; views = set s.views id w }) (sym home.2)
-            (taken s r id v w r.ticket at (omega arith) (omega arith) (λ k. inl (omega arith)) (omega arith) (omega arith) (of_same v w refl some_view v.origin fit.of) fit.counted served refl)),
-        λ k e. match_true (found == k) _ _ (eq-eqb found k (hit ∙ some_same v.ticket n k ticket e)) (home.0, home.1, refl, has_origin v (origin home.0) v.origin some_view fit.of home.3, home.4),
+            (subst (λ (hs : Homes). Rule record { words = r.ticket ∷ r.serving ∷ length r.log ∷ []; homes = set hs 0 none; views = set s.views id w }) (sym home.1)
+            (taken s r id v w r.ticket at (omega arith) (omega arith) (λ k. inl (omega arith)) (omega arith) (omega arith) (omega arith) (of_same v w refl some_view v.origin fit.of) fit.counted served refl refl fit.prefix)),
+        λ k e. match_true (found == k) _ _ (eq-eqb found k (hit ∙ some_same v.ticket n k ticket e)) (home.0, r.log, refl, has_origin v (origin home.0) v.origin some_view fit.of home.2, home.3, fit.prefix),
       ))
       (λ (miss : found ≢ n). (
         v,
         keeps,
         tt,
         subst (λ (ws : List ℕ). Rule record { words = set ws 1 (get_or ws 1 0); homes = s.homes; views = set s.views id v }) (sym r.words)
-            (moved s r id v v r.ticket r.serving s.homes at (omega arith) (omega arith) (λ k. inl (omega arith)) (omega arith) (omega arith) fit (λ j u _ e. r.each_view j u e)
-            (slot_stays s.homes s.views id v v at (λ k. k) r.slot)),
+            (moved s r id v v r.ticket r.serving r.log s.homes at (omega arith) (omega arith) (λ k. inl (omega arith)) (omega arith) (omega arith) (omega arith) fit (λ j u _ e. r.each_view j u e)
+            (slot_stays r.log s.homes s.views id v v at refl r.slot)),
         λ k e. match_false (found == k) _ _ (ne_eqb found k (λ same. miss (same ∙ sym (some_same v.ticket n k ticket e)))) refl,
       ))
 
   -- the slot is one place
-  one_place : (homes : List (maybe.Option (Option T))) (views : List V) → HomeOrOut homes views → (x : maybe.Option (Option T)) × (homes ≡ x ∷ [])
-  one_place homes views (inl home) = (some (Some home.0), home.2)
-  one_place homes views (inr out) = (none, out.2)
+  one_place : (log : List E) (homes : Homes) (views : List V) → HomeOrOut log homes views → (x : maybe.Option (Option T)) × (homes ≡ x ∷ [])
+  one_place log homes views (inl home) = (some (Some home.0), home.1)
+  one_place log homes views (inr out) = (none, out.3)
 
-  pub ends : (slots id : ℕ) (me : M) (x : T) (h : List E) → turns ≤ 2 ^ 62 → me.1 ≡ (0, Some x) ∷ [] → IsSome me.0.kept → me.0.origin ≡ Some (origin x) → stands x h
+  pub ends : (slots id : ℕ) (me : M) (x : T) (h : List E) → turns ≤ 2 ^ 62 → me.1 ≡ (0, Some x) ∷ [] → me.0.kept ≡ Some h → me.0.origin ≡ Some (origin x) → stands x (with_added h me.0.added)
       → Allows Rule slots id me 1 (λ n. (n + 1) % 2 ^ 64) (Ends (step slots 1 1 0 none) me)
   ends slots id me x h small carries value o st s r long at fits =
       let v : V = me.0 in
       let w : V = resting v in
-      let fit : Fits first turns r.serving v = r.each_view id v at in
-      let served : v.ticket ≡ Some r.serving = fit.holding value in
-      let one : drawn v.ticket ≡ 1 = drawn-some r.serving v.ticket served in
-      let some_view : v ≢ spent_view = λ e. none_not_some v.kept (ap (λ (u : V). u.kept) e) value in
+      let fit : Fits first turns r.serving r.log s.homes v = r.each_view id v at in
+      let hold = fit.holding h value in
+      let served : v.ticket ≡ Some r.serving = hold.0 in
+      let one : counts v.ticket ≡ 1 = counts-some r.serving v.ticket served in
+      let some_view : v ≢ spent_view = λ e. not_both v.kept h (ap (λ (u : V). u.kept) e) value in
       let mine : origin x ≡ first = (subst (IsOf first turns v) o fit.of).0 in
-      let place = one_place s.homes s.views r.slot in
+      let place = one_place r.log s.homes s.views r.slot in
       let b = r.bounded in
       let wait = r.waiting in
       let up : (r.serving + 1) % 2 ^ 64 ≡ r.serving + 1 = omega arith in (
@@ -226,15 +279,69 @@ module _ {T E O : Type 0} (origin : T → O) (stands : T → List E → Type 0) 
         gives,
         tt,
         subst (λ (ws : List ℕ). Rule record { words = set ws 1 ((get_or ws 1 0 + 1) % 2 ^ 64); homes = put_back s.homes me.1; views = set s.views id w }) (sym r.words)
-            (subst (λ (cs : List (ℕ × Option T)). Rule record { words = r.ticket ∷ ((r.serving + 1) % 2 ^ 64) ∷ []; homes = put_back s.homes cs; views = set s.views id w }) (sym carries)
-            (subst (λ (hs : List (maybe.Option (Option T))). Rule record { words = r.ticket ∷ ((r.serving + 1) % 2 ^ 64) ∷ []; homes = set hs 0 (some (Some x)); views = set s.views id w }) (sym place.1)
-            (subst (λ (n : ℕ). Rule record { words = r.ticket ∷ n ∷ []; homes = some (Some x) ∷ []; views = set s.views id w }) (sym up)
-            (moved s r id v w r.ticket (r.serving + 1) (some (Some x) ∷ []) at (omega arith) (omega arith) (λ n. inl (omega arith)) (omega arith) (omega arith)
-            (record { of = of_same v w refl some_view v.origin fit.of; counted = omega arith; holding = λ k. absurd (none_not_some w.kept refl k) })
-            (λ j u other there. let known : Fits first turns r.serving u = r.each_view j u there in
-            record { of = known.of; counted = known.counted; holding = λ k. absurd (other (one_seat s r id j v u r.serving at there served (known.holding k))) })
-            (inl (x, h, refl, mine, st)))))),
+            (subst (λ (cs : List (ℕ × Option T)). Rule record { words = r.ticket ∷ ((r.serving + 1) % 2 ^ 64) ∷ length r.log ∷ []; homes = put_back s.homes cs; views = set s.views id w }) (sym carries)
+            (subst (λ (hs : Homes). Rule record { words = r.ticket ∷ ((r.serving + 1) % 2 ^ 64) ∷ length r.log ∷ []; homes = set hs 0 (some (Some x)); views = set s.views id w }) (sym place.1)
+            (subst (λ (n : ℕ). Rule record { words = r.ticket ∷ n ∷ length r.log ∷ []; homes = some (Some x) ∷ []; views = set s.views id w }) (sym up)
+            (moved s r id v w r.ticket (r.serving + 1) r.log (some (Some x) ∷ []) at (omega arith) (omega arith) (λ n. inl (omega arith)) (omega arith) (omega arith) (omega arith)
+            (record { of = of_same v w refl some_view v.origin fit.of; counted = omega arith; holding = λ k e. absurd (not_both w.kept k refl e); early = omega arith; prefix = fit.prefix })
+            (λ j u other there. let known : Fits first turns r.serving r.log s.homes u = r.each_view j u there in
+            record { of = known.of; counted = known.counted; holding = λ k e. absurd (other (one_seat s r id j v u r.serving at there served (known.holding k e).0)); early = known.early; prefix = known.prefix })
+            (inl (x, refl, mine, subst (stands x) (sym hold.2) st)))))),
         refl,
+      )
+
+  pub adds : (slots id : ℕ) (me : M) (h : List E) (e : E) → turns ≤ 2 ^ 62 → me.0.kept ≡ Some h → me.0.added ≡ None
+      → Allows Rule slots id me 2 (λ n. (n + 1) % 2 ^ 64) (Adds (Some e) (step slots 2 1 0 none) me)
+  adds slots id me h e small value nothing s r long at fits =
+      let v : V = me.0 in
+      let w : V = adding v h (Some e) in
+      let fit : Fits first turns r.serving r.log s.homes v = r.each_view id v at in
+      let hold = fit.holding h value in
+      let served : v.ticket ≡ Some r.serving = hold.0 in
+      let log_is : r.log ≡ h = hold.2 ∙ ap (with_added h) nothing in
+      let log : List E = r.log ++ e ∷ [] in
+      let one : counts v.ticket ≡ 1 = counts-some r.serving v.ticket served in
+      let none_added : counts v.added ≡ 0 = ap counts nothing in
+      let some_kept : counts v.kept ≡ 1 = counts-some h v.kept value in
+      let some_view : v ≢ spent_view = λ d. not_both v.kept h (ap (λ (u : V). u.kept) d) value in
+      let here : get_or s.words 2 0 ≡ length r.log = ap (λ (ws : List ℕ). get_or ws 2 0) r.words in
+      let longer : length log ≡ length r.log + 1 = length-append r.log (e ∷ []) in
+      let up : (length r.log + 1) % 2 ^ 64 ≡ length log = omega (arith, r.bounded, r.few, one_of pending s.views id v at) in (
+        w,
+        keeps,
+        tt,
+        subst (λ (ws : List ℕ). Rule record { words = set ws 2 ((get_or ws 2 0 + 1) % 2 ^ 64); homes = s.homes; views = set s.views id w }) (sym r.words)
+            (subst (λ (n : ℕ). Rule record { words = r.ticket ∷ r.serving ∷ n ∷ []; homes = s.homes; views = set s.views id w }) (sym up)
+            (moved s r id v w r.ticket r.serving log s.homes at (omega arith) (omega arith) (λ n. inl (omega arith)) (omega arith) (omega arith) (omega arith)
+            (record {
+              of = of_same v w refl some_view v.origin fit.of;
+              counted = fit.counted;
+              holding = λ k d. (served, hold.1, ap (λ (l : List E). l ++ e ∷ []) (log_is ∙ some_same v.kept h k value d));
+              early = omega arith;
+              prefix = prefix_same (h ++ e ∷ []) log (ap (λ (l : List E). l ++ e ∷ []) (sym log_is));
+            })
+            (λ j u other there. let known : Fits first turns r.serving r.log s.homes u = r.each_view j u there in
+            record { of = known.of; counted = known.counted; holding = λ k d. absurd (other (one_seat s r id j v u r.serving at there served (known.holding k d).0)); early = known.early; prefix = prefix_trans u.seen r.log log known.prefix (e ∷ [], refl) })
+            (slot_goes_on r.log log s.homes s.views id v w at refl hold.1 r.slot))),
+        λ k d. let same : h ≡ k = some_same v.kept h k value d in (ap (λ (l : List E). (adding v l (Some e), me.1)) same, sym (here ∙ ap length (log_is ∙ same))),
+      )
+
+  pub sees : (slots id : ℕ) (me : M) (o : O) → me.0.origin ≡ Some o → Allows Rule slots id me 2 (λ k. k) (Sees (step slots 2 0 0 none) me)
+  sees slots id me o is s r long at fits =
+      let v : V = me.0 in
+      let w : V = seeing v r.log in
+      let fit : Fits first turns r.serving r.log s.homes v = r.each_view id v at in
+      let here : get_or s.words 2 0 ≡ length r.log = ap (λ (ws : List ℕ). get_or ws 2 0) r.words in
+      let some_view : v ≢ spent_view = λ e. let d : Some o ≡ None = sym is ∙ ap (λ (u : V). u.origin) e in absurd (cc d) in (
+        w,
+        keeps,
+        tt,
+        subst (λ (ws : List ℕ). Rule record { words = set ws 2 (get_or ws 2 0); homes = s.homes; views = set s.views id w }) (sym r.words)
+            (moved s r id v w r.ticket r.serving r.log s.homes at (omega arith) (omega arith) (λ k. inl (omega arith)) (omega arith) (omega arith) (omega arith)
+            (record { of = of_same v w refl some_view v.origin fit.of; counted = fit.counted; holding = fit.holding; early = fit.early; prefix = prefix_self r.log })
+            (λ j u _ e. r.each_view j u e)
+            (slot_stays r.log s.homes s.views id v w at refl r.slot)),
+        (r.log, refl, sym here, fit.prefix, λ h k. (fit.holding h k).2),
       )
 
   -- the turns of one view are at most all turns
@@ -248,14 +355,14 @@ module _ {T E O : Type 0} (origin : T → O) (stands : T → List E → Type 0) 
   pub learns : (slots id : ℕ) (me : M) (o : O) → me.0.origin ≡ Some o → Allows Rule slots id me 0 (λ k. k) (Learns (step slots 0 0 0 none) me)
   learns slots id me o is s r long at fits =
       let v : V = me.0 in
-      let fit : Fits first turns r.serving v = r.each_view id v at in
+      let fit : Fits first turns r.serving r.log s.homes v = r.each_view id v at in
       let some_view : v ≢ spent_view = λ e. let d : Some o ≡ None = sym is ∙ ap (λ (u : V). u.origin) e in absurd (cc d) in (
         v,
         keeps,
         tt,
         subst (λ (ws : List ℕ). Rule record { words = set ws 0 (get_or ws 0 0); homes = s.homes; views = set s.views id v }) (sym r.words)
-            (moved s r id v v r.ticket r.serving s.homes at (omega arith) (omega arith) (λ k. inl (omega arith)) (omega arith) (omega arith) fit (λ j u _ e. r.each_view j u e)
-            (slot_stays s.homes s.views id v v at (λ k. k) r.slot)),
+            (moved s r id v v r.ticket r.serving r.log s.homes at (omega arith) (omega arith) (λ k. inl (omega arith)) (omega arith) (omega arith) (omega arith) fit (λ j u _ e. r.each_view j u e)
+            (slot_stays r.log s.homes s.views id v v at refl r.slot)),
         (refl, all_turns v (v.left + v.entered) some_view v.origin fit.of (omega (arith, few_turns s r id v at, one_of (λ (u : V). u.entered) s.views id v at, r.entered))),
       )
 
@@ -263,34 +370,36 @@ module _ {T E O : Type 0} (origin : T → O) (stands : T → List E → Type 0) 
   split_sum : (f : V → ℕ) (views : List V) (id : ℕ) (v left right : V) → get_elem? views id ≡ some v → sum_by f (set views id left ++ right ∷ []) + f v ≡ sum_by f views + (f left + f right)
   split_sum f views id v left right at = omega (arith, sum_set f views id v left at, sum_by-append f (set views id left) (right ∷ []), sum_by-cons f right [])
 
-  pub splits : (id : ℕ) (v : V) (n : ℕ) (o : O) → n ≤ v.left → v.origin ≡ Some o → v.kept ≡ None → Splits Rule id v (giving v n) (given v n)
-  splits id v n o few is no_value s r at =
+  pub splits : (id : ℕ) (v : V) (n : ℕ) (o : O) → n ≤ v.left → v.origin ≡ Some o → Splits Rule id v (giving v n) (given v n)
+  splits id v n o few is s r at =
       let left : V = giving v n in
       let right : V = given v n in
-      let fit : Fits first turns r.serving v = r.each_view id v at in
+      let fit : Fits first turns r.serving r.log s.homes v = r.each_view id v at in
       let some_view : v ≢ spent_view = λ e. let d : Some o ≡ None = sym is ∙ ap (λ (u : V). u.origin) e in absurd (cc d) in
       record {
         ticket = r.ticket;
         serving = r.serving;
+        log = r.log;
         words = r.words;
-        waiting = omega (arith, split_sum (λ (u : V). drawn u.ticket) s.views id v left right at, r.waiting);
+        waiting = omega (arith, split_sum (λ (u : V). counts u.ticket) s.views id v left right at, r.waiting);
         once = λ k. omega (arith, split_sum (λ (u : V). is_ticket k u.ticket) s.views id v left right at, r.once k);
         undrawn = λ k l. omega (arith, split_sum (λ (u : V). is_ticket k u.ticket) s.views id v left right at, r.undrawn k l);
         entered = omega (arith, split_sum (λ (u : V). u.entered) s.views id v left right at, r.entered);
+        few = omega (arith, split_sum pending s.views id v left right at, r.few);
         bounded = omega (arith, split_sum (λ (u : V). u.left) s.views id v left right at, r.bounded);
         each_view = λ j u e. ⊎_elim
             (λ (here : get_elem? (set s.views id left) j ≡ some u). ⊎_elim
-            (λ (t : (j ≡ id) × (left ≡ u)). subst (Fits first turns r.serving) t.1 (record { of = of_same v left refl some_view v.origin fit.of; counted = fit.counted; holding = fit.holding }))
+            (λ (t : (j ≡ id) × (left ≡ u)). subst (Fits first turns r.serving r.log s.homes) t.1 (record { of = of_same v left refl some_view v.origin fit.of; counted = fit.counted; holding = fit.holding; early = fit.early; prefix = fit.prefix }))
             (λ (t : (j ≢ id) × (get_elem? s.views j ≡ some u)). r.each_view j u t.1) (at_set s.views id j left u here))
-            (λ (new : right ≡ u). subst (Fits first turns r.serving) new (record { of = of_same v right refl some_view v.origin fit.of; counted = omega arith; holding = λ k. absurd (none_not_some right.kept refl k) }))
+            (λ (new : right ≡ u). subst (Fits first turns r.serving r.log s.homes) new (record { of = of_same v right refl some_view v.origin fit.of; counted = omega arith; holding = λ h k. absurd (not_both right.kept h refl k); early = omega arith; prefix = fit.prefix }))
             (at_snoc (set s.views id left) right u j e);
-        slot = longer_views s.homes (set s.views id left) right (slot_stays s.homes s.views id v left at (λ k. k) r.slot);
+        slot = longer_views r.log s.homes (set s.views id left) right (slot_stays r.log s.homes s.views id v left at refl r.slot);
       }
 
-  pub stubs : (id : ℕ) (v : V) (o : O) → v.origin ≡ Some o → v.kept ≡ None → Splits Rule id v v (given v 0)
-  stubs id v o is no_value =
+  pub stubs : (id : ℕ) (v : V) (o : O) → v.origin ≡ Some o → Splits Rule id v v (given v 0)
+  stubs id v o is =
       let e : v.left - 0 ≡ v.left = omega arith in
-      subst (λ (u : V). Splits Rule id v u (given v 0)) (λ i. record v { left = e i }) (splits id v 0 o (omega arith) is no_value)
+      subst (λ (u : V). Splits Rule id v u (given v 0)) (λ i. record v { left = e i }) (splits id v 0 o (omega arith) is)
 
   -- the sum over the views where one seat takes in another
   join_sum : (f : V → ℕ) (views : List V) (id other : ℕ) (v w both_views : V) → get_elem? views id ≡ some v → get_elem? (set views id both_views) other ≡ some w
@@ -298,47 +407,54 @@ module _ {T E O : Type 0} (origin : T → O) (stands : T → List E → Type 0) 
   join_sum f views id other v w both_views at there = omega (arith, sum_set f views id v both_views at, sum_set f (set views id both_views) other w spent_view there)
 
   pub joins : (id other : ℕ) (v w u : V) (o : O) → v.origin ≡ Some o → v.ticket ≡ None → w.ticket ≡ None → v.kept ≡ None → w.kept ≡ None
-      → u.origin ≡ v.origin → u.turns ≡ v.turns → u.ticket ≡ None → u.kept ≡ None → u.left ≡ v.left + w.left → u.entered ≡ v.entered + w.entered
+      → u.origin ≡ v.origin → u.turns ≡ v.turns → u.ticket ≡ None → u.kept ≡ None → u.added ≡ v.added → u.left ≡ v.left + w.left → u.entered ≡ v.entered + w.entered
+      → ((l : List E) → IsPrefix v.seen l → IsPrefix w.seen l → IsPrefix u.seen l)
       → Joins Rule id v other w u spent_view
-  joins id other v w u o is v_ticket w_ticket v_value w_value u_origin u_turns u_ticket u_value u_left u_entered s r at apart there =
-      let fit : Fits first turns r.serving v = r.each_view id v at in
+  joins id other v w u o is v_ticket w_ticket v_value w_value u_origin u_turns u_ticket u_value u_added u_left u_entered u_seen s r at apart there =
+      let fit : Fits first turns r.serving r.log s.homes v = r.each_view id v at in
       let some_view : v ≢ spent_view = λ e. let d : Some o ≡ None = sym is ∙ ap (λ (x : V). x.origin) e in absurd (cc d) in
       let views : List V = set (set s.views id u) other spent_view in
-      let no_v : drawn v.ticket ≡ 0 = ap drawn v_ticket in
-      let no_w : drawn w.ticket ≡ 0 = ap drawn w_ticket in
-      let no_u : drawn u.ticket ≡ 0 = ap drawn u_ticket in
+      let no_v : counts v.ticket ≡ 0 = ap counts v_ticket in
+      let no_w : counts w.ticket ≡ 0 = ap counts w_ticket in
+      let no_u : counts u.ticket ≡ 0 = ap counts u_ticket in
+      let no_kept : counts v.kept ≡ 0 = ap counts v_value in
+      let early = fit.early in
+      let same_added : counts u.added ≡ counts v.added = ap counts u_added in
+      let other_there = ⊎_elim (λ (t : (other ≡ id) × (u ≡ w)). absurd (apart t.0)) (λ (t : (other ≢ id) × (get_elem? s.views other ≡ some w)). t.1) (at_set s.views id other u w there) in
+      let other_fit : Fits first turns r.serving r.log s.homes w = r.each_view other w other_there in
       let tickets = λ (k : ℕ). join_sum (λ (x : V). is_ticket k x.ticket) s.views id other v w u at there in
       let none_of = λ (k : ℕ) (x : V) (e : x.ticket ≡ None). ap (is_ticket k) e in
       record {
         ticket = r.ticket;
         serving = r.serving;
+        log = r.log;
         words = r.words;
-        waiting = omega (arith, join_sum (λ (x : V). drawn x.ticket) s.views id other v w u at there, r.waiting, no_v, no_w, no_u);
+        waiting = omega (arith, join_sum (λ (x : V). counts x.ticket) s.views id other v w u at there, r.waiting, no_v, no_w, no_u);
         once = λ k. omega (arith, tickets k, r.once k, none_of k v v_ticket, none_of k w w_ticket, none_of k u u_ticket);
         undrawn = λ k l. omega (arith, tickets k, r.undrawn k l, none_of k v v_ticket, none_of k w w_ticket, none_of k u u_ticket);
         entered = omega (arith, join_sum (λ (x : V). x.entered) s.views id other v w u at there, r.entered);
+        few = omega (arith, join_sum pending s.views id other v w u at there, r.few, no_v, no_w, no_u);
         bounded = omega (arith, join_sum (λ (x : V). x.left) s.views id other v w u at there, r.bounded);
         each_view = λ j x e. ⊎_elim
-            (λ (t : (j ≡ other) × (spent_view ≡ x)). subst (Fits first turns r.serving) t.1 (record { of = refl; counted = omega arith; holding = λ k. absurd (none_not_some {A = List E} None refl k) }))
+            (λ (t : (j ≡ other) × (spent_view ≡ x)). subst (Fits first turns r.serving r.log s.homes) t.1 (record { of = refl; counted = omega arith; holding = λ h k. absurd (not_both {A = List E} None h refl k); early = omega arith; prefix = (r.log, refl) }))
             (λ (t : (j ≢ other) × (get_elem? (set s.views id u) j ≡ some x)). ⊎_elim
-            (λ (h : (j ≡ id) × (u ≡ x)). subst (Fits first turns r.serving) h.1
-            (record { of = of_same v u u_turns some_view u.origin (subst (IsOf first turns v) (sym u_origin) fit.of); counted = omega arith; holding = λ k. absurd (none_not_some u.kept u_value k) }))
+            (λ (h : (j ≡ id) × (u ≡ x)). subst (Fits first turns r.serving r.log s.homes) h.1
+            (record { of = of_same v u u_turns some_view u.origin (subst (IsOf first turns v) (sym u_origin) fit.of); counted = omega arith; holding = λ k d. absurd (not_both u.kept k u_value d); early = omega arith; prefix = u_seen r.log fit.prefix other_fit.prefix }))
             (λ (h : (j ≢ id) × (get_elem? s.views j ≡ some x)). r.each_view j x h.1) (at_set s.views id j u x t.1))
             (at_set (set s.views id u) other j spent_view x e);
-        slot = slot_stays s.homes (set s.views id u) other w spent_view there (λ k. absurd (none_not_some w.kept w_value k))
-            (slot_stays s.homes s.views id v u at (λ k. absurd (none_not_some v.kept v_value k)) r.slot);
+        slot = slot_stays r.log s.homes (set s.views id u) other w spent_view there (sym w_value) (slot_stays r.log s.homes s.views id v u at (u_value ∙ sym v_value) r.slot);
       }
 
   -- where all turns were entered by one seat, which has no ticket, no view has one
-  none_drawn : (s : S) (r : Rule s) (id : ℕ) (v : V) → get_elem? s.views id ≡ some v → v.ticket ≡ None → v.entered ≡ r.ticket → (j : ℕ) (u : V) → get_elem? s.views j ≡ some u → drawn u.ticket ≡ 0
+  none_drawn : (s : S) (r : Rule s) (id : ℕ) (v : V) → get_elem? s.views id ≡ some v → v.ticket ≡ None → v.entered ≡ r.ticket → (j : ℕ) (u : V) → get_elem? s.views j ≡ some u → counts u.ticket ≡ 0
   none_drawn s r id v at no_ticket all j u there = dite (ℕ_discrete j id)
-      (λ (e : j ≡ id). ap (λ (x : V). drawn x.ticket) (same_view s.views id j v u e at there) ∙ ap drawn no_ticket)
+      (λ (e : j ≡ id). ap (λ (x : V). counts x.ticket) (same_view s.views id j v u e at there) ∙ ap counts no_ticket)
       (λ (other : j ≢ id). omega (arith, two_of (λ (x : V). x.entered) s.views j id u v other there at, r.entered, (r.each_view j u there).counted))
 
   -- then the value is at home
-  home_at_end : (s : S) (r : Rule s) → ((j : ℕ) (u : V) → get_elem? s.views j ≡ some u → drawn u.ticket ≡ 0) → HomeOrOut s.homes s.views → IsHome origin stands first s.homes
+  home_at_end : (s : S) (r : Rule s) → ((j : ℕ) (u : V) → get_elem? s.views j ≡ some u → counts u.ticket ≡ 0) → HomeOrOut r.log s.homes s.views → IsHome origin stands first r.log s.homes
   home_at_end s r none_of (inl home) = home
-  home_at_end s r none_of (inr out) = absurd (omega (arith, none_of out.0 out.1 out.3, drawn-some r.serving out.1.ticket ((r.each_view out.0 out.1 out.3).holding out.4)))
+  home_at_end s r none_of (inr out) = absurd (omega (arith, none_of out.0 out.1 out.4, counts-some r.serving out.1.ticket ((r.each_view out.0 out.1 out.4).holding out.2 out.5).0))
 
   pub closes : (slots id : ℕ) (me : M) (o : O) (old new : ℕ) → me.0.origin ≡ Some o → me.0.ticket ≡ None → me.0.kept ≡ None → 0 < me.0.left → me.0.entered ≡ old → new ≡ old + 1
       → Allows Rule slots id me 0 (λ k. either (k == old) new k) (Closes origin stands (step slots 0 old new none) me)
@@ -346,25 +462,25 @@ module _ {T E O : Type 0} (origin : T → O) (stands : T → List E → Type 0) 
       let found : ℕ = get_or s.words 0 0 in
       let here : found ≡ r.ticket = ap (λ (ws : List ℕ). get_or ws 0 0) r.words in
       let v : V = me.0 in
-      let fit : Fits first turns r.serving v = r.each_view id v at in
+      let fit : Fits first turns r.serving r.log s.homes v = r.each_view id v at in
       let some_view : v ≢ spent_view = λ e. let d : Some o ≡ None = sym is ∙ ap (λ (u : V). u.origin) e in absurd (cc d) in
-      let no_drawn : drawn v.ticket ≡ 0 = ap drawn no_ticket in
+      let no_drawn : counts v.ticket ≡ 0 = ap counts no_ticket in
       dite (ℕ_discrete found old)
       (λ (hit : found ≡ old).
       let none_of = none_drawn s r id v at no_ticket (all ∙ sym hit ∙ here) in
-      let still : r.serving ≡ r.ticket = omega (arith, r.waiting, sum_none (λ (x : V). drawn x.ticket) s.views none_of) in
+      let still : r.serving ≡ r.ticket = omega (arith, r.waiting, sum_none (λ (x : V). counts x.ticket) s.views none_of) in
       let home = home_at_end s r none_of r.slot in
-      let w : V = holding (entering v found) home.1 in
+      let w : V = holding (entering v found) r.log in
       let next : either (r.ticket == old) new r.ticket ≡ r.ticket + 1 = ap (λ (b : Bool). either b new r.ticket) (eq-eqb r.ticket old (sym here ∙ hit)) ∙ (up ∙ ap (λ (k : ℕ). k + 1) (sym hit ∙ here)) in (
         w,
         takes 0 (Some home.0),
-        ap (λ (hs : List (maybe.Option (Option T))). get_elem? hs 0) home.2,
+        ap (λ (hs : Homes). get_elem? hs 0) home.1,
         subst (λ (ws : List ℕ). Rule record { words = set ws 0 (either (get_or ws 0 0 == old) new (get_or ws 0 0)); homes = set s.homes 0 none; views = set s.views id w }) (sym r.words)
-            (subst (λ (hs : List (maybe.Option (Option T))). Rule record { words = either (r.ticket == old) new r.ticket ∷ r.serving ∷ []; homes = set hs 0 none; views = set s.views id w }) (sym home.2)
-            (subst (λ (k : ℕ). Rule record { words = k ∷ r.serving ∷ []; homes = none ∷ []; views = set s.views id w }) (sym next)
-            (taken s r id v w (r.ticket + 1) at (omega arith) (omega arith) (λ n. drawn_now r.ticket found v.ticket n here) (omega arith) (omega arith) (of_same v w refl some_view v.origin fit.of) (omega arith)
-            (ap Some (here ∙ sym still)) refl))),
-        match_true (found == old) _ _ (eq-eqb found old hit) (home.0, home.1, refl, has_origin v (origin home.0) v.origin some_view fit.of home.3, home.4),
+            (subst (λ (hs : Homes). Rule record { words = either (r.ticket == old) new r.ticket ∷ r.serving ∷ length r.log ∷ []; homes = set hs 0 none; views = set s.views id w }) (sym home.1)
+            (subst (λ (k : ℕ). Rule record { words = k ∷ r.serving ∷ length r.log ∷ []; homes = none ∷ []; views = set s.views id w }) (sym next)
+            (taken s r id v w (r.ticket + 1) at (omega arith) (omega arith) (λ n. drawn_now r.ticket found v.ticket n here) (omega arith) (omega arith) (omega arith) (of_same v w refl some_view v.origin fit.of) (omega arith)
+            (ap Some (here ∙ sym still)) refl refl fit.prefix))),
+        match_true (found == old) _ _ (eq-eqb found old hit) (home.0, r.log, refl, has_origin v (origin home.0) v.origin some_view fit.of home.2, home.3, fit.prefix),
       ))
       (λ (miss : found ≢ old).
       let next : either (r.ticket == old) new r.ticket ≡ r.ticket = ap (λ (b : Bool). either b new r.ticket) (ne_eqb r.ticket old (λ e. miss (here ∙ e))) in
@@ -373,8 +489,8 @@ module _ {T E O : Type 0} (origin : T → O) (stands : T → List E → Type 0) 
         keeps,
         tt,
         subst (λ (ws : List ℕ). Rule record { words = set ws 0 (either (get_or ws 0 0 == old) new (get_or ws 0 0)); homes = s.homes; views = set s.views id v }) (sym r.words)
-            (subst (λ (k : ℕ). Rule record { words = k ∷ r.serving ∷ []; homes = s.homes; views = set s.views id v }) (sym next)
-            (moved s r id v v r.ticket r.serving s.homes at (omega arith) (omega arith) (λ k. inl (omega arith)) (omega arith) (omega arith) fit (λ j u _ e. r.each_view j u e)
-            (slot_stays s.homes s.views id v v at (λ k. k) r.slot))),
+            (subst (λ (k : ℕ). Rule record { words = k ∷ r.serving ∷ length r.log ∷ []; homes = s.homes; views = set s.views id v }) (sym next)
+            (moved s r id v v r.ticket r.serving r.log s.homes at (omega arith) (omega arith) (λ k. inl (omega arith)) (omega arith) (omega arith) (omega arith) fit (λ j u _ e. r.each_view j u e)
+            (slot_stays r.log s.homes s.views id v v at refl r.slot))),
         match_false (found == old) _ _ (ne_eqb found old miss) (refl, omega arith, all_turns v (v.left + found) some_view v.origin fit.of (omega (arith, few_turns s r id v at))),
       ))

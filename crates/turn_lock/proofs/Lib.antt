@@ -1,3 +1,4 @@
 pub mod Sums
+pub mod Prefixes
 pub mod Keeping
 pub mod Guards

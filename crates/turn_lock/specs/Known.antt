@@ -3,6 +3,8 @@ use Rattle.std.specs.Prelude.{◌≡◌, ℕ, List, [], ◌∷◌, Option, Some,
 use Rattle.atomic_table.specs.declared.badge.Badge.{Badge}
 use Rattle.atomic_table.specs.Seated.{TableId}
 use Rattle.turn_lock.specs.declared.pass.Standing.{Standing}
+use Rattle.turn_lock.specs.declared.pass.Standing.TheVariants.{Ready, InTurn, Closed}
+use Rattle.turn_lock.specs.declared.view.Mark.{Mark}
 use Rattle.turn_lock.specs.declared.view.View.{View}
 use Rattle.turn_lock.specs.Rule.{spent_view}
 
@@ -12,27 +14,27 @@ pub record Lock (O : Type 0) : Type 0 where
   pub origin : O
   pub turns : ℕ
 
--- the lock of a pass; how many turns it has left, and how many were entered by it and by those joined into it; how many turns `close` found, or 0
-pub record Known (O : Type 0) : Type 0 where
+-- the lock of a pass; how many turns it has left, and how many were entered by it and by those joined into it; how many turns `close` found, or 0;
+-- all that it has seen of the history; the events that it added, each with its place in the history; those of each pass that was joined into it
+pub record Known (E O : Type 0) : Type 0 where
   pub lock : Option (Lock O)
   pub standing : Standing
   pub left : ℕ
   pub entered : ℕ
   pub found : ℕ
+  pub seen : List E
+  pub own : List (Mark E)
+  pub joined : List (List (Mark E))
 
--- an open turn: its pass, what the value stood for when the turn began, and the value
+-- an open turn: its pass, the list for which the value stood when the turn began, and the value
 pub record Held (T E O : Type 0) : Type 0 where
-  pub pass : Known O
+  pub pass : Known E O
   pub list : List E
   pub value : T
 
 abbrev pub lock_at : {O : Type 0} → TableId → ℕ → Option O → Option (Lock O)
 lock_at table turns (Some o) = Some (record { table = table; origin = o; turns = turns })
 lock_at table turns None = None
-
-abbrev pub list_of : {E : Type 0} → Option (List E) → List E
-list_of (Some h) = h
-list_of None = []
 
 module _ {E O : Type 0} where
   -- the lock that a seat's view tells of
@@ -44,8 +46,23 @@ module _ {E O : Type 0} where
   view_of [] = spent_view
 
   -- what is known of a seat, by its table and its view
-  abbrev pub known_of : TableId → View E O → Standing → Known O
-  known_of table v standing = record { lock = lock_of table v; standing = standing; left = v.left; entered = v.entered; found = 0 }
+  abbrev pub known_of : TableId → View E O → Standing → Known E O
+  known_of table v standing = record { lock = lock_of table v; standing = standing; left = v.left; entered = v.entered; found = 0; seen = v.seen; own = v.own; joined = v.joined }
+
+  -- the own events of a pass, whose seat is in the turn while one is open
+  abbrev pub own_of : Standing → View E O → List (Mark E)
+  own_of Ready v = v.own
+  own_of InTurn v = v.noted_own
+  own_of Closed v = v.noted_own
+
+  abbrev pub joined_of : Standing → View E O → List (List (Mark E))
+  joined_of Ready v = v.joined
+  joined_of InTurn v = v.noted_joined
+  joined_of Closed v = v.noted_joined
+
+  -- what is known of a pass whose seat is in a turn, by a seat that was split from it
+  abbrev pub stubbed : TableId → View E O → Standing → Known E O
+  stubbed table v standing = record (known_of table v standing) { own = v.noted_own; joined = v.noted_joined }
 
   -- the badge is a seat with no open turn, and the numbers are its view's
   pub record IsReady (badge : Badge (View E O)) (left entered : ℕ) : Type 0 where

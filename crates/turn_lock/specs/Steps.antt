@@ -1,10 +1,26 @@
 -- What each step on the table tells of the seat before and after it.
 use Rattle.std.specs.Prelude.{◌≡◌, ◌==◌, ℕ, ◌+◌, ◌-◌, ◌<◌, ◌≤◌, List, [], ◌∷◌, ◌++◌, length, nat_lt, if◌then◌else◌, Option, Some, None, MatchBool}
+use mathlib.Core.List.{IsPrefix}
 use Rattle.atomic_table.specs.Table.{Me, Step, rest}
+use Rattle.turn_lock.specs.declared.view.Mark.{Mark}
 use Rattle.turn_lock.specs.declared.view.View.{View}
+use Rattle.turn_lock.specs.Rule.{with_added}
 
 abbrev pub longer : {E : Type 0} → List E → List E → List E
 longer xs ys = if nat_lt (length xs) (length ys) then ys else xs
+
+abbrev pub list_of : {E : Type 0} → Option (List E) → List E
+list_of (Some h) = h
+list_of None = []
+
+-- the event that comes next after the list, at its place
+abbrev pub mark : {E : Type 0} → List E → E → Mark E
+mark h e = record { place = length h; event = e }
+
+-- the own events, and the event that comes next after h if there is one
+abbrev pub own_with : {E : Type 0} → List (Mark E) → List E → Option E → List (Mark E)
+own_with own h (Some e) = own ++ mark h e ∷ []
+own_with own h None = own
 
 -- a seat's view, and the slots that it holds
 abbrev Sat : Type 0 → Type 0 → Type 0 → Type 0
@@ -17,11 +33,23 @@ module _ {E O : Type 0} where
 
   -- the turn has the value, which stood for h
   abbrev pub holding : View E O → List E → View E O
-  holding v h = record v { kept = Some h }
+  holding v h = record v { kept = Some h; added = None }
+
+  -- the history h was seen
+  abbrev pub seeing : View E O → List E → View E O
+  seeing v h = record v { seen = h }
+
+  -- the event was added to the history h, and to the own events
+  abbrev pub adding : View E O → List E → Option E → View E O
+  adding v h e = record v { added = e; seen = with_added h e; own = own_with v.own h e }
+
+  -- the list for which the value stands that the turn gives back
+  abbrev pub given_back : View E O → List E
+  given_back v = with_added (list_of v.kept) v.added
 
   -- the turn has ended
   abbrev pub resting : View E O → View E O
-  resting v = record v { ticket = None; kept = None }
+  resting v = record v { ticket = None; kept = None; added = None }
 
   -- n turns were given away
   abbrev pub giving : View E O → ℕ → View E O
@@ -29,7 +57,7 @@ module _ {E O : Type 0} where
 
   -- n turns were got, with what the giver has seen
   abbrev pub given : View E O → ℕ → View E O
-  given v n = record v { left = n; entered = 0; ticket = None; kept = None; added = None; own = []; joined = [] }
+  given v n = record v { left = n; entered = 0; ticket = None; kept = None; added = None; own = []; joined = []; noted_own = v.own; noted_joined = v.joined }
 
   -- the turns of both
   abbrev pub lent : View E O → View E O → View E O
@@ -44,17 +72,25 @@ module _ {T E O : Type 0} where
   abbrev pub Draws : Step (Option T) → Sat T E O → ℕ → Sat T E O → Type 0
   Draws st m found m' = m' ≡ (entering m.0 found, m.1)
 
-  -- the seat took the value from the slot. It has the origin that the view has
+  -- the seat took the value from the slot. It has the origin that the view has, and stands for a list that begins with all that the view has seen
   abbrev pub Takes : (T → O) → (T → List E → Type 0) → View E O → Sat T E O → Sat T E O → Type 0
-  Takes origin stands v m m' = (x : T) × (h : List E) × (m' ≡ (holding v h, (0, Some x) ∷ m.1)) × (m.0.origin ≡ Some (origin x)) × stands x h
+  Takes origin stands v m m' = (x : T) × (h : List E) × (m' ≡ (holding v h, (0, Some x) ∷ m.1)) × (m.0.origin ≡ Some (origin x)) × stands x h × IsPrefix m.0.seen h
 
   -- a turn was entered, and the value taken out of the slot
   abbrev pub HasTaken : (T → O) → (T → List E → Type 0) → Sat T E O → Sat T E O → T → Type 0
-  HasTaken origin stands m m' x = (n : ℕ) × (h : List E) × (m' ≡ (holding (entering m.0 n) h, (0, None) ∷ m.1)) × (m.0.origin ≡ Some (origin x)) × stands x h
+  HasTaken origin stands m m' x = (n : ℕ) × (h : List E) × (m' ≡ (holding (entering m.0 n) h, (0, None) ∷ m.1)) × (m.0.origin ≡ Some (origin x)) × stands x h × IsPrefix m.0.seen h
 
   -- the ticket that is served was read, and the value was taken if it is the seat's own
   abbrev pub Looks : (T → O) → (T → List E → Type 0) → Step (Option T) → Sat T E O → ℕ → Sat T E O → Type 0
   Looks origin stands st m found m' = (n : ℕ) → m.0.ticket ≡ Some n → MatchBool (found == n) (Takes origin stands m.0 m m') (m' ≡ m)
+
+  -- the history was seen, as long as the word says. It begins with all that was seen before, and is the list of the value that the seat has
+  abbrev pub Sees : Step (Option T) → Sat T E O → ℕ → Sat T E O → Type 0
+  Sees st m found m' = (l : List E) × (m' ≡ (seeing m.0 l, m.1)) × (length l ≡ found) × IsPrefix m.0.seen l × ((h : List E) → m.0.kept ≡ Some h → l ≡ with_added h m.0.added)
+
+  -- the event was added to the list of the value that the seat has
+  abbrev pub Adds : Option E → Step (Option T) → Sat T E O → ℕ → Sat T E O → Type 0
+  Adds e st m found m' = (h : List E) → m.0.kept ≡ Some h → (m' ≡ (adding m.0 h e, m.1)) × (length h ≡ found)
 
   -- the value was put back, and the next ticket is served
   abbrev pub Ends : Step (Option T) → Sat T E O → ℕ → Sat T E O → Type 0

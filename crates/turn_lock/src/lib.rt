@@ -6,15 +6,15 @@
 // was joined.
 //
 // Contracts see more than the code keeps. A value stands for a list of events from an origin
-// (`StandsFor`): each turn starts with a value of the lock's origin that stands for some list, and
-// ends with one that stands for the same list or for one event more. What a pass has seen of the
-// events is not told yet.
+// (`StandsFor`), and there is one history: each turn starts with a value that stands for it, and
+// `commit` makes it longer by one event, in the one atomic step on the word that counts it. A pass
+// knows a beginning of the history that it has seen, and which events are its own.
 //
 // Waiting: a thread draws a ticket by one fetch_add and looks which ticket is served. While that is
 // another, it looks up to a hundred times more, and then sleeps on the low 32 bits of the word. The
 // end of a turn serves the next ticket and wakes all sleepers, of which one goes on and the others
 // sleep again; it makes no call of the system where no further ticket was drawn. A turn with nobody
-// waiting costs three atomic steps to enter and two to end, whatever the value is.
+// waiting costs three atomic steps to enter and three to end, whatever the value is.
 //
 // No contract says that a thread gets on: `enter` returns once every turn with an earlier ticket has
 // ended, and never where one of these was dropped.

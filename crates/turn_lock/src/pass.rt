@@ -1,6 +1,6 @@
 // A thread's leave to enter turns.
 ghost use Rattle.std.specs.Prelude.{◌≡◌, ◌+◌, ◌-◌, ◌^◌, ◌<◌, ◌≤◌, [], ◌∷◌, None};
-ghost use Rattle.turn_lock.specs.Known.{view_of, lock_of, known_of};
+ghost use Rattle.turn_lock.specs.Known.{view_of, known_of, stubbed};
 ghost use Rattle.turn_lock.specs.declared.pass.Standing.TheVariants.{Ready, InTurn, Closed};
 
 use crate::event::Event;
@@ -32,11 +32,11 @@ pub struct Pass<E: Event> {
 impl<E: Event> Model for Pass<E> {
     ghost use Rattle.std.specs.Prelude.{◌≡◌, ◌+◌, ◌^◌, ◌≤◌};
     ghost use Rattle.turn_lock.specs.declared.pass.Standing.TheVariants.{Ready};
-    ghost use Rattle.turn_lock.specs.Known.{Known, lock_of, view_of, IsReady};
+    ghost use Rattle.turn_lock.specs.Known.{Known, lock_of, view_of, own_of, joined_of, IsReady};
 
-    ghost Value = { Known E.Origin };
+    ghost Value = { Known E E.Origin };
 
-    ghost view = { λ p. record { lock = lock_of p.badge.table_id (view_of p.badge.views); standing = p.standing; left = p.left; entered = p.entered; found = p.found } };
+    ghost view = { λ p. record { lock = lock_of p.badge.table_id (view_of p.badge.views); standing = p.standing; left = p.left; entered = p.entered; found = p.found; seen = (view_of p.badge.views).seen; own = own_of p.standing (view_of p.badge.views); joined = joined_of p.standing (view_of p.badge.views) } };
 
     ghost invariant = { λ p. (p.standing ≡ Ready → IsReady p.badge p.left p.entered) × (p.left + p.entered ≤ 2 ^ 62 + 1) };
 }
@@ -76,7 +76,7 @@ impl<E: Event> Pass<E> {
         requires { self.old.standing ≡ Ready }
         ensures view { (result.views ≡ view_of result.views ∷ []) × ((view_of result.views).ticket ≡ None) × ((view_of result.views).kept ≡ None) }
         ensures known { record self.old { found = 0 } ≡ known_of result.table_id (view_of result.views) Ready }
-        ensures pass { self.new ≡ record self.old { lock = None; standing = InTurn; found = 0 } }
+        ensures pass { self.new ≡ record self.old { lock = None; standing = InTurn; found = 0; seen = []; own = []; joined = [] } }
         ensures small { self.old.left + self.old.entered ≤ 2 ^ 62 + 1 }
     {
         self.found = 0;
@@ -87,7 +87,7 @@ impl<E: Event> Pass<E> {
     /// A turn is entered. The stub keeps the lock in mind.
     pub(crate) fn begin(&mut self, stub: Badge<View<E>>)
         requires { (self.old.standing ≡ InTurn) × (0 < self.old.left) }
-        ensures { self.new ≡ record self.old { lock = lock_of stub.table_id (view_of stub.views); left = self.old.left - 1; entered = self.old.entered + 1 } }
+        ensures { self.new ≡ record (stubbed stub.table_id (view_of stub.views) InTurn) { left = self.old.left - 1; entered = self.old.entered + 1; found = self.old.found } }
     {
         self.badge = stub;
         self.left -= 1;
@@ -97,8 +97,9 @@ impl<E: Event> Pass<E> {
     /// Takes the badge back, after the turn.
     pub(crate) fn rest(&mut self, badge: Badge<View<E>>)
         requires view { (badge.views ≡ view_of badge.views ∷ []) × ((view_of badge.views).ticket ≡ None) × ((view_of badge.views).kept ≡ None) }
-        requires pass { self.old ≡ known_of badge.table_id (view_of badge.views) InTurn }
-        ensures { self.new ≡ record self.old { standing = Ready } }
+        requires pass { (self.old.standing ≡ InTurn) × (self.old.found ≡ 0) }
+        requires turns { (self.old.left ≡ (view_of badge.views).left) × (self.old.entered ≡ (view_of badge.views).entered) }
+        ensures { self.new ≡ known_of badge.table_id (view_of badge.views) Ready }
     {
         self.badge = badge;
         self.standing = Standing::Ready;
@@ -107,7 +108,7 @@ impl<E: Event> Pass<E> {
     /// The lock was closed, and all turns were entered by the pass.
     pub(crate) fn close(&mut self, stub: Badge<View<E>>)
         requires { self.old.standing ≡ InTurn }
-        ensures { self.new ≡ record self.old { lock = lock_of stub.table_id (view_of stub.views); standing = Closed; found = self.old.entered } }
+        ensures { self.new ≡ record (stubbed stub.table_id (view_of stub.views) Closed) { left = self.old.left; entered = self.old.entered; found = self.old.entered } }
     {
         self.badge = stub;
         self.found = self.entered;

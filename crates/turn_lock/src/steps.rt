@@ -22,6 +22,39 @@ impl<T: StandsFor<E>, E: Event> Play<Option<T>, View<E>> for Look {
     ghost then = { Looks T.origin T.stands };
 }
 
+/// Reads how long the history is, and sees it.
+pub(crate) struct See;
+
+impl<T, E: Event> Play<Option<T>, View<E>> for See {
+    ghost use Rattle.turn_lock.specs.Steps.{Sees};
+
+    ghost then = { Sees };
+}
+
+/// The event of a turn. Each call picks it.
+pub trait Naming<E> {
+    ghost use Rattle.std.specs.Prelude.{Option};
+
+    ghost event: { Option E };
+}
+
+impl<E> Naming<E> for Brand {
+    ghost use Rattle.std.specs.Prelude.{None};
+
+    ghost event = { None };
+}
+
+/// Adds the event to the history.
+pub(crate) struct Add<N> {
+    of: PhantomData<N>,
+}
+
+impl<T, E: Event, N: Naming<E>> Play<Option<T>, View<E>> for Add<N> {
+    ghost use Rattle.turn_lock.specs.Steps.{Adds};
+
+    ghost then = { Adds N.event };
+}
+
 /// Gives the value back, and serves the next ticket.
 pub(crate) struct End;
 

@@ -1,6 +1,7 @@
 ghost use Rattle.std.specs.Prelude.{◌≡◌, ◌+◌, ◌-◌, ◌<◌, ◌≤◌, ◌∷◌, ◌++◌, OnOk, OnErr, IfOk, Some, map};
 ghost use Rattle.turn_lock.specs.declared.pass.Standing.TheVariants.{Ready, InTurn};
 ghost use mathlib.Core.List.{[]};
+ghost use Rattle.turn_lock.specs.Steps.{mark};
 
 use super::*;
 use std::alloc::AllocError;
@@ -74,7 +75,7 @@ fn commit_line(lock: &Turns<Log, Line>, pass: &mut Pass<Line>, turn: Turn<Log, L
     requires name { turn.value.name ≡ lock.now.origin }
     requires by { line.by ≡ by }
     requires line { turn.value.lines.items ≡ map (λ l. l.by) (turn.list ++ line ∷ []) }
-    ensures { pass.new ≡ record pass.old { standing = Ready } }
+    ensures { pass.new ≡ record pass.old { standing = Ready; seen = turn.list ++ line ∷ []; own = pass.old.own ++ mark turn.list line ∷ [] } }
 {
     lock.commit(pass, turn);
 }

@@ -21,13 +21,14 @@ pub struct Turn<T: StandsFor<E>, E: Event> {
 impl<T: StandsFor<E>, E: Event> Model for Turn<T, E> {
     ghost use Rattle.std.specs.Prelude.{◌≡◌, [], ◌∷◌, IsSome, None};
     ghost use Rattle.turn_lock.specs.declared.pass.Standing.TheVariants.{InTurn};
-    ghost use Rattle.turn_lock.specs.Known.{Held, known_of, list_of};
+    ghost use Rattle.turn_lock.specs.Known.{Held, known_of};
+    ghost use Rattle.turn_lock.specs.Steps.{list_of};
 
     ghost Value = { Held T E E.Origin };
 
     ghost view = { λ t. record { pass = known_of t.seat.table_id t.seat.me.0 InTurn; list = list_of t.seat.me.0.kept; value = t.value } };
 
-    ghost invariant = { λ t. (t.seat.me.1 ≡ (0, None) ∷ []) × IsSome t.seat.me.0.kept };
+    ghost invariant = { λ t. (t.seat.me.1 ≡ (0, None) ∷ []) × IsSome t.seat.me.0.kept × (t.seat.me.0.added ≡ None) };
 }
 
 impl<T: StandsFor<E>, E: Event> Turn<T, E> {

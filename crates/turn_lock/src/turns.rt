@@ -1,13 +1,17 @@
 // The lock.
 ghost use Rattle.std.specs.Prelude.{◌≡◌, ◌≢◌, ℕ, ◌+◌, ◌-◌, ◌^◌, ◌<◌, ◌≤◌, [], ◌∷◌, ◌++◌, IfOk, IfErr, IsOk, IsOkAnd, MatchResult, IsSome, Some, None};
+ghost use mathlib.Core.List.{IsPrefix};
 ghost use Rattle.turn_lock.specs.Known.{lock_of, known_of};
-ghost use Rattle.turn_lock.specs.Steps.{entering, Takes, HasTaken, resting, giving, given, both, lent};
+ghost use Rattle.turn_lock.specs.Rule.{with_added};
+ghost use Rattle.turn_lock.specs.Steps.{entering, Takes, HasTaken, seeing, adding, resting, giving, given, given_back, both, lent, longer, list_of, mark, own_with};
 ghost use Rattle.turn_lock.specs.declared.pass.Standing.TheVariants.{Ready, InTurn, Closed};
 
 use crate::event::{Event, StandsFor};
 use crate::guard::Guard;
 use crate::pass::Pass;
-use crate::steps::{Close, Draw, End, Give, Learn, Lend, Look, Share, Stub, Unite};
+use crate::steps::{
+    Add, Close, Draw, End, Give, Learn, Lend, Look, Naming, See, Share, Stub, Unite,
+};
 use crate::turn::Turn;
 use crate::view::{Law, Start, View};
 use atomic_table::{Badge, Seat, Shared, Table};
@@ -22,6 +26,9 @@ const TICKET: usize = 0;
 
 /// The word with the ticket that is served.
 const SERVING: usize = 1;
+
+/// The word that counts the events of the history.
+const COUNT: usize = 2;
 
 /// How often a thread looks again before it sleeps.
 const SPINS: u32 = 100;
@@ -51,12 +58,12 @@ impl<T: StandsFor<E>, E: Event> Model for Turns<T, E> {
 
     ghost view = { λ l. record { table = l.table.shared.table_id; origin = T.origin l.table.shared.key.value.value; turns = l.table.shared.key.turns } };
 
-    ghost invariant = { λ l. (l.table.shared.table_id.words ≡ 2) × (l.table.shared.table_id.slots ≡ 1) × (l.table.shared.key.turns ≤ 2 ^ 62) × IsKeeper l.keeper.badge l.table.shared.table_id (T.origin l.table.shared.key.value.value) l.table.shared.key.turns };
+    ghost invariant = { λ l. (l.table.shared.table_id.words ≡ 3) × (l.table.shared.table_id.slots ≡ 1) × (l.table.shared.key.turns ≤ 2 ^ 62) × IsKeeper l.keeper.badge l.table.shared.table_id (T.origin l.table.shared.key.value.value) l.table.shared.key.turns };
 }
 
 /// Draws a ticket for a turn.
 fn draw<T: StandsFor<E>, E: Event>(shared: &Words<T, E>, seat: &mut Place<T, E>) -> u64
-    requires table { (seat.old.table_id ≡ shared.now.table_id) × (shared.now.table_id.words ≡ 2) × (shared.now.key.turns ≤ 2 ^ 62) }
+    requires table { (seat.old.table_id ≡ shared.now.table_id) × (shared.now.table_id.words ≡ 3) × (shared.now.key.turns ≤ 2 ^ 62) }
     requires ready { (seat.old.me.0.ticket ≡ None) × (seat.old.me.0.kept ≡ None) × (0 < seat.old.me.0.left) }
     ensures seat { (seat.new.table_id ≡ seat.old.table_id) × (seat.new.id ≡ seat.old.id) }
     ensures drawn { seat.new.me ≡ (entering seat.old.me.0 result, seat.old.me.1) }
@@ -66,7 +73,7 @@ fn draw<T: StandsFor<E>, E: Event>(shared: &Words<T, E>, seat: &mut Place<T, E>)
 
 /// Spins for a short time, and says whether another ticket is served by then.
 fn has_moved<T: StandsFor<E>, E: Event>(shared: &Words<T, E>, serving: u64) -> bool
-    requires { shared.now.table_id.words ≡ 2 }
+    requires { shared.now.table_id.words ≡ 3 }
 {
     for _ in 0..SPINS {
         if shared.peek(SERVING) != serving {
@@ -79,7 +86,7 @@ fn has_moved<T: StandsFor<E>, E: Event>(shared: &Words<T, E>, serving: u64) -> b
 
 /// Reads which ticket is served, and takes the value where it is the seat's.
 fn look<T: StandsFor<E>, E: Event>(shared: &Words<T, E>, seat: &mut Place<T, E>, ticket: u64) -> u64
-    requires table { (seat.old.table_id ≡ shared.now.table_id) × (shared.now.table_id.words ≡ 2) }
+    requires table { (seat.old.table_id ≡ shared.now.table_id) × (shared.now.table_id.words ≡ 3) }
     requires waits { (seat.old.me.0.ticket ≡ Some ticket) × (seat.old.me.0.kept ≡ None) }
     ensures seat { (seat.new.table_id ≡ seat.old.table_id) × (seat.new.id ≡ seat.old.id) }
     ensures takes { result ≡ ticket → Takes T.origin T.stands seat.old.me.0 seat.old.me seat.new.me }
@@ -95,7 +102,7 @@ fn wait_for<T: StandsFor<E>, E: Event, R: Wait>(
     seat: &mut Place<T, E>,
     ticket: u64,
 )
-    requires table { (seat.old.table_id ≡ shared.now.table_id) × (shared.now.table_id.words ≡ 2) }
+    requires table { (seat.old.table_id ≡ shared.now.table_id) × (shared.now.table_id.words ≡ 3) }
     requires waits { (seat.old.me.0.ticket ≡ Some ticket) × (seat.old.me.0.kept ≡ None) }
     ensures seat { (seat.new.table_id ≡ seat.old.table_id) × (seat.new.id ≡ seat.old.id) }
     ensures takes { Takes T.origin T.stands seat.old.me.0 seat.old.me seat.new.me }
@@ -118,7 +125,7 @@ fn take_turn<T: StandsFor<E>, E: Event, R: Wait>(
     shared: &Words<T, E>,
     seat: &mut Place<T, E>,
 ) -> T
-    requires table { (seat.old.table_id ≡ shared.now.table_id) × (shared.now.table_id.words ≡ 2) × (shared.now.key.turns ≤ 2 ^ 62) }
+    requires table { (seat.old.table_id ≡ shared.now.table_id) × (shared.now.table_id.words ≡ 3) × (shared.now.key.turns ≤ 2 ^ 62) }
     requires ready { (seat.old.me.0.ticket ≡ None) × (seat.old.me.0.kept ≡ None) × (0 < seat.old.me.0.left) }
     ensures seat { (seat.new.table_id ≡ seat.old.table_id) × (seat.new.id ≡ seat.old.id) }
     ensures value { HasTaken T.origin T.stands seat.old.me seat.new.me result }
@@ -134,8 +141,8 @@ fn cut<N: Share, T: StandsFor<E>, E: Event>(
     seat: &mut Place<T, E>,
     turns: u64,
 ) -> Place<T, E>
-    requires table { (seat.old.table_id ≡ shared.now.table_id) × (shared.now.table_id.words ≡ 2) }
-    requires ready { (seat.old.me.0.kept ≡ None) × IsSome seat.old.me.0.origin }
+    requires table { (seat.old.table_id ≡ shared.now.table_id) × (shared.now.table_id.words ≡ 3) }
+    requires ready { IsSome seat.old.me.0.origin }
     requires turns { (turns ≡ N.turns) × (turns ≤ seat.old.me.0.left) }
     ensures seat { (seat.new.table_id ≡ seat.old.table_id) × (seat.new.id ≡ seat.old.id) × (seat.new.me ≡ (giving seat.old.me.0 turns, seat.old.me.1)) }
     ensures new { (result.table_id ≡ seat.old.table_id) × (result.me ≡ (given seat.old.me.0 turns, [])) }
@@ -145,8 +152,8 @@ fn cut<N: Share, T: StandsFor<E>, E: Event>(
 
 /// A seat that has no turns, and keeps the lock in mind.
 fn stub<T: StandsFor<E>, E: Event>(shared: &Words<T, E>, seat: &mut Place<T, E>) -> Badge<View<E>>
-    requires table { (seat.old.table_id ≡ shared.now.table_id) × (shared.now.table_id.words ≡ 2) }
-    requires ready { (seat.old.me.0.kept ≡ None) × IsSome seat.old.me.0.origin }
+    requires table { (seat.old.table_id ≡ shared.now.table_id) × (shared.now.table_id.words ≡ 3) }
+    requires ready { IsSome seat.old.me.0.origin }
     ensures seat { (seat.new.table_id ≡ seat.old.table_id) × (seat.new.id ≡ seat.old.id) × (seat.new.me ≡ seat.old.me) }
     ensures stub { (result.table_id ≡ seat.old.table_id) × (result.views ≡ given seat.old.me.0 0 ∷ []) }
 {
@@ -159,7 +166,7 @@ fn unite<T: StandsFor<E>, E: Event>(
     seat: &mut Place<T, E>,
     other: Place<T, E>,
 )
-    requires table { (seat.old.table_id ≡ shared.now.table_id) × (other.table_id ≡ shared.now.table_id) × (shared.now.table_id.words ≡ 2) }
+    requires table { (seat.old.table_id ≡ shared.now.table_id) × (other.table_id ≡ shared.now.table_id) × (shared.now.table_id.words ≡ 3) }
     requires ready { (seat.old.me.0.ticket ≡ None) × (seat.old.me.0.kept ≡ None) × IsSome seat.old.me.0.origin }
     requires other { (other.me.0.ticket ≡ None) × (other.me.0.kept ≡ None) × (other.me.1 ≡ []) }
     ensures seat { (seat.new.table_id ≡ seat.old.table_id) × (seat.new.id ≡ seat.old.id) }
@@ -176,7 +183,7 @@ fn borrow_last<T: StandsFor<E>, E: Event>(
     seat: &mut Place<T, E>,
     keeper: Place<T, E>,
 )
-    requires table { (seat.old.table_id ≡ shared.now.table_id) × (keeper.table_id ≡ shared.now.table_id) × (shared.now.table_id.words ≡ 2) }
+    requires table { (seat.old.table_id ≡ shared.now.table_id) × (keeper.table_id ≡ shared.now.table_id) × (shared.now.table_id.words ≡ 3) }
     requires ready { (seat.old.me.0.ticket ≡ None) × (seat.old.me.0.kept ≡ None) × IsSome seat.old.me.0.origin }
     requires keeper { (keeper.me.0.ticket ≡ None) × (keeper.me.0.kept ≡ None) × (keeper.me.1 ≡ []) }
     ensures seat { (seat.new.table_id ≡ seat.old.table_id) × (seat.new.id ≡ seat.old.id) }
@@ -191,7 +198,7 @@ fn take_last<T: StandsFor<E>, E: Event>(
     seat: &mut Place<T, E>,
     entered: u64,
 ) -> u64
-    requires table { (seat.old.table_id ≡ shared.now.table_id) × (shared.now.table_id.words ≡ 2) }
+    requires table { (seat.old.table_id ≡ shared.now.table_id) × (shared.now.table_id.words ≡ 3) }
     requires ready { (seat.old.me.0.ticket ≡ None) × (seat.old.me.0.kept ≡ None) × IsSome seat.old.me.0.origin }
     requires turns { (0 < seat.old.me.0.left) × (seat.old.me.0.entered ≡ entered) × (entered < 2 ^ 63) }
     ensures seat { (seat.new.table_id ≡ seat.old.table_id) × (seat.new.id ≡ seat.old.id) }
@@ -201,11 +208,33 @@ fn take_last<T: StandsFor<E>, E: Event>(
     shared.compare_exchange::<Close>(seat, TICKET, entered, entered + 1)
 }
 
+/// Sees the history.
+fn see<T: StandsFor<E>, E: Event>(shared: &Words<T, E>, seat: &mut Place<T, E>)
+    requires table { (seat.old.table_id ≡ shared.now.table_id) × (shared.now.table_id.words ≡ 3) }
+    requires holds { IsSome seat.old.me.0.origin × IsSome seat.old.me.0.kept }
+    ensures seat { (seat.new.table_id ≡ seat.old.table_id) × (seat.new.id ≡ seat.old.id) }
+    ensures sees { seat.new.me ≡ (seeing seat.old.me.0 (given_back seat.old.me.0), seat.old.me.1) }
+    ensures prefix { IsPrefix seat.old.me.0.seen (given_back seat.old.me.0) }
+{
+    shared.load::<See>(seat, COUNT);
+}
+
+/// Adds an event to the history.
+fn add<N: Naming<E>, T: StandsFor<E>, E: Event>(shared: &Words<T, E>, seat: &mut Place<T, E>)
+    requires table { (seat.old.table_id ≡ shared.now.table_id) × (shared.now.table_id.words ≡ 3) × (shared.now.key.turns ≤ 2 ^ 62) }
+    requires holds { IsSome seat.old.me.0.kept × (seat.old.me.0.added ≡ None) }
+    requires event { IsSome N.event }
+    ensures seat { (seat.new.table_id ≡ seat.old.table_id) × (seat.new.id ≡ seat.old.id) }
+    ensures adds { seat.new.me ≡ (adding seat.old.me.0 (list_of seat.old.me.0.kept) N.event, seat.old.me.1) }
+{
+    shared.fetch_add::<Add<N>>(seat, COUNT, 1);
+}
+
 /// Gives the value back, serves the next ticket, and wakes those who wait for it.
 fn end_turn<T: StandsFor<E>, E: Event>(shared: &Words<T, E>, seat: &mut Place<T, E>, value: T)
-    requires table { (seat.old.table_id ≡ shared.now.table_id) × (shared.now.table_id.words ≡ 2) × (shared.now.key.turns ≤ 2 ^ 62) }
+    requires table { (seat.old.table_id ≡ shared.now.table_id) × (shared.now.table_id.words ≡ 3) × (shared.now.key.turns ≤ 2 ^ 62) }
     requires holds { (seat.old.me.1 ≡ (0, None) ∷ []) × IsSome seat.old.me.0.kept }
-    requires value { (seat.old.me.0.origin ≡ Some (T.origin value)) × ((h : _) × T.stands value h) }
+    requires value { (seat.old.me.0.origin ≡ Some (T.origin value)) × T.stands value (given_back seat.old.me.0) }
     ensures seat { (seat.new.table_id ≡ seat.old.table_id) × (seat.new.id ≡ seat.old.id) }
     ensures rests { seat.new.me ≡ (resting seat.old.me.0, []) }
 {
@@ -227,6 +256,7 @@ impl<T: StandsFor<E>, E: Event> Turns<T, E> {
         ensures turn { result.pass ≡ pass.new }
         ensures origin { T.origin result.value ≡ self.now.origin }
         ensures value { T.stands result.value result.list }
+        ensures seen { IsPrefix pass.old.seen result.list }
     {
         let mut seat = pass.take().into_seat::<Option<T>>();
         pass.begin(stub(&self.table.shared, &mut seat));
@@ -241,9 +271,23 @@ impl<T: StandsFor<E>, E: Event> Turns<T, E> {
         requires turn { turn.pass ≡ pass.old }
         requires origin { T.origin turn.value ≡ self.now.origin }
         requires value { T.stands turn.value (turn.list ++ event ∷ []) }
-        ensures { pass.new ≡ record pass.old { standing = Ready } }
+        ensures { pass.new ≡ record pass.old { standing = Ready; seen = turn.list ++ event ∷ []; own = pass.old.own ++ mark turn.list event ∷ [] } }
     {
-        self.finish(pass, turn);
+        self.commit_named::<Brand>(pass, turn);
+    }
+
+    fn commit_named<N: Naming<E>>(&self, pass: &mut Pass<E>, turn: Turn<T, E>)
+        requires lock { pass.old.lock ≡ Some self.now }
+        requires turn { turn.pass ≡ pass.old }
+        requires origin { T.origin turn.value ≡ self.now.origin }
+        requires event { IsSome N.event }
+        requires value { T.stands turn.value (with_added turn.list N.event) }
+        ensures { pass.new ≡ record pass.old { standing = Ready; seen = with_added turn.list N.event; own = own_with pass.old.own turn.list N.event } }
+    {
+        let Turn { mut seat, value } = turn;
+        add::<N, T, E>(&self.table.shared, &mut seat);
+        end_turn(&self.table.shared, &mut seat, value);
+        pass.rest(seat.into_badge());
     }
 
     /// Ends a turn that added no event.
@@ -252,20 +296,10 @@ impl<T: StandsFor<E>, E: Event> Turns<T, E> {
         requires turn { turn.pass ≡ pass.old }
         requires origin { T.origin turn.value ≡ self.now.origin }
         requires value { T.stands turn.value turn.list }
-        ensures { pass.new ≡ record pass.old { standing = Ready } }
-    {
-        self.finish(pass, turn);
-    }
-
-    /// Ends a turn whose value stands for some list.
-    fn finish(&self, pass: &mut Pass<E>, turn: Turn<T, E>)
-        requires lock { pass.old.lock ≡ Some self.now }
-        requires turn { turn.pass ≡ pass.old }
-        requires origin { T.origin turn.value ≡ self.now.origin }
-        requires value { (h : _) × T.stands turn.value h }
-        ensures { pass.new ≡ record pass.old { standing = Ready } }
+        ensures { pass.new ≡ record pass.old { standing = Ready; seen = turn.list } }
     {
         let Turn { mut seat, value } = turn;
+        see(&self.table.shared, &mut seat);
         end_turn(&self.table.shared, &mut seat, value);
         pass.rest(seat.into_badge());
     }
@@ -277,6 +311,7 @@ impl<T: StandsFor<E>, E: Event> Turns<T, E> {
         requires turns { turns ≤ pass.old.left }
         ensures pass { pass.new ≡ record pass.old { left = pass.old.left - turns; found = 0 } }
         ensures ok { IsOkAnd result (λ r. (r.lock ≡ Some self.now) × (r.standing ≡ Ready) × (r.left ≡ turns) × (r.entered ≡ 0)) }
+        ensures seen { IsOkAnd result (λ r. (r.seen ≡ pass.old.seen) × (r.own ≡ []) × (r.joined ≡ [])) }
     {
         let mut seat = pass.take().into_seat::<Option<T>>();
         let other = cut::<Brand, T, E>(&self.table.shared, &mut seat, turns);
@@ -288,7 +323,7 @@ impl<T: StandsFor<E>, E: Event> Turns<T, E> {
     pub fn join(&self, pass: &mut Pass<E>, mut other: Pass<E>)
         requires lock { (pass.old.lock ≡ Some self.now) × (other.lock ≡ Some self.now) }
         requires ready { (pass.old.standing ≡ Ready) × (other.standing ≡ Ready) }
-        ensures { pass.new ≡ record pass.old { left = pass.old.left + other.left; entered = pass.old.entered + other.entered; found = 0 } }
+        ensures { pass.new ≡ record pass.old { left = pass.old.left + other.left; entered = pass.old.entered + other.entered; found = 0; seen = longer pass.old.seen other.seen; joined = pass.old.joined ++ other.own ∷ other.joined } }
     {
         let mut seat = pass.take().into_seat::<Option<T>>();
         let given = other.take().into_seat::<Option<T>>();
@@ -306,6 +341,7 @@ impl<T: StandsFor<E> + Drop, E: Event> Turns<T, E> {
         requires empty { T.stands value [] }
         ensures lock { IfOk result (λ r. (r.0.origin ≡ T.origin value) × (r.0.turns ≡ turns)) }
         ensures pass { IfOk result (λ r. (r.1.lock ≡ Some r.0) × (r.1.standing ≡ Ready) × (r.1.left ≡ turns) × (r.1.entered ≡ 0)) }
+        ensures fresh { IfOk result (λ r. (r.1.seen ≡ []) × (r.1.own ≡ []) × (r.1.joined ≡ [])) }
     {
         let about = Start {
             value: Snapshot::of(&value),
@@ -315,7 +351,7 @@ impl<T: StandsFor<E> + Drop, E: Event> Turns<T, E> {
             return Err(LockFault::Memory);
         };
         slots.push_reserved(Some(value));
-        let Ok((table, mut seat)) = Table::new(alloc, &[0, 0], slots, &about) else {
+        let Ok((table, mut seat)) = Table::new(alloc, &[0, 0, 0], slots, &about) else {
             return Err(LockFault::Memory);
         };
         let keeper = cut::<Brand, T, E>(&table.shared, &mut seat, 1);
@@ -329,14 +365,14 @@ impl<T: StandsFor<E> + Drop, E: Event> Turns<T, E> {
     pub fn close(self, mut pass: Pass<E>) -> Result<(T, Pass<E>), (Turns<T, E>, Pass<E>)>
         requires lock { pass.lock ≡ Some self }
         requires ready { pass.standing ≡ Ready }
-        ensures ok { IfOk result (λ r. (r.1 ≡ record pass { standing = Closed; found = pass.entered }) × (T.origin r.0 ≡ self.origin) × ((h : _) × T.stands r.0 h)) }
+        ensures ok { IfOk result (λ r. (r.1 ≡ record pass { standing = Closed; found = pass.entered; seen = r.1.seen }) × (T.origin r.0 ≡ self.origin)) }
+        ensures seen { IfOk result (λ r. T.stands r.0 r.1.seen × IsPrefix pass.seen r.1.seen) }
         ensures err { IfErr result (λ r. (r.0 ≡ self) × (r.1 ≡ record pass { found = r.1.found }) × (pass.entered < r.1.found) × (pass.left + r.1.found ≤ self.turns)) }
         ensures whole { pass.left + pass.entered ≡ self.turns → IsOk result }
     {
         let Turns { table, keeper } = self;
         let (left, entered) = (pass.left(), pass.entered());
         let mut seat = pass.take().into_seat::<Option<T>>();
-        let stub = stub(&table.shared, &mut seat);
         let last = keeper.into_badge().into_seat::<Option<T>>();
         borrow_last(&table.shared, &mut seat, last);
         let found = take_last(&table.shared, &mut seat, entered);
@@ -347,7 +383,8 @@ impl<T: StandsFor<E> + Drop, E: Event> Turns<T, E> {
             return Err((Turns { table, keeper }, pass));
         }
         let value = table.shared.exchange(&mut seat, 0, None).unwrap();
-        pass.close(stub);
+        see(&table.shared, &mut seat);
+        pass.close(stub(&table.shared, &mut seat));
         Ok((value, pass))
     }
 }

@@ -29,6 +29,9 @@ pub struct View<E: Event> {
     pub own: LinkedList<Mark<E>>,
     /// The own events of each pass that was joined into this one.
     pub joined: LinkedList<LinkedList<Mark<E>>>,
+    /// What `own` and `joined` were in the seat from which this one was split.
+    pub noted_own: LinkedList<Mark<E>>,
+    pub noted_joined: LinkedList<LinkedList<Mark<E>>>,
 }
 
 /// What the lock was made of.

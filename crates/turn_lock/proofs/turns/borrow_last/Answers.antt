@@ -9,5 +9,5 @@ join_seat-requires g c =
       search rules,
       search rules,
       search rules,
-      joins _ _ _ _ _ _ _ _ _ o.0 o.1 c.requires.ready.0 c.requires.keeper.0 c.requires.ready.1 c.requires.keeper.1 refl refl c.requires.ready.0 c.requires.ready.1 refl refl,
+      joins _ _ _ _ _ _ _ _ _ o.0 o.1 c.requires.ready.0 c.requires.keeper.0 c.requires.ready.1 c.requires.keeper.1 refl refl c.requires.ready.0 c.requires.ready.1 refl refl refl (λ l p q. p),
     )

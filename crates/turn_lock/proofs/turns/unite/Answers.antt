@@ -1,5 +1,6 @@
 use Rattle.std.proofs.Common.{rules, refl, ◌≡◌, Some, ap, ◌∙◌}
 use Rattle.turn_lock.proofs.Keeping.{joins, learns, some_is}
+use Rattle.turn_lock.proofs.Prefixes.{longer_prefix}
 use Rattle.turn_lock.proofs.turns.unite.Goals as goal
 
 pub join_seat-requires : goal.join_seat-requires
@@ -9,7 +10,7 @@ join_seat-requires g c =
       search rules,
       search rules,
       search rules,
-      joins _ _ _ _ _ _ _ _ _ o.0 o.1 c.requires.ready.0 c.requires.other.0 c.requires.ready.1 c.requires.other.1 refl refl c.requires.ready.0 c.requires.ready.1 refl refl,
+      joins _ _ _ _ _ _ _ _ _ o.0 o.1 c.requires.ready.0 c.requires.other.0 c.requires.ready.1 c.requires.other.1 refl refl c.requires.ready.0 c.requires.ready.1 refl refl refl (λ l p q. longer_prefix _ _ l p q),
     )
 
 pub load-requires : goal.load-requires
