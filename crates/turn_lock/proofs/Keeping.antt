@@ -1,5 +1,5 @@
 -- Each step keeps the rule of the table.
-use Rattle.std.proofs.Common.{◌≡◌, ◌≢◌, ◌⊎◌, ◌==◌, ℕ, zero, suc, ◌+◌, ◌-◌, ◌%◌, ◌^◌, ◌<◌, ◌≤◌, Bool, true, false, List, [], ◌∷◌, ◌++◌, set, get_or, length, length-append, Option, Some, None, IsSome, MatchBool, if◌then◌else◌, inl, inr, ⊎_elim, refl, sym, ap, ◌∙◌, subst, arith, eq-eqb, ne_eqb}
+use Rattle.std.proofs.Common.{◌≡◌, ◌≢◌, ◌⊎◌, ◌==◌, ℕ, zero, suc, ◌+◌, ◌-◌, ◌%◌, ◌^◌, ◌<◌, ◌≤◌, Bool, true, false, List, [], ◌∷◌, ◌++◌, set, get_or, length, length-append, slice_get, Option, Some, None, IsSome, MatchBool, if◌then◌else◌, inl, inr, ⊎_elim, refl, sym, ap, ◌∙◌, subst, arith, eq-eqb, ne_eqb}
 use Rattle.std.specs.List.{sum_by}
 use Rattle.std.proofs.lemmas.List.Sums.{sum_by-cons, sum_by-append}
 use mathlib.Core.List.{IsPrefix}
@@ -12,10 +12,12 @@ use prog.Atomic.{either}
 use Rattle.atomic_table.specs.Table.{State, Me, opening, step, keeps, takes, gives, rest, put_back, Allows, Splits, Joins}
 use Rattle.atomic_table.proofs.Lists.{at_set, at_snoc, at_longer, set_else}
 use Rattle.turn_lock.specs.declared.view.View.{View}
-use Rattle.turn_lock.specs.Rule.{counts, pending, is_ticket, with_added, fresh_view, spent_view, IsOf, Fits, IsHome, IsOut, Kept}
+use Rattle.turn_lock.specs.Own.{counts, mark, times, total, AllStand, MakeUp}
+use Rattle.turn_lock.specs.Rule.{own_lists, pending, is_ticket, with_added, fresh_view, spent_view, IsOf, Fits, IsHome, IsOut, Kept}
 use Rattle.turn_lock.specs.Steps.{entering, holding, seeing, adding, resting, giving, given, Draws, Takes, Looks, Sees, Adds, Ends, Learns, Closes}
-use Rattle.turn_lock.proofs.Prefixes.{prefix_self, prefix_same, prefix_trans}
-use Rattle.turn_lock.proofs.Sums.{sum_set, one_of, two_of, sum_none, here_set}
+use Rattle.turn_lock.proofs.Prefixes.{prefix_self, prefix_trans}
+use Rattle.turn_lock.proofs.Owned.{one_more, all_on, stand_last, times_last, times_few}
+use Rattle.turn_lock.proofs.Sums.{sum_set, one_of, two_of, sum_none, sum_only, here_set}
 
 is_ticket-small : (n : ℕ) (t : Option ℕ) → is_ticket n t ≤ 1
 is_ticket-small n None = omega arith
@@ -86,10 +88,11 @@ module _ {T E O : Type 0} (origin : T → O) (stands : T → List E → Type 0) 
       → (serving + counts w.ticket) + r.ticket ≡ (r.serving + counts v.ticket) + ticket
       → ((n : ℕ) → (is_ticket n w.ticket ≤ is_ticket n v.ticket) ⊎ ((r.ticket ≤ n) × (n < ticket)))
       → w.entered + r.ticket ≡ v.entered + ticket → (length log + pending w) + r.ticket ≤ (length r.log + pending v) + ticket → w.left + ticket ≤ v.left + r.ticket
+      → ((k : ℕ) → times k (own_lists w) + counts (slice_get r.log k) ≡ times k (own_lists v) + counts (slice_get log k))
       → Fits first turns serving log homes w → ((j : ℕ) (u : V) → j ≢ id → get_elem? s.views j ≡ some u → Fits first turns serving log homes u)
       → IsHome origin stands first log homes ⊎ IsOut homes (set s.views id w)
       → Rule record { words = ticket ∷ serving ∷ length log ∷ []; homes = homes; views = set s.views id w }
-  moved s r id v w ticket serving log homes at more waiting tickets entered few left mine others slot = record {
+  moved s r id v w ticket serving log homes at more waiting tickets entered few left places mine others slot = record {
     ticket = ticket;
     serving = serving;
     log = log;
@@ -100,6 +103,7 @@ module _ {T E O : Type 0} (origin : T → O) (stands : T → List E → Type 0) 
     undrawn = λ n l. ⊎_elim (λ (t : is_ticket n w.ticket ≤ is_ticket n v.ticket). omega (arith, sum_set (λ (u : V). is_ticket n u.ticket) s.views id v w at, r.undrawn n (omega arith)))
         (λ (t : (r.ticket ≤ n) × (n < ticket)). absurd (omega arith)) (tickets n);
     entered = omega (arith, sum_set (λ (u : V). u.entered) s.views id v w at, r.entered);
+    once_each = λ k. omega (arith, sum_set (λ (u : V). times k (own_lists u)) s.views id v w at, r.once_each k, places k);
     few = omega (arith, sum_set pending s.views id v w at, r.few);
     bounded = omega (arith, sum_set (λ (u : V). u.left) s.views id v w at, r.bounded);
     each_view = λ j u e. ⊎_elim (λ (t : (j ≡ id) × (w ≡ u)). subst (Fits first turns serving log homes) t.1 mine) (λ (t : (j ≢ id) × (get_elem? s.views j ≡ some u)). others j u t.0 t.1) (at_set s.views id j w u e);
@@ -139,7 +143,7 @@ module _ {T E O : Type 0} (origin : T → O) (stands : T → List E → Type 0) 
   pub starts : (slots : List (Option T)) (x : T) → slots ≡ Some x ∷ [] → origin x ≡ first → stands x [] → Rule (opening (0 ∷ 0 ∷ 0 ∷ []) slots (fresh_view first turns (turns + 1)))
   starts slots x full mine st =
       let v : V = fresh_view first turns (turns + 1) in
-      let fit : Fits {T = T} first turns 0 [] (some (Some x) ∷ []) v = record { of = (refl, refl); counted = omega arith; holding = λ h k. absurd (not_both v.kept h refl k); early = omega arith; prefix = ([], refl) } in
+      let fit : Fits {T = T} first turns 0 [] (some (Some x) ∷ []) v = record { of = (refl, refl); counted = omega arith; holding = λ h k. absurd (not_both v.kept h refl k); early = omega arith; prefix = ([], refl); own = (tt, tt); some_own = omega arith } in
       subst (λ (xs : List (Option T)). Rule (opening (0 ∷ 0 ∷ 0 ∷ []) xs v)) (sym full) (record {
         ticket = 0;
         serving = 0;
@@ -149,6 +153,7 @@ module _ {T E O : Type 0} (origin : T → O) (stands : T → List E → Type 0) 
         once = λ n. omega (arith, sum_by-cons (λ (u : V). is_ticket n u.ticket) v []);
         undrawn = λ n l. omega (arith, sum_by-cons (λ (u : V). is_ticket n u.ticket) v []);
         entered = omega (arith, sum_by-cons (λ (u : V). u.entered) v []);
+        once_each = λ k. omega (arith, sum_by-cons (λ (u : V). times k (own_lists u)) v []);
         few = omega (arith, sum_by-cons pending v []);
         bounded = omega (arith, sum_by-cons (λ (u : V). u.left) v []);
         each_view = λ j u e. one_view 0 [] (some (Some x) ∷ []) v fit j u e;
@@ -181,13 +186,15 @@ module _ {T E O : Type 0} (origin : T → O) (stands : T → List E → Type 0) 
         tt,
         subst (λ (ws : List ℕ). Rule record { words = set ws 0 ((get_or ws 0 0 + 1) % 2 ^ 64); homes = s.homes; views = set s.views id w }) (sym r.words)
             (subst (λ (n : ℕ). Rule record { words = n ∷ r.serving ∷ length r.log ∷ []; homes = s.homes; views = set s.views id w }) (sym up)
-            (moved s r id v w (r.ticket + 1) r.serving r.log s.homes at (omega arith) (omega arith) (λ n. drawn_now r.ticket found v.ticket n here) (omega arith) (omega arith) (omega arith)
+            (moved s r id v w (r.ticket + 1) r.serving r.log s.homes at (omega arith) (omega arith) (λ n. drawn_now r.ticket found v.ticket n here) (omega arith) (omega arith) (omega arith) (λ k. refl)
             (record {
               of = of_same v w refl some_view v.origin fit.of;
               counted = omega arith;
               holding = λ h k. absurd (not_both v.kept h no_value k);
               early = fit.early;
               prefix = fit.prefix;
+              own = fit.own;
+              some_own = omega (arith, fit.some_own);
             })
             (λ j u _ e. r.each_view j u e)
             (slot_stays r.log s.homes s.views id v w at refl r.slot))),
@@ -196,19 +203,19 @@ module _ {T E O : Type 0} (origin : T → O) (stands : T → List E → Type 0) 
 
   -- the slot is empty now
   emptied : (s : S) (r : Rule s) (u : V) → Fits first turns r.serving r.log s.homes u → Fits {T = T} first turns r.serving r.log (none ∷ []) u
-  emptied s r u f = record { of = f.of; counted = f.counted; holding = λ h k. ((f.holding h k).0, refl, (f.holding h k).2); early = f.early; prefix = f.prefix }
+  emptied s r u f = record { of = f.of; counted = f.counted; holding = λ h k. ((f.holding h k).0, refl, (f.holding h k).2); early = f.early; prefix = f.prefix; own = f.own; some_own = f.some_own }
 
   -- the seat takes the value that is at home, as its ticket is served
   taken : (s : S) (r : Rule s) (id : ℕ) (v w : V) (ticket : ℕ) → get_elem? s.views id ≡ some v → r.ticket ≤ ticket
       → (r.serving + counts w.ticket) + r.ticket ≡ (r.serving + counts v.ticket) + ticket
       → ((n : ℕ) → (is_ticket n w.ticket ≤ is_ticket n v.ticket) ⊎ ((r.ticket ≤ n) × (n < ticket)))
-      → w.entered + r.ticket ≡ v.entered + ticket → pending w + r.ticket ≤ pending v + ticket → w.left + ticket ≤ v.left + r.ticket
-      → IsOf first turns w w.origin → counts w.ticket ≤ w.entered → w.ticket ≡ Some r.serving → w.kept ≡ Some r.log → w.added ≡ None → IsPrefix w.seen r.log
+      → w.entered + r.ticket ≡ v.entered + ticket → pending w + r.ticket ≤ pending v + ticket → w.left + ticket ≤ v.left + r.ticket → own_lists w ≡ own_lists v
+      → IsOf first turns w w.origin → counts w.ticket ≤ w.entered → w.ticket ≡ Some r.serving → w.kept ≡ Some r.log → w.added ≡ None → IsPrefix w.seen r.log → AllStand r.log (own_lists w) → total (own_lists w) + pending w ≤ w.entered
       → Rule record { words = ticket ∷ r.serving ∷ length r.log ∷ []; homes = none ∷ []; views = set s.views id w }
-  taken s r id v w ticket at more waiting tickets entered few left of counted served value nothing prefix =
+  taken s r id v w ticket at more waiting tickets entered few left lists of counted served value nothing prefix own some_own =
       let none_added : counts w.added ≡ 0 = ap counts nothing in
-      moved s r id v w ticket r.serving r.log (none ∷ []) at more waiting tickets entered (omega (arith, few)) left
-      (record { of = of; counted = counted; holding = λ h k. (served, refl, some_same w.kept r.log h value k ∙ ap (with_added h) (sym nothing)); early = omega arith; prefix = prefix })
+      moved s r id v w ticket r.serving r.log (none ∷ []) at more waiting tickets entered (omega (arith, few)) left (λ k. ap (λ ls. times k ls + counts (slice_get r.log k)) lists)
+      (record { of = of; counted = counted; holding = λ h k. (served, refl, some_same w.kept r.log h value k ∙ ap (with_added h) (sym nothing)); early = omega arith; prefix = prefix; own = own; some_own = some_own })
       (λ j u _ e. emptied s r u (r.each_view j u e))
       (inr (id, w, r.log, refl, here_set s.views id v w at, value))
 
@@ -242,7 +249,7 @@ module _ {T E O : Type 0} (origin : T → O) (stands : T → List E → Type 0) 
         ap (λ (hs : Homes). get_elem? hs 0) home.1,
         subst (λ (ws : List ℕ). Rule record { words = set ws 1 (get_or ws 1 0); homes = set s.homes 0 none; views = set s.views id w }) (sym r.words)
             (subst (λ (hs : Homes). Rule record { words = r.ticket ∷ r.serving ∷ length r.log ∷ []; homes = set hs 0 none; views = set s.views id w }) (sym home.1)
-            (taken s r id v w r.ticket at (omega arith) (omega arith) (λ k. inl (omega arith)) (omega arith) (omega arith) (omega arith) (of_same v w refl some_view v.origin fit.of) fit.counted served refl refl fit.prefix)),
+            (taken s r id v w r.ticket at (omega arith) (omega arith) (λ k. inl (omega arith)) (omega arith) (omega arith) (omega arith) refl (of_same v w refl some_view v.origin fit.of) fit.counted served refl refl fit.prefix fit.own (omega (arith, fit.some_own)))),
         λ k e. match_true (found == k) _ _ (eq-eqb found k (hit ∙ some_same v.ticket n k ticket e)) (home.0, r.log, refl, has_origin v (origin home.0) v.origin some_view fit.of home.2, home.3, fit.prefix),
       ))
       (λ (miss : found ≢ n). (
@@ -250,7 +257,7 @@ module _ {T E O : Type 0} (origin : T → O) (stands : T → List E → Type 0) 
         keeps,
         tt,
         subst (λ (ws : List ℕ). Rule record { words = set ws 1 (get_or ws 1 0); homes = s.homes; views = set s.views id v }) (sym r.words)
-            (moved s r id v v r.ticket r.serving r.log s.homes at (omega arith) (omega arith) (λ k. inl (omega arith)) (omega arith) (omega arith) (omega arith) fit (λ j u _ e. r.each_view j u e)
+            (moved s r id v v r.ticket r.serving r.log s.homes at (omega arith) (omega arith) (λ k. inl (omega arith)) (omega arith) (omega arith) (omega arith) (λ k. refl) fit (λ j u _ e. r.each_view j u e)
             (slot_stays r.log s.homes s.views id v v at refl r.slot)),
         λ k e. match_false (found == k) _ _ (ne_eqb found k (λ same. miss (same ∙ sym (some_same v.ticket n k ticket e)))) refl,
       ))
@@ -282,19 +289,19 @@ module _ {T E O : Type 0} (origin : T → O) (stands : T → List E → Type 0) 
             (subst (λ (cs : List (ℕ × Option T)). Rule record { words = r.ticket ∷ ((r.serving + 1) % 2 ^ 64) ∷ length r.log ∷ []; homes = put_back s.homes cs; views = set s.views id w }) (sym carries)
             (subst (λ (hs : Homes). Rule record { words = r.ticket ∷ ((r.serving + 1) % 2 ^ 64) ∷ length r.log ∷ []; homes = set hs 0 (some (Some x)); views = set s.views id w }) (sym place.1)
             (subst (λ (n : ℕ). Rule record { words = r.ticket ∷ n ∷ length r.log ∷ []; homes = some (Some x) ∷ []; views = set s.views id w }) (sym up)
-            (moved s r id v w r.ticket (r.serving + 1) r.log (some (Some x) ∷ []) at (omega arith) (omega arith) (λ n. inl (omega arith)) (omega arith) (omega arith) (omega arith)
-            (record { of = of_same v w refl some_view v.origin fit.of; counted = omega arith; holding = λ k e. absurd (not_both w.kept k refl e); early = omega arith; prefix = fit.prefix })
+            (moved s r id v w r.ticket (r.serving + 1) r.log (some (Some x) ∷ []) at (omega arith) (omega arith) (λ n. inl (omega arith)) (omega arith) (omega arith) (omega arith) (λ k. refl)
+            (record { of = of_same v w refl some_view v.origin fit.of; counted = omega arith; holding = λ k e. absurd (not_both w.kept k refl e); early = omega arith; prefix = fit.prefix; own = fit.own; some_own = omega (arith, fit.some_own) })
             (λ j u other there. let known : Fits first turns r.serving r.log s.homes u = r.each_view j u there in
-            record { of = known.of; counted = known.counted; holding = λ k e. absurd (other (one_seat s r id j v u r.serving at there served (known.holding k e).0)); early = known.early; prefix = known.prefix })
+            record { of = known.of; counted = known.counted; holding = λ k e. absurd (other (one_seat s r id j v u r.serving at there served (known.holding k e).0)); early = known.early; prefix = known.prefix; own = known.own; some_own = known.some_own })
             (inl (x, refl, mine, subst (stands x) (sym hold.2) st)))))),
         refl,
       )
 
-  pub adds : (slots id : ℕ) (me : M) (h : List E) (e : E) → turns ≤ 2 ^ 62 → me.0.kept ≡ Some h → me.0.added ≡ None
+  adds_one : (slots id : ℕ) (me : M) (h : List E) (e : E) → turns ≤ 2 ^ 62 → me.0.kept ≡ Some h → me.0.added ≡ None
       → Allows Rule slots id me 2 (λ n. (n + 1) % 2 ^ 64) (Adds (Some e) (step slots 2 1 0 none) me)
-  adds slots id me h e small value nothing s r long at fits =
+  adds_one slots id me h e small value nothing s r long at fits =
       let v : V = me.0 in
-      let w : V = adding v h (Some e) in
+      let w : V = adding v r.log (Some e) in
       let fit : Fits first turns r.serving r.log s.homes v = r.each_view id v at in
       let hold = fit.holding h value in
       let served : v.ticket ≡ Some r.serving = hold.0 in
@@ -305,6 +312,8 @@ module _ {T E O : Type 0} (origin : T → O) (stands : T → List E → Type 0) 
       let some_kept : counts v.kept ≡ 1 = counts-some h v.kept value in
       let some_view : v ≢ spent_view = λ d. not_both v.kept h (ap (λ (u : V). u.kept) d) value in
       let here : get_or s.words 2 0 ≡ length r.log = ap (λ (ws : List ℕ). get_or ws 2 0) r.words in
+      let own_one_more : total (own_lists w) ≡ total (own_lists v) + 1 = omega (arith, length-append v.own (mark r.log e ∷ [])) in
+      let own : AllStand log (own_lists w) = (stand_last r.log e 0 v.own (omega arith) fit.own.0, all_on r.log log v.joined (e ∷ [], refl) fit.own.1) in
       let longer : length log ≡ length r.log + 1 = length-append r.log (e ∷ []) in
       let up : (length r.log + 1) % 2 ^ 64 ≡ length log = omega (arith, r.bounded, r.few, one_of pending s.views id v at) in (
         w,
@@ -312,19 +321,25 @@ module _ {T E O : Type 0} (origin : T → O) (stands : T → List E → Type 0) 
         tt,
         subst (λ (ws : List ℕ). Rule record { words = set ws 2 ((get_or ws 2 0 + 1) % 2 ^ 64); homes = s.homes; views = set s.views id w }) (sym r.words)
             (subst (λ (n : ℕ). Rule record { words = r.ticket ∷ r.serving ∷ n ∷ []; homes = s.homes; views = set s.views id w }) (sym up)
-            (moved s r id v w r.ticket r.serving log s.homes at (omega arith) (omega arith) (λ n. inl (omega arith)) (omega arith) (omega arith) (omega arith)
+            (moved s r id v w r.ticket r.serving log s.homes at (omega arith) (omega arith) (λ n. inl (omega arith)) (omega arith) (omega arith) (omega arith) (λ k. omega (arith, one_more r.log e k, times_last k v.own (mark r.log e)))
             (record {
               of = of_same v w refl some_view v.origin fit.of;
               counted = fit.counted;
               holding = λ k d. (served, hold.1, ap (λ (l : List E). l ++ e ∷ []) (log_is ∙ some_same v.kept h k value d));
               early = omega arith;
-              prefix = prefix_same (h ++ e ∷ []) log (ap (λ (l : List E). l ++ e ∷ []) (sym log_is));
+              prefix = prefix_self log;
+              own = own;
+              some_own = omega (arith, fit.some_own);
             })
             (λ j u other there. let known : Fits first turns r.serving r.log s.homes u = r.each_view j u there in
-            record { of = known.of; counted = known.counted; holding = λ k d. absurd (other (one_seat s r id j v u r.serving at there served (known.holding k d).0)); early = known.early; prefix = prefix_trans u.seen r.log log known.prefix (e ∷ [], refl) })
+            record { of = known.of; counted = known.counted; holding = λ k d. absurd (other (one_seat s r id j v u r.serving at there served (known.holding k d).0)); early = known.early; prefix = prefix_trans u.seen r.log log known.prefix (e ∷ [], refl); own = all_on r.log log (own_lists u) (e ∷ [], refl) known.own; some_own = known.some_own })
             (slot_goes_on r.log log s.homes s.views id v w at refl hold.1 r.slot))),
-        λ k d. let same : h ≡ k = some_same v.kept h k value d in (ap (λ (l : List E). (adding v l (Some e), me.1)) same, sym (here ∙ ap length (log_is ∙ same))),
+        λ k d. let same : r.log ≡ k = log_is ∙ some_same v.kept h k value d in (ap (λ (l : List E). (adding v l (Some e), me.1)) same, sym (here ∙ ap length same), subst (λ (l : List E). AllStand (with_added l (Some e)) (own_lists (adding v l (Some e)))) same own),
       )
+
+  pub adds : (slots id : ℕ) (me : M) (h : List E) (named : Option E) (e : E) → named ≡ Some e → turns ≤ 2 ^ 62 → me.0.kept ≡ Some h → me.0.added ≡ None
+      → Allows Rule slots id me 2 (λ n. (n + 1) % 2 ^ 64) (Adds named (step slots 2 1 0 none) me)
+  adds slots id me h named e is small value nothing = subst (λ (x : Option E). Allows Rule slots id me 2 (λ n. (n + 1) % 2 ^ 64) (Adds x (step slots 2 1 0 none) me)) (sym is) (adds_one slots id me h e small value nothing)
 
   pub sees : (slots id : ℕ) (me : M) (o : O) → me.0.origin ≡ Some o → Allows Rule slots id me 2 (λ k. k) (Sees (step slots 2 0 0 none) me)
   sees slots id me o is s r long at fits =
@@ -337,11 +352,11 @@ module _ {T E O : Type 0} (origin : T → O) (stands : T → List E → Type 0) 
         keeps,
         tt,
         subst (λ (ws : List ℕ). Rule record { words = set ws 2 (get_or ws 2 0); homes = s.homes; views = set s.views id w }) (sym r.words)
-            (moved s r id v w r.ticket r.serving r.log s.homes at (omega arith) (omega arith) (λ k. inl (omega arith)) (omega arith) (omega arith) (omega arith)
-            (record { of = of_same v w refl some_view v.origin fit.of; counted = fit.counted; holding = fit.holding; early = fit.early; prefix = prefix_self r.log })
+            (moved s r id v w r.ticket r.serving r.log s.homes at (omega arith) (omega arith) (λ k. inl (omega arith)) (omega arith) (omega arith) (omega arith) (λ k. refl)
+            (record { of = of_same v w refl some_view v.origin fit.of; counted = fit.counted; holding = fit.holding; early = fit.early; prefix = prefix_self r.log; own = fit.own; some_own = fit.some_own })
             (λ j u _ e. r.each_view j u e)
             (slot_stays r.log s.homes s.views id v w at refl r.slot)),
-        (r.log, refl, sym here, fit.prefix, λ h k. (fit.holding h k).2),
+        (r.log, refl, sym here, fit.prefix, fit.own, λ h k. (fit.holding h k).2),
       )
 
   -- the turns of one view are at most all turns
@@ -361,7 +376,7 @@ module _ {T E O : Type 0} (origin : T → O) (stands : T → List E → Type 0) 
         keeps,
         tt,
         subst (λ (ws : List ℕ). Rule record { words = set ws 0 (get_or ws 0 0); homes = s.homes; views = set s.views id v }) (sym r.words)
-            (moved s r id v v r.ticket r.serving r.log s.homes at (omega arith) (omega arith) (λ k. inl (omega arith)) (omega arith) (omega arith) (omega arith) fit (λ j u _ e. r.each_view j u e)
+            (moved s r id v v r.ticket r.serving r.log s.homes at (omega arith) (omega arith) (λ k. inl (omega arith)) (omega arith) (omega arith) (omega arith) (λ k. refl) fit (λ j u _ e. r.each_view j u e)
             (slot_stays r.log s.homes s.views id v v at refl r.slot)),
         (refl, all_turns v (v.left + v.entered) some_view v.origin fit.of (omega (arith, few_turns s r id v at, one_of (λ (u : V). u.entered) s.views id v at, r.entered))),
       )
@@ -385,13 +400,14 @@ module _ {T E O : Type 0} (origin : T → O) (stands : T → List E → Type 0) 
         once = λ k. omega (arith, split_sum (λ (u : V). is_ticket k u.ticket) s.views id v left right at, r.once k);
         undrawn = λ k l. omega (arith, split_sum (λ (u : V). is_ticket k u.ticket) s.views id v left right at, r.undrawn k l);
         entered = omega (arith, split_sum (λ (u : V). u.entered) s.views id v left right at, r.entered);
+        once_each = λ k. omega (arith, split_sum (λ (u : V). times k (own_lists u)) s.views id v left right at, r.once_each k);
         few = omega (arith, split_sum pending s.views id v left right at, r.few);
         bounded = omega (arith, split_sum (λ (u : V). u.left) s.views id v left right at, r.bounded);
         each_view = λ j u e. ⊎_elim
             (λ (here : get_elem? (set s.views id left) j ≡ some u). ⊎_elim
-            (λ (t : (j ≡ id) × (left ≡ u)). subst (Fits first turns r.serving r.log s.homes) t.1 (record { of = of_same v left refl some_view v.origin fit.of; counted = fit.counted; holding = fit.holding; early = fit.early; prefix = fit.prefix }))
+            (λ (t : (j ≡ id) × (left ≡ u)). subst (Fits first turns r.serving r.log s.homes) t.1 (record { of = of_same v left refl some_view v.origin fit.of; counted = fit.counted; holding = fit.holding; early = fit.early; prefix = fit.prefix; own = fit.own; some_own = fit.some_own }))
             (λ (t : (j ≢ id) × (get_elem? s.views j ≡ some u)). r.each_view j u t.1) (at_set s.views id j left u here))
-            (λ (new : right ≡ u). subst (Fits first turns r.serving r.log s.homes) new (record { of = of_same v right refl some_view v.origin fit.of; counted = omega arith; holding = λ h k. absurd (not_both right.kept h refl k); early = omega arith; prefix = fit.prefix }))
+            (λ (new : right ≡ u). subst (Fits first turns r.serving r.log s.homes) new (record { of = of_same v right refl some_view v.origin fit.of; counted = omega arith; holding = λ h k. absurd (not_both right.kept h refl k); early = omega arith; prefix = fit.prefix; own = (tt, tt); some_own = omega arith }))
             (at_snoc (set s.views id left) right u j e);
         slot = longer_views r.log s.homes (set s.views id left) right (slot_stays r.log s.homes s.views id v left at refl r.slot);
       }
@@ -409,8 +425,10 @@ module _ {T E O : Type 0} (origin : T → O) (stands : T → List E → Type 0) 
   pub joins : (id other : ℕ) (v w u : V) (o : O) → v.origin ≡ Some o → v.ticket ≡ None → w.ticket ≡ None → v.kept ≡ None → w.kept ≡ None
       → u.origin ≡ v.origin → u.turns ≡ v.turns → u.ticket ≡ None → u.kept ≡ None → u.added ≡ v.added → u.left ≡ v.left + w.left → u.entered ≡ v.entered + w.entered
       → ((l : List E) → IsPrefix v.seen l → IsPrefix w.seen l → IsPrefix u.seen l)
+      → ((l : List E) → AllStand l (own_lists v) → AllStand l (own_lists w) → AllStand l (own_lists u))
+      → ((k : ℕ) → times k (own_lists u) ≡ times k (own_lists v) + times k (own_lists w)) → total (own_lists u) ≤ total (own_lists v) + total (own_lists w)
       → Joins Rule id v other w u spent_view
-  joins id other v w u o is v_ticket w_ticket v_value w_value u_origin u_turns u_ticket u_value u_added u_left u_entered u_seen s r at apart there =
+  joins id other v w u o is v_ticket w_ticket v_value w_value u_origin u_turns u_ticket u_value u_added u_left u_entered u_seen u_own u_times u_total s r at apart there =
       let fit : Fits first turns r.serving r.log s.homes v = r.each_view id v at in
       let some_view : v ≢ spent_view = λ e. let d : Some o ≡ None = sym is ∙ ap (λ (x : V). x.origin) e in absurd (cc d) in
       let views : List V = set (set s.views id u) other spent_view in
@@ -433,13 +451,14 @@ module _ {T E O : Type 0} (origin : T → O) (stands : T → List E → Type 0) 
         once = λ k. omega (arith, tickets k, r.once k, none_of k v v_ticket, none_of k w w_ticket, none_of k u u_ticket);
         undrawn = λ k l. omega (arith, tickets k, r.undrawn k l, none_of k v v_ticket, none_of k w w_ticket, none_of k u u_ticket);
         entered = omega (arith, join_sum (λ (x : V). x.entered) s.views id other v w u at there, r.entered);
+        once_each = λ k. omega (arith, join_sum (λ (x : V). times k (own_lists x)) s.views id other v w u at there, r.once_each k, u_times k);
         few = omega (arith, join_sum pending s.views id other v w u at there, r.few, no_v, no_w, no_u);
         bounded = omega (arith, join_sum (λ (x : V). x.left) s.views id other v w u at there, r.bounded);
         each_view = λ j x e. ⊎_elim
-            (λ (t : (j ≡ other) × (spent_view ≡ x)). subst (Fits first turns r.serving r.log s.homes) t.1 (record { of = refl; counted = omega arith; holding = λ h k. absurd (not_both {A = List E} None h refl k); early = omega arith; prefix = (r.log, refl) }))
+            (λ (t : (j ≡ other) × (spent_view ≡ x)). subst (Fits first turns r.serving r.log s.homes) t.1 (record { of = refl; counted = omega arith; holding = λ h k. absurd (not_both {A = List E} None h refl k); early = omega arith; prefix = (r.log, refl); own = (tt, tt); some_own = omega arith }))
             (λ (t : (j ≢ other) × (get_elem? (set s.views id u) j ≡ some x)). ⊎_elim
             (λ (h : (j ≡ id) × (u ≡ x)). subst (Fits first turns r.serving r.log s.homes) h.1
-            (record { of = of_same v u u_turns some_view u.origin (subst (IsOf first turns v) (sym u_origin) fit.of); counted = omega arith; holding = λ k d. absurd (not_both u.kept k u_value d); early = omega arith; prefix = u_seen r.log fit.prefix other_fit.prefix }))
+            (record { of = of_same v u u_turns some_view u.origin (subst (IsOf first turns v) (sym u_origin) fit.of); counted = omega arith; holding = λ k d. absurd (not_both u.kept k u_value d); early = omega arith; prefix = u_seen r.log fit.prefix other_fit.prefix; own = u_own r.log fit.own other_fit.own; some_own = omega (arith, fit.some_own, other_fit.some_own) }))
             (λ (h : (j ≢ id) × (get_elem? s.views j ≡ some x)). r.each_view j x h.1) (at_set s.views id j u x t.1))
             (at_set (set s.views id u) other j spent_view x e);
         slot = slot_stays r.log s.homes (set s.views id u) other w spent_view there (sym w_value) (slot_stays r.log s.homes s.views id v u at (u_value ∙ sym v_value) r.slot);
@@ -455,6 +474,14 @@ module _ {T E O : Type 0} (origin : T → O) (stands : T → List E → Type 0) 
   home_at_end : (s : S) (r : Rule s) → ((j : ℕ) (u : V) → get_elem? s.views j ≡ some u → counts u.ticket ≡ 0) → HomeOrOut r.log s.homes s.views → IsHome origin stands first r.log s.homes
   home_at_end s r none_of (inl home) = home
   home_at_end s r none_of (inr out) = absurd (omega (arith, none_of out.0 out.1 out.4, counts-some r.serving out.1.ticket ((r.each_view out.0 out.1 out.4).holding out.2 out.5).0))
+
+  -- and its own lists make up the history
+  all_mine : (s : S) (r : Rule s) (id : ℕ) (v : V) → get_elem? s.views id ≡ some v → v.entered ≡ r.ticket → MakeUp r.log (own_lists v)
+  all_mine s r id v at all = record {
+    stand = (r.each_view id v at).own;
+    once = λ k. sym (sum_only (λ (u : V). times k (own_lists u)) s.views id v at (λ j u other there.
+        omega (arith, two_of (λ (x : V). x.entered) s.views j id u v other there at, r.entered, (r.each_view j u there).some_own, times_few k (own_lists u)))) ∙ r.once_each k;
+  }
 
   pub closes : (slots id : ℕ) (me : M) (o : O) (old new : ℕ) → me.0.origin ≡ Some o → me.0.ticket ≡ None → me.0.kept ≡ None → 0 < me.0.left → me.0.entered ≡ old → new ≡ old + 1
       → Allows Rule slots id me 0 (λ k. either (k == old) new k) (Closes origin stands (step slots 0 old new none) me)
@@ -478,9 +505,9 @@ module _ {T E O : Type 0} (origin : T → O) (stands : T → List E → Type 0) 
         subst (λ (ws : List ℕ). Rule record { words = set ws 0 (either (get_or ws 0 0 == old) new (get_or ws 0 0)); homes = set s.homes 0 none; views = set s.views id w }) (sym r.words)
             (subst (λ (hs : Homes). Rule record { words = either (r.ticket == old) new r.ticket ∷ r.serving ∷ length r.log ∷ []; homes = set hs 0 none; views = set s.views id w }) (sym home.1)
             (subst (λ (k : ℕ). Rule record { words = k ∷ r.serving ∷ length r.log ∷ []; homes = none ∷ []; views = set s.views id w }) (sym next)
-            (taken s r id v w (r.ticket + 1) at (omega arith) (omega arith) (λ n. drawn_now r.ticket found v.ticket n here) (omega arith) (omega arith) (omega arith) (of_same v w refl some_view v.origin fit.of) (omega arith)
-            (ap Some (here ∙ sym still)) refl refl fit.prefix))),
-        match_true (found == old) _ _ (eq-eqb found old hit) (home.0, r.log, refl, has_origin v (origin home.0) v.origin some_view fit.of home.2, home.3, fit.prefix),
+            (taken s r id v w (r.ticket + 1) at (omega arith) (omega arith) (λ n. drawn_now r.ticket found v.ticket n here) (omega arith) (omega arith) (omega arith) refl (of_same v w refl some_view v.origin fit.of) (omega arith)
+            (ap Some (here ∙ sym still)) refl refl fit.prefix fit.own (omega (arith, fit.some_own))))),
+        match_true (found == old) _ _ (eq-eqb found old hit) ((home.0, r.log, refl, has_origin v (origin home.0) v.origin some_view fit.of home.2, home.3, fit.prefix), all_mine s r id v at (all ∙ sym hit ∙ here)),
       ))
       (λ (miss : found ≢ old).
       let next : either (r.ticket == old) new r.ticket ≡ r.ticket = ap (λ (b : Bool). either b new r.ticket) (ne_eqb r.ticket old (λ e. miss (here ∙ e))) in
@@ -490,7 +517,7 @@ module _ {T E O : Type 0} (origin : T → O) (stands : T → List E → Type 0) 
         tt,
         subst (λ (ws : List ℕ). Rule record { words = set ws 0 (either (get_or ws 0 0 == old) new (get_or ws 0 0)); homes = s.homes; views = set s.views id v }) (sym r.words)
             (subst (λ (k : ℕ). Rule record { words = k ∷ r.serving ∷ length r.log ∷ []; homes = s.homes; views = set s.views id v }) (sym next)
-            (moved s r id v v r.ticket r.serving r.log s.homes at (omega arith) (omega arith) (λ k. inl (omega arith)) (omega arith) (omega arith) (omega arith) fit (λ j u _ e. r.each_view j u e)
+            (moved s r id v v r.ticket r.serving r.log s.homes at (omega arith) (omega arith) (λ k. inl (omega arith)) (omega arith) (omega arith) (omega arith) (λ k. refl) fit (λ j u _ e. r.each_view j u e)
             (slot_stays r.log s.homes s.views id v v at refl r.slot))),
         match_false (found == old) _ _ (ne_eqb found old miss) (refl, omega arith, all_turns v (v.left + found) some_view v.origin fit.of (omega (arith, few_turns s r id v at))),
       ))

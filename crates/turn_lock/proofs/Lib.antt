@@ -1,4 +1,5 @@
 pub mod Sums
 pub mod Prefixes
+pub mod Owned
 pub mod Keeping
 pub mod Guards

@@ -27,6 +27,11 @@ module _ {A : Type 0} (f : A → ℕ) where
   sum_none [] none_of = refl
   sum_none (x ∷ xs) none_of = omega (arith, none_of zero x refl, sum_none xs (λ i a e. none_of (suc i) a e), sum_by-cons f x xs)
 
+  pub sum_only : (l : List A) (i : ℕ) (a : A) → get_elem? l i ≡ some a → ((j : ℕ) (b : A) → j ≢ i → get_elem? l j ≡ some b → f b ≡ 0) → sum_by f l ≡ f a
+  sum_only [] i a e others = absurd (some-ne-none a (sym e))
+  sum_only (x ∷ xs) zero a e others = omega (arith, ap f (some-injective x a e), sum_none xs (λ j b d. others (suc j) b (λ k. omega arith) d), sum_by-cons f x xs)
+  sum_only (x ∷ xs) (suc i) a e others = omega (arith, others zero x (λ k. omega arith) refl, sum_only xs i a e (λ j b n d. others (suc j) b (λ k. n (omega arith)) d), sum_by-cons f x xs)
+
 pub here_set : {A : Type 0} (l : List A) (i : ℕ) (a b : A) → get_elem? l i ≡ some a → get_elem? (set l i b) i ≡ some b
 here_set [] i a b e = absurd (some-ne-none a (sym e))
 here_set (x ∷ xs) zero a b e = refl

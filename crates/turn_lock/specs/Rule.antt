@@ -1,16 +1,13 @@
 -- The rule of the table, this product's own. Word 0 is the ticket that is drawn next, word 1 the ticket that is served, word 2 how many events the history has, and the slot has the value.
-use Rattle.std.specs.Prelude.{◌≡◌, ◌⊎◌, ◌==◌, ℕ, ◌+◌, ◌-◌, ◌≤◌, List, [], ◌∷◌, ◌++◌, length, if◌then◌else◌, Option, Some, None, sum_by}
+use Rattle.std.specs.Prelude.{◌≡◌, ◌⊎◌, ◌==◌, ℕ, ◌+◌, ◌-◌, ◌≤◌, List, [], ◌∷◌, ◌++◌, length, slice_get, if◌then◌else◌, Option, Some, None, sum_by}
 use mathlib.Core.List.{IsPrefix}
 use mathlib.Core.Option.{none, some}
 use mathlib.Core.Option as maybe
 use lib.ListN.{get_elem?}
 use Rattle.atomic_table.specs.Table.{State}
+use Rattle.turn_lock.specs.declared.view.Mark.{Mark}
 use Rattle.turn_lock.specs.declared.view.View.{View}
-
--- 1 where there is one, else 0
-abbrev pub counts : {A : Type 0} → Option A → ℕ
-counts (Some _) = 1
-counts None = 0
+use Rattle.turn_lock.specs.Own.{counts, times, total, AllStand}
 
 -- 1 where the ticket is n, else 0
 abbrev pub is_ticket : ℕ → Option ℕ → ℕ
@@ -35,6 +32,10 @@ module _ {E O : Type 0} where
   IsOf first turns v (Some o) = (o ≡ first) × (v.turns ≡ turns)
   IsOf first turns v None = v ≡ spent_view
 
+  -- the own events of a view, and those of each that was joined into it
+  abbrev pub own_lists : View E O → List (List (Mark E))
+  own_lists v = v.own ∷ v.joined
+
   -- 1 where a turn may still add an event
   abbrev pub pending : View E O → ℕ
   pending v = counts v.ticket - counts v.added
@@ -51,6 +52,10 @@ module _ {E O : Type 0} where
       pub early : counts v.added ≤ counts v.kept
       -- the history begins with all that was seen
       pub prefix : IsPrefix v.seen log
+      -- its own events stand in the history, in its order
+      pub own : AllStand log (own_lists v)
+      -- each turn entered has one own event at most, and none yet where it may still add one
+      pub some_own : total (own_lists v) + pending v ≤ v.entered
 
     -- the value is in the slot, has the lock's origin, and stands for the history
     abbrev pub IsHome : (T → O) → (T → List E → Type 0) → O → List E → List (maybe.Option (Option T)) → Type 0
@@ -73,6 +78,8 @@ module _ {E O : Type 0} where
     pub undrawn : (n : ℕ) → ticket ≤ n → sum_by (λ v. is_ticket n v.ticket) s.views ≡ 0
     -- the turns entered add up to ticket
     pub entered : sum_by (λ v. v.entered) s.views ≡ ticket
+    -- each place of the history, and no other, is an own place of exactly one view
+    pub once_each : (k : ℕ) → sum_by (λ v. times k (own_lists v)) s.views ≡ counts (slice_get log k)
     -- each turn adds one event at most
     pub few : length log + sum_by pending s.views ≤ ticket
     -- the turns left and ticket are at most the turns of the lock, and the one that closes it

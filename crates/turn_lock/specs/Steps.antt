@@ -2,9 +2,9 @@
 use Rattle.std.specs.Prelude.{◌≡◌, ◌==◌, ℕ, ◌+◌, ◌-◌, ◌<◌, ◌≤◌, List, [], ◌∷◌, ◌++◌, length, nat_lt, if◌then◌else◌, Option, Some, None, MatchBool}
 use mathlib.Core.List.{IsPrefix}
 use Rattle.atomic_table.specs.Table.{Me, Step, rest}
-use Rattle.turn_lock.specs.declared.view.Mark.{Mark}
 use Rattle.turn_lock.specs.declared.view.View.{View}
-use Rattle.turn_lock.specs.Rule.{with_added}
+use Rattle.turn_lock.specs.Own.{own_with, AllStand, MakeUp}
+use Rattle.turn_lock.specs.Rule.{own_lists, with_added}
 
 abbrev pub longer : {E : Type 0} → List E → List E → List E
 longer xs ys = if nat_lt (length xs) (length ys) then ys else xs
@@ -12,15 +12,6 @@ longer xs ys = if nat_lt (length xs) (length ys) then ys else xs
 abbrev pub list_of : {E : Type 0} → Option (List E) → List E
 list_of (Some h) = h
 list_of None = []
-
--- the event that comes next after the list, at its place
-abbrev pub mark : {E : Type 0} → List E → E → Mark E
-mark h e = record { place = length h; event = e }
-
--- the own events, and the event that comes next after h if there is one
-abbrev pub own_with : {E : Type 0} → List (Mark E) → List E → Option E → List (Mark E)
-own_with own h (Some e) = own ++ mark h e ∷ []
-own_with own h None = own
 
 -- a seat's view, and the slots that it holds
 abbrev Sat : Type 0 → Type 0 → Type 0 → Type 0
@@ -86,11 +77,11 @@ module _ {T E O : Type 0} where
 
   -- the history was seen, as long as the word says. It begins with all that was seen before, and is the list of the value that the seat has
   abbrev pub Sees : Step (Option T) → Sat T E O → ℕ → Sat T E O → Type 0
-  Sees st m found m' = (l : List E) × (m' ≡ (seeing m.0 l, m.1)) × (length l ≡ found) × IsPrefix m.0.seen l × ((h : List E) → m.0.kept ≡ Some h → l ≡ with_added h m.0.added)
+  Sees st m found m' = (l : List E) × (m' ≡ (seeing m.0 l, m.1)) × (length l ≡ found) × IsPrefix m.0.seen l × AllStand l (own_lists m.0) × ((h : List E) → m.0.kept ≡ Some h → l ≡ with_added h m.0.added)
 
   -- the event was added to the list of the value that the seat has
   abbrev pub Adds : Option E → Step (Option T) → Sat T E O → ℕ → Sat T E O → Type 0
-  Adds e st m found m' = (h : List E) → m.0.kept ≡ Some h → (m' ≡ (adding m.0 h e, m.1)) × (length h ≡ found)
+  Adds e st m found m' = (h : List E) → m.0.kept ≡ Some h → (m' ≡ (adding m.0 h e, m.1)) × (length h ≡ found) × AllStand (with_added h e) (own_lists (adding m.0 h e))
 
   -- the value was put back, and the next ticket is served
   abbrev pub Ends : Step (Option T) → Sat T E O → ℕ → Sat T E O → Type 0
@@ -100,6 +91,6 @@ module _ {T E O : Type 0} where
   abbrev pub Learns : Step (Option T) → Sat T E O → ℕ → Sat T E O → Type 0
   Learns st m found m' = (m' ≡ m) × (m.0.left + m.0.entered ≤ m.0.turns + 1)
 
-  -- the last turn was entered and the value taken, as all turns so far were the seat's; or there were more
+  -- the last turn was entered and the value taken, as all turns so far were the seat's, so that its own lists make up the history; or there were more
   abbrev pub Closes : (T → O) → (T → List E → Type 0) → Step (Option T) → Sat T E O → ℕ → Sat T E O → Type 0
-  Closes origin stands st m found m' = MatchBool (found == st.first) (Takes origin stands (entering m.0 found) m m') ((m' ≡ m) × (m.0.entered < found) × (m.0.left + found ≤ m.0.turns + 1))
+  Closes origin stands st m found m' = MatchBool (found == st.first) (Takes origin stands (entering m.0 found) m m' × MakeUp (given_back m'.0) (own_lists m.0)) ((m' ≡ m) × (m.0.entered < found) × (m.0.left + found ≤ m.0.turns + 1))

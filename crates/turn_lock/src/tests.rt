@@ -1,7 +1,7 @@
 ghost use Rattle.std.specs.Prelude.{◌≡◌, ◌+◌, ◌-◌, ◌<◌, ◌≤◌, ◌∷◌, ◌++◌, OnOk, OnErr, IfOk, Some, map};
 ghost use Rattle.turn_lock.specs.declared.pass.Standing.TheVariants.{Ready, InTurn};
 ghost use mathlib.Core.List.{[]};
-ghost use Rattle.turn_lock.specs.Steps.{mark};
+ghost use Rattle.turn_lock.specs.Own.{mark};
 
 use super::*;
 use std::alloc::AllocError;

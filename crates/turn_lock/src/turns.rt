@@ -2,8 +2,9 @@
 ghost use Rattle.std.specs.Prelude.{◌≡◌, ◌≢◌, ℕ, ◌+◌, ◌-◌, ◌^◌, ◌<◌, ◌≤◌, [], ◌∷◌, ◌++◌, IfOk, IfErr, IsOk, IsOkAnd, MatchResult, IsSome, Some, None};
 ghost use mathlib.Core.List.{IsPrefix};
 ghost use Rattle.turn_lock.specs.Known.{lock_of, known_of};
-ghost use Rattle.turn_lock.specs.Rule.{with_added};
-ghost use Rattle.turn_lock.specs.Steps.{entering, Takes, HasTaken, seeing, adding, resting, giving, given, given_back, both, lent, longer, list_of, mark, own_with};
+ghost use Rattle.turn_lock.specs.Own.{mark, own_with, AllStand, MakeUp};
+ghost use Rattle.turn_lock.specs.Rule.{own_lists, with_added};
+ghost use Rattle.turn_lock.specs.Steps.{entering, Takes, HasTaken, seeing, adding, resting, giving, given, given_back, both, lent, longer, list_of};
 ghost use Rattle.turn_lock.specs.declared.pass.Standing.TheVariants.{Ready, InTurn, Closed};
 
 use crate::event::{Event, StandsFor};
@@ -185,7 +186,7 @@ fn borrow_last<T: StandsFor<E>, E: Event>(
 )
     requires table { (seat.old.table_id ≡ shared.now.table_id) × (keeper.table_id ≡ shared.now.table_id) × (shared.now.table_id.words ≡ 3) }
     requires ready { (seat.old.me.0.ticket ≡ None) × (seat.old.me.0.kept ≡ None) × IsSome seat.old.me.0.origin }
-    requires keeper { (keeper.me.0.ticket ≡ None) × (keeper.me.0.kept ≡ None) × (keeper.me.1 ≡ []) }
+    requires keeper { (keeper.me.0.ticket ≡ None) × (keeper.me.0.kept ≡ None) × (keeper.me.1 ≡ []) × (own_lists keeper.me.0 ≡ [] ∷ []) }
     ensures seat { (seat.new.table_id ≡ seat.old.table_id) × (seat.new.id ≡ seat.old.id) }
     ensures lent { seat.new.me ≡ (lent seat.old.me.0 keeper.me.0, seat.old.me.1) }
 {
@@ -202,7 +203,7 @@ fn take_last<T: StandsFor<E>, E: Event>(
     requires ready { (seat.old.me.0.ticket ≡ None) × (seat.old.me.0.kept ≡ None) × IsSome seat.old.me.0.origin }
     requires turns { (0 < seat.old.me.0.left) × (seat.old.me.0.entered ≡ entered) × (entered < 2 ^ 63) }
     ensures seat { (seat.new.table_id ≡ seat.old.table_id) × (seat.new.id ≡ seat.old.id) }
-    ensures takes { result ≡ entered → Takes T.origin T.stands (entering seat.old.me.0 result) seat.old.me seat.new.me }
+    ensures takes { result ≡ entered → Takes T.origin T.stands (entering seat.old.me.0 result) seat.old.me seat.new.me × MakeUp (given_back seat.new.me.0) (own_lists seat.old.me.0) }
     ensures stays { result ≢ entered → (seat.new.me ≡ seat.old.me) × (entered < result) × (seat.old.me.0.left + result ≤ seat.old.me.0.turns + 1) }
 {
     shared.compare_exchange::<Close>(seat, TICKET, entered, entered + 1)
@@ -215,6 +216,7 @@ fn see<T: StandsFor<E>, E: Event>(shared: &Words<T, E>, seat: &mut Place<T, E>)
     ensures seat { (seat.new.table_id ≡ seat.old.table_id) × (seat.new.id ≡ seat.old.id) }
     ensures sees { seat.new.me ≡ (seeing seat.old.me.0 (given_back seat.old.me.0), seat.old.me.1) }
     ensures prefix { IsPrefix seat.old.me.0.seen (given_back seat.old.me.0) }
+    ensures own { AllStand (given_back seat.old.me.0) (own_lists seat.old.me.0) }
 {
     shared.load::<See>(seat, COUNT);
 }
@@ -226,6 +228,7 @@ fn add<N: Naming<E>, T: StandsFor<E>, E: Event>(shared: &Words<T, E>, seat: &mut
     requires event { IsSome N.event }
     ensures seat { (seat.new.table_id ≡ seat.old.table_id) × (seat.new.id ≡ seat.old.id) }
     ensures adds { seat.new.me ≡ (adding seat.old.me.0 (list_of seat.old.me.0.kept) N.event, seat.old.me.1) }
+    ensures own { AllStand seat.new.me.0.seen (own_lists seat.new.me.0) }
 {
     shared.fetch_add::<Add<N>>(seat, COUNT, 1);
 }
@@ -271,7 +274,8 @@ impl<T: StandsFor<E>, E: Event> Turns<T, E> {
         requires turn { turn.pass ≡ pass.old }
         requires origin { T.origin turn.value ≡ self.now.origin }
         requires value { T.stands turn.value (turn.list ++ event ∷ []) }
-        ensures { pass.new ≡ record pass.old { standing = Ready; seen = turn.list ++ event ∷ []; own = pass.old.own ++ mark turn.list event ∷ [] } }
+        ensures pass { pass.new ≡ record pass.old { standing = Ready; seen = turn.list ++ event ∷ []; own = pass.old.own ++ mark turn.list event ∷ [] } }
+        ensures own { AllStand pass.new.seen (pass.new.own ∷ pass.new.joined) }
     {
         self.commit_named::<Brand>(pass, turn);
     }
@@ -282,7 +286,8 @@ impl<T: StandsFor<E>, E: Event> Turns<T, E> {
         requires origin { T.origin turn.value ≡ self.now.origin }
         requires event { IsSome N.event }
         requires value { T.stands turn.value (with_added turn.list N.event) }
-        ensures { pass.new ≡ record pass.old { standing = Ready; seen = with_added turn.list N.event; own = own_with pass.old.own turn.list N.event } }
+        ensures pass { pass.new ≡ record pass.old { standing = Ready; seen = with_added turn.list N.event; own = own_with pass.old.own turn.list N.event } }
+        ensures own { AllStand pass.new.seen (pass.new.own ∷ pass.new.joined) }
     {
         let Turn { mut seat, value } = turn;
         add::<N, T, E>(&self.table.shared, &mut seat);
@@ -296,7 +301,8 @@ impl<T: StandsFor<E>, E: Event> Turns<T, E> {
         requires turn { turn.pass ≡ pass.old }
         requires origin { T.origin turn.value ≡ self.now.origin }
         requires value { T.stands turn.value turn.list }
-        ensures { pass.new ≡ record pass.old { standing = Ready; seen = turn.list } }
+        ensures pass { pass.new ≡ record pass.old { standing = Ready; seen = turn.list } }
+        ensures own { AllStand pass.new.seen (pass.new.own ∷ pass.new.joined) }
     {
         let Turn { mut seat, value } = turn;
         see(&self.table.shared, &mut seat);
@@ -367,6 +373,7 @@ impl<T: StandsFor<E> + Drop, E: Event> Turns<T, E> {
         requires ready { pass.standing ≡ Ready }
         ensures ok { IfOk result (λ r. (r.1 ≡ record pass { standing = Closed; found = pass.entered; seen = r.1.seen }) × (T.origin r.0 ≡ self.origin)) }
         ensures seen { IfOk result (λ r. T.stands r.0 r.1.seen × IsPrefix pass.seen r.1.seen) }
+        ensures own { IfOk result (λ r. MakeUp r.1.seen (r.1.own ∷ r.1.joined)) }
         ensures err { IfErr result (λ r. (r.0 ≡ self) × (r.1 ≡ record pass { found = r.1.found }) × (pass.entered < r.1.found) × (pass.left + r.1.found ≤ self.turns)) }
         ensures whole { pass.left + pass.entered ≡ self.turns → IsOk result }
     {

@@ -1,16 +1,20 @@
-use Rattle.std.proofs.Common.{rules, refl, ◌≡◌, Some, ap, ◌∙◌}
+use Rattle.std.proofs.Common.{rules, arith, refl, ◌≡◌, Some, ap, ◌∙◌}
 use Rattle.turn_lock.proofs.Keeping.{joins, learns, some_is}
+use Rattle.turn_lock.specs.Rule.{own_lists}
 use Rattle.turn_lock.proofs.Prefixes.{longer_prefix}
+use Rattle.turn_lock.proofs.Owned.{all_beside, times_beside, total_beside}
 use Rattle.turn_lock.proofs.turns.unite.Goals as goal
 
 pub join_seat-requires : goal.join_seat-requires
 join_seat-requires g c =
-    let o = some_is c.args.seat.now.me.0.origin c.requires.ready.2 in (
+    let o = some_is c.args.seat.now.me.0.origin c.requires.ready.2 in
+    let mine = own_lists c.args.seat.now.me.0 in
+    let given = own_lists c.args.other.me.0 in (
       search rules,
       search rules,
       search rules,
       search rules,
-      joins _ _ _ _ _ _ _ _ _ o.0 o.1 c.requires.ready.0 c.requires.other.0 c.requires.ready.1 c.requires.other.1 refl refl c.requires.ready.0 c.requires.ready.1 refl refl refl (λ l p q. longer_prefix _ _ l p q),
+      joins _ _ _ _ _ _ _ _ _ o.0 o.1 c.requires.ready.0 c.requires.other.0 c.requires.ready.1 c.requires.other.1 refl refl c.requires.ready.0 c.requires.ready.1 refl refl refl (λ l p q. longer_prefix _ _ l p q) (λ l p q. all_beside l mine given p q) (λ k. times_beside k mine given) (omega (arith, total_beside mine given)),
     )
 
 pub load-requires : goal.load-requires
