@@ -29,12 +29,12 @@ pub within_field : {X : Type 0} (members : View → Result (X × View) BerFault)
     → IsField (within tag members) (λ x. constructed tag (ts x)) Fits
 within_field members tag ts Fits fields = record {
   is_tree = λ view new x octets e.
-    let (inner, after, read, around) = within_ok members view new tag x e in
-    let (fits, trees_read) = fields.are_trees inner after x (subst IsOctets (sym around.octets) octets) read in
-    (fits, tree_again (ts x) view new inner after tag around trees_read);
+      let (inner, after, read, around) = within_ok members view new tag x e in
+      let (fits, trees_read) = fields.are_trees inner after x (subst IsOctets (sym around.octets) octets) read in
+      (fits, tree_again (ts x) view new inner after tag around trees_read);
   is_read = λ view new x fits e.
-    let (inner, after, read, around) = tree_ok (ts x) view new tag e in
-    within_again members view new inner after tag x around (fields.are_read inner after x fits read around.at_end);
+      let (inner, after, read, around) = tree_ok (ts x) view new tag e in
+      within_again members view new inner after tag x around (fields.are_read inner after x fits read around.at_end);
 }
 
 pub chosen : {A : Type 0} (test : Bool) (a b y : A) → (if test then a else b) ≡ y → ((test ≡ true) × (a ≡ y)) ⊎ ((test ≡ false) × (b ≡ y))
@@ -98,11 +98,11 @@ module _ {X : Type 0} (octet : ℕ) (given : View → Result (X × View) BerFaul
   optional_is view new x octets e =
       elim (chosen (is_next octet view) (taken Some (given view)) (taken (λ _. None) (primitive_at null_of view (0x80 ∷ []))) (Ok (x, new)) e) [
         | inl h ↦
-          let (value, read, is) = taken_ok Some (given view) x new h.1 in
-          subst (λ o. IfSome o Fits × (read_tree (optional tree o) view ≡ Ok new)) is (field.is_tree view new value octets read)
+            let (value, read, is) = taken_ok Some (given view) x new h.1 in
+            subst (λ o. IfSome o Fits × (read_tree (optional tree o) view ≡ Ok new)) is (field.is_tree view new value octets read)
         | inr h ↦
-          let (value, read, is) = taken_ok (λ _. None) (primitive_at null_of view (0x80 ∷ [])) x new h.1 in
-          subst (λ o. IfSome o Fits × (read_tree (optional tree o) view ≡ Ok new)) is (tt, null_tree view new (0x80 ∷ []) value read)
+            let (value, read, is) = taken_ok (λ _. None) (primitive_at null_of view (0x80 ∷ [])) x new h.1 in
+            subst (λ o. IfSome o Fits × (read_tree (optional tree o) view ≡ Ok new)) is (tt, null_tree view new (0x80 ∷ []) value read)
       ]
 
   optional_again : (view new : View) (x : Option X) → IfSome x Fits → read_tree (optional tree x) view ≡ Ok new → optional_at octet given view ≡ Ok (x, new)
@@ -143,10 +143,10 @@ module _ (stands : FoundWhereSpelled) (parts : ContentIsOctets) where
   pub invoke_field : IntegerWhereSpelled → IntegerReadBack → IsField invoke_at invoke IsInvoke
   invoke_field spelled back = record {
     is_tree = λ view new z octets e.
-      let read = primitive_ok (integer_of (pos 0) (pos 65535)) view new (0x02 ∷ []) z e in
-      let (content, bits, low, high) = (spelled (pos 0) (pos 65535) z read.start read.content (octets_found view (0x02 ∷ []) read.content read.start octets read.found)).0 read.judged in
-      ((low, high), ap (λ content. read_tree (primitive (0x02 ∷ []) content) view) (sym content) ∙ read.is_tree);
+        let read = primitive_ok (integer_of (pos 0) (pos 65535)) view new (0x02 ∷ []) z e in
+        let (content, bits, low, high) = (spelled (pos 0) (pos 65535) z read.start read.content (octets_found view (0x02 ∷ []) read.content read.start octets read.found)).0 read.judged in
+        ((low, high), ap (λ content. read_tree (primitive (0x02 ∷ []) content) view) (sym content) ∙ read.is_tree);
     is_read = λ view new z fits e.
-      primitive_again (integer_of (pos 0) (pos 65535)) view new (0x02 ∷ []) (integer_octets z) z e
-      (λ place. (back (pos 0) (pos 65535) z place (bits_of z fits) fits.0 fits.1).1);
+        primitive_again (integer_of (pos 0) (pos 65535)) view new (0x02 ∷ []) (integer_octets z) z e
+        (λ place. (back (pos 0) (pos 65535) z place (bits_of z fits) fits.0 fits.1).1);
   }

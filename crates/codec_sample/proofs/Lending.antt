@@ -1,7 +1,8 @@
 -- Items that are lent, and one after another given.
-use Rattle.std.proofs.Common.{◌≡◌, ℕ, zero, suc, ◌+◌, ◌-◌, ◌<◌, ◌≤◌, ◌↔◌, IsTrue, Bool, true, false, List, [], ◌∷◌, ◌++◌, length, get_or, take, drop, ◌==◌, Result, Ok, Err, refl, sym, ◌∙◌, ap, subst, eq-eqb, arith}
+use Rattle.std.proofs.Common.{◌≡◌, ℕ, zero, suc, ◌+◌, ◌-◌, ◌<◌, ◌≤◌, ◌↔◌, IsTrue, IsOk, Bool, true, false, List, [], ◌∷◌, ◌++◌, length, get_or, take, drop, ◌==◌, Result, Ok, Err, refl, sym, ◌∙◌, ap, subst, eq-eqb, arith}
 use Rattle.std.proofs.lemmas.Bool.{eqb-true}
-use Rattle.std.proofs.lemmas.List.{length-append, append-nil, nil_from_length, length-take, drop_at}
+use Rattle.std.proofs.lemmas.List.{length-append, append-nil, nil_from_length, length-take, length-drop, drop_at}
+use Rattle.std.proofs.Math.Seq.{take-length}
 use Rattle.ber_core.specs.declared.fault.BerFault.{BerFault}
 use Rattle.ber_core.specs.Length.{IsOctets}
 use Rattle.ber_core.specs.Tree.{tree_and, no_trees}
@@ -10,6 +11,7 @@ use Rattle.ber_core.specs.View.{View, view_before, end_of, left}
 use Rattle.ber_core.specs.Reading.{◌>>=◌, next_content, enter, leave, inside, FoundWhereSpelled}
 use Rattle.ber_core.specs.Whole.{read_tree, read_trees, AllReadAreSpelled, AllSpelledAreRead}
 use Rattle.codec_sample.specs.Sample.{item, item_trees, AreItems}
+use Rattle.codec_sample.specs.Items.{or_none, items_in}
 use Rattle.codec_sample.specs.Reading.{passed, items_at, item_list_at, items_of}
 use Rattle.codec_sample.proofs.Trees.{bind_ok, ok_is, err_ok, content_found, entered_is, left_at_end}
 use Rattle.codec_sample.proofs.Fields.{begins_with, string_tree, string_again}
@@ -118,6 +120,9 @@ pub record Lent (octets : List ℕ) (view inner new : View) (start stop : ℕ) :
   pub inner_octets : inner.octets ≡ octets
   pub lent : items_of (take (stop - start) (drop start octets)) ≡ Ok items
 
+part_is : (octets : List ℕ) (inner : View) (start stop : ℕ) → start ≡ inner.place → stop ≡ end_of inner → inner.octets ≡ octets → take (stop - start) (drop start octets) ≡ left inner
+part_is octets inner start stop starts stops_at same = rw (starts, stops_at, ← same) refl
+
 pub lent_by : FoundWhereSpelled → AllReadAreSpelled → AllSpelledAreRead → (octets : List ℕ) (view inner after new : View) (start stop : ℕ) → ((i : ℕ) → get_or octets i 0 < 256)
     → view.octets ≡ octets → enter view (0x30 ∷ []) ≡ Ok (tt, inner) → passed (items_at 8 inner) ≡ Ok after → leave after ≡ Ok (tt, new) → start ≡ inner.place → stop ≡ after.place
     → Lent octets view inner new start stop
@@ -130,10 +135,17 @@ lent_by stands law again octets view inner after new start stop each same entere
       is = found.is;
       ended = ended;
       inner_octets = inner_same;
-      lent = rw (starts, ended, ← inner_same) found.lent;
+      lent = ap items_of (part_is octets inner start stop starts ended inner_same) ∙ found.lent;
     }
 
 -- ---- the next item
+
+is_listed_result : (reading : Result (List (List ℕ)) BerFault) → IsOk reading → reading ≡ Ok (or_none reading)
+is_listed_result (Ok items) ok = refl
+is_listed_result (Err fault) ok = absurd cc
+
+pub is_listed : (octets : List ℕ) → IsOk (items_of octets) → items_of octets ≡ Ok (items_in octets)
+is_listed octets ok = is_listed_result (items_of octets) ok
 
 first_read : AllSpelledAreRead → (octets first rest x : List ℕ) → Spells (item x) first → octets ≡ first ++ rest → (1 ≤ length x) × (length x ≤ 16)
     → item_at (view_before octets) ≡ Ok (x, record (view_before octets) { place = length first })
@@ -146,7 +158,7 @@ first_read again octets first rest x spells is fits =
 pub record Next (items : List (List ℕ)) (octets item : List ℕ) (place : ℕ) : Type 0 where
   pub others : List (List ℕ)
   pub is : items ≡ item ∷ others
-  pub rest : items_of (drop place octets) ≡ Ok others
+  pub rest : items_of (take (length octets - place) (drop place octets)) ≡ Ok others
 
 not_first : (new : View) (octets item : List ℕ) → octets ≡ [] → item_at (view_before octets) ≡ Ok (item, new) → ⊥
 not_first new octets item none e =
@@ -162,7 +174,8 @@ next_of again octets (x ∷ xs) item new fits (first, rest, spells, others, is) 
     let read = first_read again octets first rest x spells is fits.each.0 in
     let same = ok_is (x, record (view_before octets) { place = length first }) (item, new) (sym read ∙ e) in
     let at : length first ≡ new.place = ap (λ p. p.1.place) same in
-    let behind : drop new.place octets ≡ rest = ap (λ n. drop n octets) (sym at) ∙ ap (drop (length first)) is ∙ drop_at first rest (length first) refl in
+    let dropped : drop new.place octets ≡ rest = ap (λ n. drop n octets) (sym at) ∙ ap (drop (length first)) is ∙ drop_at first rest (length first) refl in
+    let behind : take (length octets - new.place) (drop new.place octets) ≡ rest = ap (λ n. take n (drop new.place octets)) (sym (length-drop new.place octets)) ∙ take-length (drop new.place octets) ∙ dropped in
     record {
       others = xs;
       is = ap (λ first. first ∷ xs) (ap (λ p. p.0) same);

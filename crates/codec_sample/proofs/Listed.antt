@@ -39,11 +39,11 @@ items_ok (suc n) view new items e =
     elim (chosen (view.place == end_of view) (Ok ([], view)) (item_at view >>= λ first. items_at n first.1 >>= λ others. Ok (first.0 ∷ others.0, others.1)) (Ok (items, new)) e) [
       | inl h ↦ none_read (suc n) view new items h.1
       | inr h ↦
-        let first = bind_ok (item_at view) (λ first. items_at n first.1 >>= λ others. Ok (first.0 ∷ others.0, others.1)) (items, new) h.1 in
-        let others = bind_ok (items_at n first.0.1) (λ others. Ok (first.0.0 ∷ others.0, others.1)) (items, new) first.2 in
-        let (fits, read) = string_tree 1 16 view first.0.1 (0x04 ∷ []) first.0.0 first.1 in
-        subst (λ read. Listed (suc n) read.0 view read.1) (ok_is (first.0.0 ∷ others.0.0, others.0.1) (items, new) others.2)
-        (one_read n view first.0.1 others.0.1 first.0.0 others.0.0 fits read (items_ok n first.0.1 others.0.1 others.0.0 others.1))
+          let first = bind_ok (item_at view) (λ first. items_at n first.1 >>= λ others. Ok (first.0 ∷ others.0, others.1)) (items, new) h.1 in
+          let others = bind_ok (items_at n first.0.1) (λ others. Ok (first.0.0 ∷ others.0, others.1)) (items, new) first.2 in
+          let (fits, read) = string_tree 1 16 view first.0.1 (0x04 ∷ []) first.0.0 first.1 in
+          subst (λ read. Listed (suc n) read.0 view read.1) (ok_is (first.0.0 ∷ others.0.0, others.0.1) (items, new) others.2)
+          (one_read n view first.0.1 others.0.1 first.0.0 others.0.0 fits read (items_ok n first.0.1 others.0.1 others.0.0 others.1))
     ]
 
 at_end_none : (view : View) (octet : ℕ) (others : List ℕ) → left view ≡ octet ∷ others → view.place ≡ end_of view → ⊥

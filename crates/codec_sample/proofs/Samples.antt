@@ -78,18 +78,21 @@ module _ (laws : Laws) where
       let (c_fits, c_read) = (time_field laws.stands laws.parts).is_tree b.0.1 c.0.1 c.0.0 octets_3 c.1 in
       let octets_4 = kept laws.trees_read (optional known_time c.0.0) b.0.1 c.0.1 octets_3 c_read in
       let (d_fits, d_read) = item_list_field.is_tree c.0.1 d.0.1 d.0.0 octets_4 d.1 in
-      subst (λ read. IsSample read.0 × (read_trees (trees (fields read.0)) view ≡ Ok read.1)) (ok_is (made a.0.0 b.0.0 c.0.0 d.0.0, d.0.1) (s, new) d.2)
-      (record { credentials_fit = a_fits; invoke_least = b_fits.0; invoke_greatest = b_fits.1; time_fits = c_fits; items_fit = d_fits },
-      one_by_one _ _ _ _ view a.0.1 b.0.1 c.0.1 d.0.1 a_read b_read c_read d_read)
+      subst (λ read. IsSample read.0 × (read_trees (trees (fields read.0)) view ≡ Ok read.1)) (ok_is (made a.0.0 b.0.0 c.0.0 d.0.0, d.0.1) (s, new) d.2) (
+        record { credentials_fit = a_fits; invoke_least = b_fits.0; invoke_greatest = b_fits.1; time_fits = c_fits; items_fit = d_fits },
+        one_by_one _ _ _ _ view a.0.1 b.0.1 c.0.1 d.0.1 a_read b_read c_read d_read,
+      )
 
   fields_again : (view new : View) (s : Content) → IsSample s → read_trees (trees (fields s)) view ≡ Ok new → fields_at view ≡ Ok (s, new)
   unfolding fields_at
   fields_again view new s fits e =
       let r = four (optional used s.credentials) (invoke s.invoke) (optional known_time s.time) (item_list s.items) view new e in
-      rw (credentials_field.is_read view r.first s.credentials fits.credentials_fit r.a_read,
-      (invoke_field laws.stands laws.parts laws.spelled laws.back).is_read r.first r.second s.invoke (fits.invoke_least, fits.invoke_greatest) r.b_read,
-      (time_field laws.stands laws.parts).is_read r.second r.third s.time fits.time_fits r.c_read,
-      item_list_field.is_read r.third new s.items fits.items_fit r.d_read) refl
+      rw (
+        credentials_field.is_read view r.first s.credentials fits.credentials_fit r.a_read,
+        (invoke_field laws.stands laws.parts laws.spelled laws.back).is_read r.first r.second s.invoke (fits.invoke_least, fits.invoke_greatest) r.b_read,
+        (time_field laws.stands laws.parts).is_read r.second r.third s.time fits.time_fits r.c_read,
+        item_list_field.is_read r.third new s.items fits.items_fit r.d_read,
+      ) refl
 
   sample_fields : AreFields fields_at (λ s. trees (fields s)) IsSample
   sample_fields = record { are_trees = fields_are; are_read = λ view new s fits e at_end. fields_again view new s fits e }

@@ -135,17 +135,17 @@ module _ (stands : FoundWhereSpelled) (parts : ContentIsOctets) where
   time_is view new t all e =
       elim (chosen (is_next 0x81 view) (taken of_pico_octets (primitive_at (string_of 10 10) view (0x81 ∷ []))) (taken of_micro_octets (primitive_at (string_of 8 8) view (0x80 ∷ []))) (Ok (t, new)) e) [
         | inl h ↦
-          let (octets, read, is) = taken_ok of_pico_octets (primitive_at (string_of 10 10) view (0x81 ∷ [])) t new h.1 in
-          let (fits, tree) = string_tree 10 10 view new (0x81 ∷ []) octets read in
-          let each = string_octets 10 10 view new (0x81 ∷ []) octets all read in
-          subst (λ t. IsTime t × (read_tree (time t) view ≡ Ok new)) is
-          (pico_time octets each, ap (λ octets. read_tree (primitive (0x81 ∷ []) octets) view) (pico_octets octets (omega arith) each) ∙ tree)
+            let (octets, read, is) = taken_ok of_pico_octets (primitive_at (string_of 10 10) view (0x81 ∷ [])) t new h.1 in
+            let (fits, tree) = string_tree 10 10 view new (0x81 ∷ []) octets read in
+            let each = string_octets 10 10 view new (0x81 ∷ []) octets all read in
+            subst (λ t. IsTime t × (read_tree (time t) view ≡ Ok new)) is
+            (pico_time octets each, ap (λ octets. read_tree (primitive (0x81 ∷ []) octets) view) (pico_octets octets (omega arith) each) ∙ tree)
         | inr h ↦
-          let (octets, read, is) = taken_ok of_micro_octets (primitive_at (string_of 8 8) view (0x80 ∷ [])) t new h.1 in
-          let (fits, tree) = string_tree 8 8 view new (0x80 ∷ []) octets read in
-          let each = string_octets 8 8 view new (0x80 ∷ []) octets all read in
-          subst (λ t. IsTime t × (read_tree (time t) view ≡ Ok new)) is
-          (micro_time octets each, ap (λ octets. read_tree (primitive (0x80 ∷ []) octets) view) (micro_octets octets (omega arith) each) ∙ tree)
+            let (octets, read, is) = taken_ok of_micro_octets (primitive_at (string_of 8 8) view (0x80 ∷ [])) t new h.1 in
+            let (fits, tree) = string_tree 8 8 view new (0x80 ∷ []) octets read in
+            let each = string_octets 8 8 view new (0x80 ∷ []) octets all read in
+            subst (λ t. IsTime t × (read_tree (time t) view ≡ Ok new)) is
+            (micro_time octets each, ap (λ octets. read_tree (primitive (0x80 ∷ []) octets) view) (micro_octets octets (omega arith) each) ∙ tree)
       ]
 
   -- the time alone in the element around it
@@ -154,8 +154,8 @@ module _ (stands : FoundWhereSpelled) (parts : ContentIsOctets) where
   alone = record {
     are_trees = λ view new t all e. let (fits, read) = time_is view new t all e in (fits, rw read refl);
     are_read = λ view new t fits e at_end.
-      let (behind, read, same) = bind_ok (read_tree (time t) view) (λ behind. Ok behind) new e in
-      time_again view new t fits (read ∙ same);
+        let (behind, read, same) = bind_ok (read_tree (time t) view) (λ behind. Ok behind) new e in
+        time_again view new t fits (read ∙ same);
   }
 
   pub time_field : IsField conditional_time_at (optional known_time) (λ o. IfSome o IsTime)

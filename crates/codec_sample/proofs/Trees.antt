@@ -74,9 +74,11 @@ content_found view new tag content e =
     let found = bind_ok (next_content view tag) (λ found. exactly content found.0 found.1 >>= λ value. Ok (value, behind view found.0 found.1)) read.0 read.1 in
     let judged = bind_ok (exactly content found.0.0 found.0.1) (λ value. Ok (value, behind view found.0.0 found.0.1)) read.0 found.2 in
     let same : content ≡ found.0.1 = same_text content found.0.1 (sym (tested (pointwise nat_eq content found.0.1) (tt {0}) (tt {0}) (BadContent found.0.0) judged.1).0) in
-    let pairs = ok_is (judged.0, behind view found.0.0 found.0.1) read.0 judged.2 in
-    (found.0.0, found.1 ∙ ap (λ octets. Ok (found.0.0, octets)) (sym same),
-    ap (behind view found.0.0) same ∙ ap (λ p. p.1) pairs ∙ ok_is read.0.1 new read.2)
+    let pairs = ok_is (judged.0, behind view found.0.0 found.0.1) read.0 judged.2 in (
+      found.0.0,
+      found.1 ∙ ap (λ octets. Ok (found.0.0, octets)) (sym same),
+      ap (behind view found.0.0) same ∙ ap (λ p. p.1) pairs ∙ ok_is read.0.1 new read.2,
+    )
 
 pub primitive_again : {X : Type 0} (judge : ℕ → List ℕ → Result X BerFault) (view new : View) (tag content : List ℕ) (x : X) → read_tree (primitive tag content) view ≡ Ok new
     → ((place : ℕ) → judge place content ≡ Ok x) → primitive_at judge view tag ≡ Ok (x, new)
@@ -105,13 +107,17 @@ within_ok members view new tag x e =
     let entered = bind_ok (enter view tag) (λ entered. members entered.1 >>= λ read. leave read.1 >>= λ behind. Ok (read.0, behind.1)) (x, new) e in
     let read = bind_ok (members entered.0.1) (λ read. leave read.1 >>= λ behind. Ok (read.0, behind.1)) (x, new) entered.2 in
     let left_it = bind_ok (leave read.0.1) (λ behind. Ok (read.0.0, behind.1)) (x, new) read.2 in
-    let pairs = ok_is (read.0.0, left_it.0.1) (x, new) left_it.2 in
-    (entered.0.1, read.0.1, read.1 ∙ ap (λ value. Ok (value, read.0.1)) (ap (λ p. p.0) pairs), record {
-      entered = entered.1;
-      octets = entered_is view tag entered.0 entered.1;
-      at_end = left_at_end read.0.1 left_it.0 left_it.1;
-      left_it = left_it.1 ∙ ap (λ place. Ok (tt, place)) (ap (λ p. p.1) pairs);
-    })
+    let pairs = ok_is (read.0.0, left_it.0.1) (x, new) left_it.2 in (
+      entered.0.1,
+      read.0.1,
+      read.1 ∙ ap (λ value. Ok (value, read.0.1)) (ap (λ p. p.0) pairs),
+      record {
+        entered = entered.1;
+        octets = entered_is view tag entered.0 entered.1;
+        at_end = left_at_end read.0.1 left_it.0 left_it.1;
+        left_it = left_it.1 ∙ ap (λ place. Ok (tt, place)) (ap (λ p. p.1) pairs);
+      },
+    )
 
 pub within_again : {X : Type 0} (members : View → Result (X × View) BerFault) (view new inner after : View) (tag : List ℕ) (x : X) → Entered view new inner after tag
     → members inner ≡ Ok (x, after) → within tag members view ≡ Ok (x, new)
@@ -123,13 +129,17 @@ unfolding read_tree
 tree_ok ts view new tag e =
     let entered = bind_ok (enter view tag) (λ entered. read_trees ts entered.1 >>= λ behind. leave behind >>= λ left. Ok left.1) new e in
     let read = bind_ok (read_trees ts entered.0.1) (λ behind. leave behind >>= λ left. Ok left.1) new entered.2 in
-    let left_it = bind_ok (leave read.0) (λ left. Ok left.1) new read.2 in
-    (entered.0.1, read.0, read.1, record {
-      entered = entered.1;
-      octets = entered_is view tag entered.0 entered.1;
-      at_end = left_at_end read.0 left_it.0 left_it.1;
-      left_it = left_it.1 ∙ ap (λ place. Ok (tt, place)) (ok_is left_it.0.1 new left_it.2);
-    })
+    let left_it = bind_ok (leave read.0) (λ left. Ok left.1) new read.2 in (
+      entered.0.1,
+      read.0,
+      read.1,
+      record {
+        entered = entered.1;
+        octets = entered_is view tag entered.0 entered.1;
+        at_end = left_at_end read.0 left_it.0 left_it.1;
+        left_it = left_it.1 ∙ ap (λ place. Ok (tt, place)) (ok_is left_it.0.1 new left_it.2);
+      },
+    )
 
 pub tree_again : (ts : Trees) (view new inner after : View) (tag : List ℕ) → Entered view new inner after tag → read_trees ts inner ≡ Ok after
     → read_tree (constructed tag ts) view ≡ Ok new

@@ -14,6 +14,6 @@ abbrev pub ItemsWhereSpelled : Type 0
 ItemsWhereSpelled =
     (octets : List ℕ) (items : List (List ℕ)) → IsOctets octets → (items_of octets ≡ Ok items) ↔ (AreItems items × SpellsAll (item_trees items) octets)
 
--- The canonical spelling of a sample is read back.
+-- The canonical spelling of a sample is read back, as long as 8 octets write its length.
 abbrev pub ReadBack : Type 0
-ReadBack = (s : Content) → IsSample s → sample_of (canonical (sample s)) ≡ Ok s
+ReadBack = (s : Content) → IsSample s → length (canonical (sample s)) < 2 ^ 64 → sample_of (canonical (sample s)) ≡ Ok s

@@ -6,9 +6,9 @@ use Rattle.codec_sample.specs.declared.sample.Credentials.TheVariants.{Unused, U
 use Rattle.codec_sample.specs.declared.sample.Sample.{Sample}
 use Rattle.codec_sample.specs.Sample.{Content}
 
-abbrev pub used : Credentials → Option (List ℕ)
-used Unused = None
-used (Used octets) = Some octets.now
+abbrev pub credentials_of : Credentials → Option (List ℕ)
+credentials_of Unused = None
+credentials_of (Used octets) = Some octets.now
 
 abbrev pub content : Sample → Content
-content s = record { credentials = used s.credentials; invoke = pos s.invoke; time = s.time; items = s.items }
+content s = record { credentials = credentials_of s.credentials; invoke = pos s.invoke; time = s.time; items = s.items }

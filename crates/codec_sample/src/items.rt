@@ -1,6 +1,7 @@
 // The items of a sample.
 
-ghost use Rattle.std.specs.Prelude.{◌≡◌, ◌∷◌, [], MatchOption, IsOk};
+ghost use Rattle.std.specs.Prelude.{◌≡◌, ◌∷◌, [], MatchOption, IfSome, IsOk, Ok};
+ghost use Rattle.codec_sample.specs.Items.{items_in};
 ghost use Rattle.codec_sample.specs.Reading.{items_of};
 
 use ber_core::{Reader, laws};
@@ -40,13 +41,23 @@ impl<'a> Items<'a> {
     pub fn next(&mut self) -> Option<&'a [u8]>
         ensures { MatchOption result ((self.old ≡ []) × (self.new ≡ [])) (λ item. self.old ≡ item.now ∷ self.new) }
     {
-        laws::all_read_are_spelled();
-        laws::all_spelled_are_read();
-        let mut reader = Reader::new(self.octets);
-        let Ok(item) = reader.octet_string(&ITEM, 1, 16) else {
-            return None;
-        };
-        self.octets = &self.octets[reader.place()..];
+        let (item, rest) = split_first(self.octets)?;
+        self.octets = rest;
         Some(item)
     }
+}
+
+// The first item, and the octets behind it.
+fn split_first(octets: &[u8]) -> Option<(&[u8], &[u8])>
+    requires { IsOk (items_of octets.now) }
+    ensures found { MatchOption result (items_in octets.now ≡ []) (λ found. items_in octets.now ≡ found.0.now ∷ items_in found.1.now) }
+    ensures rest { IfSome result (λ found. IsOk (items_of found.1.now)) }
+{
+    laws::all_read_are_spelled();
+    laws::all_spelled_are_read();
+    let mut reader = Reader::new(octets);
+    let Ok(item) = reader.octet_string(&ITEM, 1, 16) else {
+        return None;
+    };
+    Some((item, &octets[reader.place()..]))
 }

@@ -3,7 +3,7 @@
 ghost use Rattle.std.specs.Prelude.{◌≡◌, ◌-◌, ◌≤◌, length, take, drop};
 ghost use Rattle.ber_core.specs.Reading.{Reads, Gives};
 ghost use Rattle.codec_sample.specs.Reading.{is_next, passed, credentials_at, time_at, conditional_time_at, items_at, item_list_at, fields_at, sample_of};
-ghost use Rattle.codec_sample.specs.Seen.{used, content};
+ghost use Rattle.codec_sample.specs.Seen.{credentials_of, content};
 
 use crate::items::{ITEM, Items};
 use crate::sample::{Credentials, Sample};
@@ -22,7 +22,7 @@ fn is_next(identifier: u8, reader: &Reader) -> bool
 
 #[tactic(auto, unfolding(crate::specs::Reading::credentials_at))]
 fn credentials<'a>(reader: &mut Reader<'a>) -> Result<Credentials<'a>, BerFault>
-    ensures exact { Reads used reader.old reader.new result (credentials_at reader.old) }
+    ensures exact { Reads credentials_of reader.old reader.new result (credentials_at reader.old) }
     ensures octets { reader.new.octets ≡ reader.old.octets }
 {
     if is_next(0x81, reader) {

@@ -1,6 +1,8 @@
 // What a sample says.
 
 use crate::items::Items;
+use crate::reading;
+use ber_core::BerFault;
 use cds_time::Cds;
 
 /// Who sends, or that it isn't said (CCSDS 911.1-B, annex A).
@@ -21,4 +23,18 @@ pub struct Sample<'a> {
     /// with its microseconds under the tag 0 or its picoseconds under the tag 1.
     pub time: Option<Cds>,
     pub items: Items<'a>,
+}
+
+impl<'a> Sample<'a> {
+    ghost use Rattle.ber_core.specs.Reading.{Gives};
+    ghost use Rattle.codec_sample.specs.Reading.{sample_of};
+    ghost use Rattle.codec_sample.specs.Seen.{content};
+
+    /// The sample that these octets spell, all of them, or the first fault. Octets behind it are `BadLength` at the first
+    /// of them.
+    pub fn decode(octets: &'a [u8]) -> Result<Sample<'a>, BerFault>
+        ensures { Gives content result (sample_of octets.now) }
+    {
+        reading::sample_of(octets)
+    }
 }

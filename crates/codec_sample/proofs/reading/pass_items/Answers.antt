@@ -16,7 +16,7 @@ returns-in_err-octet_string-clause-exact c =
 pub loop-preserved : goal.loop-preserved
 loop-preserved c = record {
   going = goes_on c.loop.counter c.at_end.result c.loop.reader c.octet_string.new.self _ (passed (items_at 8 c.args.reader.now)) c.loop-test.true c.at_end.ensures c.if-at_end.false
-    c.in_ok-octet_string.ensures.exact c.loop.invariant.going;
+      c.in_ok-octet_string.ensures.exact c.loop.invariant.going;
   octets = c.octet_string.ensures.octets ∙ c.loop.invariant.octets;
 }
 

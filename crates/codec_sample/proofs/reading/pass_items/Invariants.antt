@@ -5,5 +5,5 @@ use Rattle.codec_sample.proofs.reading.pass_items.Given as goal
 abbrev pub invariant-loop : goal.invariant-loop
 invariant-loop l = record {
   going : passed (items_at (8 - l.counter) l.reader) ≡ passed (items_at 8 l.fn.reader);
-  octets : l.reader.octets ≡ l.fn.reader.octets
+  octets : l.reader.octets ≡ l.fn.reader.octets;
 }
