@@ -4,3 +4,4 @@ pub mod Times
 pub mod Listed
 pub mod Samples
 pub mod Lending
+pub mod Lengths

@@ -1,10 +1,13 @@
 // The items of a sample.
 
 ghost use Rattle.std.specs.Prelude.{◌≡◌, ◌∷◌, [], MatchOption, IfSome, IsOk, Ok};
+ghost use Rattle.ber_core.specs.Reading.{Gives};
 ghost use Rattle.codec_sample.specs.Items.{items_in};
+ghost use Rattle.codec_sample.specs.Sample.{AreItems};
 ghost use Rattle.codec_sample.specs.Reading.{items_of};
 
-use ber_core::{Reader, laws};
+use crate::reading::pass_items;
+use ber_core::{BerFault, Reader, laws};
 use std::marker::Model;
 
 pub(crate) const ITEM: [u8; 1] = [0x04];
@@ -19,7 +22,9 @@ pub struct Items<'a> {
 impl<'a> Model for Items<'a> {
     ghost use Rattle.std.specs.Prelude.{ℕ, List, IsOk};
     ghost use Rattle.codec_sample.specs.Reading.{items_of};
-    ghost use Rattle.codec_sample.specs.Items.{items_in};
+    ghost use Rattle.ber_core.specs.Reading.{Gives};
+ghost use Rattle.codec_sample.specs.Items.{items_in};
+ghost use Rattle.codec_sample.specs.Sample.{AreItems};
 
     ghost Value = { List (List ℕ) };
 
@@ -35,6 +40,28 @@ impl<'a> Items<'a> {
         ensures { items_of octets.now ≡ Ok result }
     {
         Items { octets }
+    }
+
+    /// The items that stand one after another in these octets, each an OCTET STRING of 1 to 16 octets and at most 8 of
+    /// them, or the first fault.
+    #[tactic(auto, unfolding(crate::specs::Reading::items_of))]
+    pub fn read(octets: &'a [u8]) -> Result<Items<'a>, BerFault>
+        ensures { Gives (λ items. items) result (items_of octets.now) }
+    {
+        let mut reader = Reader::new(octets);
+        pass_items(&mut reader)?;
+        reader.leave()?;
+        Ok(Items::found(octets))
+    }
+
+    /// The same items, to be gone over apart from these.
+    pub fn iter(&self) -> Items<'a>
+        ensures items { result ≡ self.now }
+        ensures fit { AreItems result }
+    {
+        Items {
+            octets: self.octets,
+        }
     }
 
     /// The next item, or none behind the last one.

@@ -8,7 +8,7 @@ mod items;
 pub mod laws;
 mod reading;
 mod sample;
-//mod writing;
+mod writing;
 
 pub use items::Items;
 pub use sample::{Credentials, Sample};

@@ -64,7 +64,7 @@ fn conditional_time(reader: &mut Reader) -> Result<Option<Cds>, BerFault>
 const MOST_ITEMS: usize = 8;
 
 // Goes over the items of a list.
-fn pass_items(reader: &mut Reader) -> Result<(), BerFault>
+pub(crate) fn pass_items(reader: &mut Reader) -> Result<(), BerFault>
     ensures exact { Gives (λ _. reader.new) result (passed (items_at 8 reader.old)) }
     ensures octets { reader.new.octets ≡ reader.old.octets }
 {
