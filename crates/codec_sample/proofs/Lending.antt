@@ -41,10 +41,6 @@ pub not_passed : (n : ℕ) (view : View) (fault : BerFault) → (view.place == e
 unfolding items_at
 not_passed n view fault more e = rw (more, e) refl
 
-pub passed_err : {X : Type 0} (reading : Result (X × View) BerFault) (fault : BerFault) → passed reading ≡ Err fault → reading ≡ Err fault
-passed_err (Ok read) fault e = absurd cc
-passed_err (Err other) fault e = cc
-
 contradicted : (test : Bool) → IsTrue test → test ≡ false → ⊥
 contradicted test so not_so = cc
 

@@ -13,7 +13,7 @@ use Rattle.ber_core.specs.View.{View, view_before, end_of, left}
 use Rattle.ber_core.specs.Reading.{◌>>=◌, leave, FoundWhereSpelled, ContentIsOctets, IntegerWhereSpelled, IntegerReadBack}
 use Rattle.ber_core.specs.Whole.{depth, depth_all, read_tree, read_trees, Passes, ReadWhereSpelled, AllReadAreSpelled, AllSpelledAreRead}
 use Rattle.codec_sample.specs.Sample.{Content, optional, used, invoke, known_time, item_list, item_trees, fields, sample, HasLength, IsTime, AreItems, IsSample}
-use Rattle.codec_sample.specs.Reading.{within, whole, credentials_at, invoke_at, conditional_time_at, item_list_at, items_at, fields_at, items_of, passed, sample_of}
+use Rattle.codec_sample.specs.Reading.{within, whole, credentials_at, invoke_at, conditional_time_at, item_list_at, items_at, fields_at, items_of, sample_of}
 use Rattle.codec_sample.proofs.Trees.{bind_ok, ok_is, tested, left_at_end}
 use Rattle.codec_sample.proofs.Fields.{IsField, AreFields, within_field, credentials_field, invoke_field, IsInvoke}
 use Rattle.codec_sample.proofs.Times.{time_field}
@@ -191,10 +191,3 @@ items_fit octets items e =
     let left_it = bind_ok (leave read.0.1) (λ behind. Ok read.0.0) items read.2 in
     let listed = items_ok 8 (view_before octets) read.0.1 read.0.0 read.1 in
     subst AreItems (ok_is read.0.0 items left_it.2) (record { few = listed.few; each = listed.each })
-
-pub passed_whole : (octets : List ℕ) (after : View) (behind : Unit {0} × View) → passed (items_at 8 (view_before octets)) ≡ Ok after → leave after ≡ Ok behind → (items : List (List ℕ)) × (items_of octets ≡ Ok items)
-unfolding items_of
-passed_whole octets after behind passes left_it =
-    let read = bind_ok (items_at 8 (view_before octets)) (λ read. Ok read.1) after passes in
-    let again : leave read.0.1 ≡ Ok behind = ap leave (ok_is read.0.1 after read.2) ∙ left_it in
-    (read.0.0, ap (λ reading. reading >>= λ read. leave read.1 >>= λ behind. Ok read.0) read.1 ∙ ap (λ reading. reading >>= λ behind. Ok read.0.0) again)

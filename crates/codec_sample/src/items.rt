@@ -23,8 +23,8 @@ impl<'a> Model for Items<'a> {
     ghost use Rattle.std.specs.Prelude.{ℕ, List, IsOk};
     ghost use Rattle.codec_sample.specs.Reading.{items_of};
     ghost use Rattle.ber_core.specs.Reading.{Gives};
-ghost use Rattle.codec_sample.specs.Items.{items_in};
-ghost use Rattle.codec_sample.specs.Sample.{AreItems};
+    ghost use Rattle.codec_sample.specs.Items.{items_in};
+    ghost use Rattle.codec_sample.specs.Sample.{AreItems};
 
     ghost Value = { List (List ℕ) };
 

@@ -1,8 +1,7 @@
 // What a sample says.
 
 use crate::items::Items;
-use crate::reading;
-use crate::writing;
+use crate::{reading, writing};
 use ber_core::{BerFault, Writer};
 use cds_time::Cds;
 

@@ -1,5 +1,5 @@
 use super::*;
-use ber_core::BerFault;
+use ber_core::{BerFault, Writer};
 use cds_time::{Cds, Rest};
 use std::test::Fail;
 
@@ -27,6 +27,47 @@ fn a_full_sample_is_read(rt: HostRuntime) -> Result<(), Fail> {
     assert_eq!(rt; sample.items.next(), Some(b"a".as_slice()));
     assert_eq!(rt; sample.items.next(), Some(b"bcd".as_slice()));
     assert_eq!(rt; sample.items.next(), None);
+    Ok(())
+}
+
+#[test]
+fn a_full_sample_is_written(rt: HostRuntime) -> Result<(), Fail> {
+    let items = Items::read(&FULL[30..]).ok().ok_or("items")?;
+    let sample = Sample {
+        credentials: Credentials::Used(&[1, 2, 3, 4, 5, 6, 7, 8]),
+        invoke: 300,
+        time: Some(Cds {
+            days: 20_000,
+            millis: 1_000,
+            rest: Rest::Micros(7),
+        }),
+        items,
+    };
+    let mut writer = Writer::new(rt.alloc(), 50).ok().ok_or("memory")?;
+    assert_eq!(rt; sample.length(), 38);
+    assert!(rt; sample.length() <= writer.room());
+    sample.encode(&mut writer);
+    assert_eq!(rt; writer.octets(), FULL.as_slice());
+    Ok(())
+}
+
+#[test]
+fn a_sample_in_picoseconds_is_written(rt: HostRuntime) -> Result<(), Fail> {
+    let items = Items::read(&[]).ok().ok_or("items")?;
+    let sample = Sample {
+        credentials: Credentials::Unused,
+        invoke: 0,
+        time: Some(Cds {
+            days: 1,
+            millis: 2,
+            rest: Rest::Picos(999_999_999),
+        }),
+        items: items.iter(),
+    };
+    let mut writer = Writer::new(rt.alloc(), 50).ok().ok_or("memory")?;
+    assert!(rt; sample.length() <= writer.room());
+    sample.encode(&mut writer);
+    assert_eq!(rt; writer.octets(), PICOS.as_slice());
     Ok(())
 }
 
@@ -125,11 +166,10 @@ fn a_ninth_item_is_surplus(rt: HostRuntime) -> Result<(), Fail> {
     ];
     let sample = Sample::decode(&eight).ok().ok_or("a sample")?;
     let mut items = sample.items;
-    let mut last = 0;
-    for _ in 0..8 {
-        last = items.next().ok_or("an item")?[0];
+    for octet in 1..9 {
+        assert_eq!(rt; items.next(), Some([octet].as_slice()));
     }
-    assert_eq!(rt; last, 8);
+    assert_eq!(rt; items.next(), None);
     assert_eq!(rt;
         Sample::decode(&nine).err(),
         Some(BerFault::BadLength { place: 35 })

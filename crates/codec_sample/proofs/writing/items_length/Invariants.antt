@@ -8,7 +8,7 @@ abbrev pub invariant-loop-item : goal.invariant-loop-item
 invariant-loop-item l = record {
   each : AllByRecursion (HasLength 1 16) l.rest;
   so_far : l.length + length (canonical_all (item_trees l.rest)) ≡ length (canonical_all (item_trees l.fn.items));
-  small : length (canonical_all (item_trees l.fn.items)) ≤ 144
+  small : length (canonical_all (item_trees l.fn.items)) ≤ 144;
 }
 
 abbrev pub decreases-loop-item : goal.decreases-loop-item

@@ -7,7 +7,7 @@ abbrev pub invariant-loop-item : goal.invariant-loop-item
 invariant-loop-item l = record {
   octets : l.writer.octets ++ canonical_all (item_trees l.rest) ≡ l.fn.writer.octets ++ canonical_all (item_trees l.fn.items);
   room : l.writer.room + length (canonical_all (item_trees l.fn.items)) ≡ l.fn.writer.room + length (canonical_all (item_trees l.rest));
-  fits : length (canonical_all (item_trees l.rest)) ≤ l.writer.room
+  fits : length (canonical_all (item_trees l.rest)) ≤ l.writer.room;
 }
 
 abbrev pub decreases-loop-item : goal.decreases-loop-item
