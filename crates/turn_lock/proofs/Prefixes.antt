@@ -1,5 +1,5 @@
 -- Lists that begin one history.
-use Rattle.std.proofs.Common.{◌≡◌, Bool, true, false, List, [], ◌∷◌, ◌++◌, length, if◌then◌else◌, nat_lt, refl, ap, sym, ◌∙◌, subst, append_assoc}
+use Rattle.std.proofs.Common.{Bool, true, false, List, [], ◌∷◌, ◌++◌, length, if◌then◌else◌, nat_lt, refl, ap, sym, ◌∙◌, append_assoc}
 use mathlib.Core.List.{IsPrefix}
 use Rattle.turn_lock.specs.Steps.{longer}
 
@@ -7,9 +7,6 @@ module _ {A : Type 0} where
   pub prefix_self : (xs : List A) → IsPrefix xs xs
   prefix_self [] = ([], refl)
   prefix_self (x ∷ xs) = let rest = prefix_self xs in (rest.0, ap (λ ys. x ∷ ys) rest.1)
-
-  pub prefix_same : (xs ys : List A) → xs ≡ ys → IsPrefix xs ys
-  prefix_same xs ys e = subst (IsPrefix xs) e (prefix_self xs)
 
   pub prefix_trans : (xs ys zs : List A) → IsPrefix xs ys → IsPrefix ys zs → IsPrefix xs zs
   prefix_trans xs ys zs p q = (p.0 ++ q.0, sym (append_assoc xs p.0 q.0) ∙ (ap (λ w. w ++ q.0) p.1 ∙ q.1))
