@@ -9,6 +9,7 @@ use Rattle.std.proofs.lemmas.Bool.Decides.{nat_tests}
 use Rattle.ber_core.specs.declared.fault.BerFault.{BerFault}
 use Rattle.ber_core.specs.declared.fault.BerFault.TheVariants.{BadLength, WrongTag}
 use Rattle.ber_core.specs.Length.{IsOctets, IsLength, IsLong, number_of}
+use Rattle.ber_core.specs.Parts.{length-parts}
 use Rattle.ber_core.specs.View.{View, end_of, left}
 use Rattle.ber_core.specs.Reading.{missing, is_full, content_from, content_behind, content_at, next_content, Stands}
 
@@ -150,7 +151,7 @@ stands view tag content start front found = record {
   rest = found.behind;
   is_element = (found.size, found.is_length, refl);
   before_end = front ∙ ap (λ others. tag ++ others) found.is ∙ simp append_assoc;
-  begins = omega (arith, found.begins, length-append tag (found.size ++ content), length-append found.size content);
+  begins = omega (arith, found.begins, length-parts tag found.size content);
   shallow = found.shallow;
 }
 
@@ -175,5 +176,5 @@ Stands-next_content view tag content start found =
     let starts : starts_with nat_eq (left view) tag ≡ true = front_starts (left view) tag (size ++ (content ++ found.rest)) front in
     let behind : drop (length tag) (left view) ≡ size ++ (content ++ found.rest) = ap (drop (length tag)) front ∙ drop_at tag (size ++ (content ++ found.rest)) (length tag) refl in
     let begins : view.place + length tag + length size ≡ start
-    = omega (arith, found.begins, ap length found.is_element.2, length-append tag (size ++ content), length-append size content) in
+    = omega (arith, found.begins, ap length found.is_element.2, length-parts tag size content) in
     rw (starts, behind) (length_at view (view.place + length tag) size content found.rest found.shallow found.is_element.1 ∙ ap (λ place. Ok (place, content)) begins)

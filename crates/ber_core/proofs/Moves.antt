@@ -1,6 +1,7 @@
 -- What is left to read inside an element and behind it.
 use Rattle.std.proofs.Common.{◌≡◌, ℕ, ◌+◌, ◌-◌, ◌≤◌, List, ◌++◌, length, take, drop, refl, sym, ◌∙◌, ap, arith}
 use Rattle.std.proofs.lemmas.List.{append_assoc, take_at, drop_at, drop-take, drop-drop, take-take, length-append, length-take}
+use Rattle.ber_core.specs.Parts.{length-parts}
 use Rattle.ber_core.specs.View.{View, end_of, left}
 use Rattle.ber_core.specs.Reading.{Stands, inside, behind}
 
@@ -12,7 +13,7 @@ left-drop octets place end k fits =
 
 module _ (view : View) (tag content : List ℕ) (start : ℕ) (found : Stands view tag content start) where
   spelled_length : length found.spelled ≡ length tag + length found.is_element.0 + length content
-  spelled_length = omega (arith, ap length found.is_element.2, length-append tag (found.is_element.0 ++ content), length-append found.is_element.0 content)
+  spelled_length = omega (arith, ap length found.is_element.2, length-parts tag found.is_element.0 content)
 
   spelled_fits : length found.spelled ≤ end_of view - view.place
   spelled_fits = omega (arith, ap length found.before_end, length-append found.spelled found.rest, length-take (end_of view - view.place) (drop view.place view.octets))

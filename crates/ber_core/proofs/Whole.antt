@@ -9,6 +9,7 @@ use Rattle.ber_core.specs.declared.fault.BerFault.TheVariants.{BadContent, BadLe
 use Rattle.ber_core.specs.Length.{IsOctets}
 use Rattle.ber_core.specs.Tree.{Tree, Trees, primitive, constructed, no_trees, tree_and}
 use Rattle.ber_core.specs.Spelling.{IsElement, Spells, SpellsAll}
+use Rattle.ber_core.specs.Parts.{length-parts}
 use Rattle.ber_core.specs.View.{View, end_of, left}
 use Rattle.ber_core.specs.Reading.{◌>>=◌, next_content, primitive_at, enter, leave, inside, behind, Stands}
 use Rattle.ber_core.specs.Whole.{depth, depth_all, exactly, read_tree, read_trees}
@@ -146,7 +147,7 @@ mutual
       (read_trees-ok ts (record view { place = first.0.place }) new octets shallow (ap (read_trees ts) (sym same) ∙ first.2))
 
 content_ends : (view : View) (tag content spelled : List ℕ) → IsElement tag content spelled → view.place + length spelled - length content + length content ≡ view.place + length spelled
-content_ends view tag content spelled element = omega (arith, ap length element.2, length-append tag (element.0 ++ content), length-append element.0 content)
+content_ends view tag content spelled element = omega (arith, ap length element.2, length-parts tag element.0 content)
 
 standing : (view : View) (tag content spelled rest : List ℕ) → IsElement tag content spelled → left view ≡ spelled ++ rest → length view.ends < 16
     → Stands view tag content (view.place + length spelled - length content)

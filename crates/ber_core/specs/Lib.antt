@@ -2,6 +2,7 @@ pub mod Length
 pub mod Integer
 pub mod Tree
 pub mod Spelling
+pub mod Parts
 pub mod Written
 pub mod View
 pub mod Reading

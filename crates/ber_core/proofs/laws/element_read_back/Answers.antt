@@ -1,6 +1,7 @@
-use Rattle.std.proofs.Common.{◌+◌, ◌++◌, length, length-append, refl, arith}
+use Rattle.std.proofs.Common.{◌+◌, length, refl, arith}
 use Rattle.ber_core.specs.Length.{shortest_length}
 use Rattle.ber_core.specs.Spelling.{element}
+use Rattle.ber_core.specs.Parts.{length-element}
 use Rattle.ber_core.proofs.Lengths.{shortest_length-IsLength}
 use Rattle.ber_core.proofs.Found.{Stands-next_content}
 use Rattle.ber_core.proofs.laws.element_read_back.Goals as goal
@@ -13,6 +14,6 @@ returns c = λ view tag content more fits shallow front.
       rest = more;
       is_element = (shortest_length (length content), shortest_length-IsLength (length content) fits, refl);
       before_end = front;
-      begins = omega (arith, length-append tag (shortest_length (length content) ++ content), length-append (shortest_length (length content)) content);
+      begins = omega (arith, length-element tag content);
       shallow = shallow;
     })

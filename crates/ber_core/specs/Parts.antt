@@ -1,0 +1,67 @@
+-- How a canonical spelling is put together, and how long it is: theorems for those who write one or measure it.
+use Rattle.std.proofs.Common.{◌≡◌, ℕ, ◌+◌, List, [], ◌∷◌, ◌++◌, length, length-append, append_assoc, append-nil, refl, sym, ◌∙◌, ap, arith}
+use Rattle.std.specs.List.{flat_map}
+use Rattle.ber_core.specs.Length.{shortest_length}
+use Rattle.ber_core.specs.Tree.{Tree, Trees, primitive, constructed, no_trees, tree_and, trees}
+use Rattle.ber_core.specs.Spelling.{element, canonical, canonical_all}
+
+-- ---- put together
+
+pub spelled-primitive : (tag content : List ℕ) → canonical (primitive tag content) ≡ tag ++ (shortest_length (length content) ++ content)
+unfolding canonical element
+spelled-primitive tag content = refl
+
+pub spelled-constructed : (tag : List ℕ) (members : Trees) → canonical (constructed tag members) ≡ tag ++ (shortest_length (length (canonical_all members)) ++ canonical_all members)
+unfolding canonical element
+spelled-constructed tag members = refl
+
+pub spelled-tree_and : (t : Tree) (ts : Trees) → canonical_all (tree_and t ts) ≡ canonical t ++ canonical_all ts
+unfolding canonical
+spelled-tree_and t ts = refl
+
+pub spelled-no_trees : canonical_all no_trees ≡ []
+unfolding canonical
+spelled-no_trees = refl
+
+pub spelled-trees : (ts : List Tree) → canonical_all (trees ts) ≡ flat_map canonical ts
+unfolding canonical
+spelled-trees [] = refl
+spelled-trees (t ∷ ts) = ap (λ rest. canonical t ++ rest) (spelled-trees ts)
+
+pub spelled-alone : (t : Tree) → canonical_all (trees (t ∷ [])) ≡ canonical t
+unfolding canonical
+spelled-alone t = append-nil (canonical t)
+
+regrouped : (w tag size content : List ℕ) → w ++ tag ++ size ++ content ≡ w ++ (tag ++ (size ++ content))
+regrouped w tag size content = simp append_assoc
+
+-- a head and the content behind it, appended one after the other, are one element
+pub append_within : (w head new tag content : List ℕ) (n : ℕ) (members : Trees) → canonical_all members ≡ content → n ≡ length (canonical_all members) → head ≡ w ++ tag ++ shortest_length n → new ≡ head ++ content
+    → new ≡ w ++ canonical (constructed tag members)
+append_within w head new tag content n members is count headed appended =
+    appended ∙ ap (λ front. front ++ content) headed ∙ ap (λ content. w ++ tag ++ shortest_length n ++ content) (sym is)
+    ∙ ap (λ n. w ++ tag ++ shortest_length n ++ canonical_all members) count
+    ∙ regrouped w tag (shortest_length (length (canonical_all members))) (canonical_all members) ∙ ap (λ octets. w ++ octets) (sym (spelled-constructed tag members))
+
+-- ---- how long
+
+pub length-parts : (tag size content : List ℕ) → length (tag ++ (size ++ content)) ≡ length tag + length size + length content
+length-parts tag size content = omega (arith, length-append tag (size ++ content), length-append size content)
+
+pub length-element : (tag content : List ℕ) → length (element tag content) ≡ length tag + length (shortest_length (length content)) + length content
+unfolding element
+length-element tag content = length-parts tag (shortest_length (length content)) content
+
+pub length-primitive : (tag content : List ℕ) → length (canonical (primitive tag content)) ≡ length tag + length (shortest_length (length content)) + length content
+length-primitive tag content = ap length (spelled-primitive tag content) ∙ length-parts tag (shortest_length (length content)) content
+
+pub length-constructed : (tag : List ℕ) (members : Trees) → length (canonical (constructed tag members)) ≡ length tag + length (shortest_length (length (canonical_all members))) + length (canonical_all members)
+length-constructed tag members = ap length (spelled-constructed tag members) ∙ length-parts tag (shortest_length (length (canonical_all members))) (canonical_all members)
+
+pub length-tree_and : (t : Tree) (ts : Trees) → length (canonical_all (tree_and t ts)) ≡ length (canonical t) + length (canonical_all ts)
+length-tree_and t ts = ap length (spelled-tree_and t ts) ∙ length-append (canonical t) (canonical_all ts)
+
+pub length-no_trees : length (canonical_all no_trees) ≡ 0
+length-no_trees = ap length spelled-no_trees
+
+pub ruleset lengths = (length-primitive, length-constructed, length-tree_and, length-no_trees)
