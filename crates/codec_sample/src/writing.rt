@@ -12,7 +12,7 @@ use crate::sample::{Credentials, Sample};
 use ber_core::{Writer, element_length, integer_length};
 use cds_time::{Cds, Rest};
 
-#[tactic(auto, using(crate::proofs::Lengths::lengths))]
+#[tactic(auto, using(ber_core::specs::Parts::lengths))]
 fn credentials_length(credentials: &Credentials) -> usize
     requires { IfSome (credentials_of credentials.now) (HasLength 8 256) }
     ensures exact { result ≡ length (canonical (optional used (credentials_of credentials.now))) }
@@ -53,7 +53,7 @@ fn octets_length(time: &Cds) -> usize
     }
 }
 
-#[tactic(auto, using(crate::proofs::Lengths::lengths))]
+#[tactic(auto, using(ber_core::specs::Parts::lengths))]
 fn time_length(at: &Cds) -> usize
     ensures exact { result ≡ length (canonical (time at.now)) }
     ensures small { result ≤ 20 }
@@ -71,7 +71,7 @@ fn put_time(at: &Cds, writer: &mut Writer)
     writer.octet_string(identifier_of(at), &octets[..length]);
 }
 
-#[tactic(auto, using(crate::proofs::Lengths::lengths))]
+#[tactic(auto, using(ber_core::specs::Parts::lengths))]
 fn conditional_length(at: &Option<Cds>) -> usize
     ensures exact { result ≡ length (canonical (optional known_time at.now)) }
     ensures small { result ≤ 30 }
@@ -82,7 +82,7 @@ fn conditional_length(at: &Option<Cds>) -> usize
     }
 }
 
-#[tactic(auto, using(crate::proofs::Lengths::lengths))]
+#[tactic(auto, using(ber_core::specs::Parts::lengths))]
 fn put_known(at: &Cds, writer: &mut Writer)
     requires { length (canonical (known_time at.now)) ≤ writer.old.room }
     ensures octets { writer.new.octets ≡ writer.old.octets ++ canonical (known_time at.now) }
@@ -127,7 +127,7 @@ fn put_items(items: &Items, writer: &mut Writer)
     }
 }
 
-#[tactic(auto, using(crate::proofs::Lengths::lengths))]
+#[tactic(auto, using(ber_core::specs::Parts::lengths))]
 fn list_length(items: &Items) -> usize
     ensures exact { result ≡ length (canonical (item_list items.now)) }
     ensures small { result ≤ 160 }
@@ -135,7 +135,7 @@ fn list_length(items: &Items) -> usize
     element_length(&[0x30], items_length(items))
 }
 
-#[tactic(auto, using(crate::proofs::Lengths::lengths))]
+#[tactic(auto, using(ber_core::specs::Parts::lengths))]
 fn put_list(items: &Items, writer: &mut Writer)
     requires { length (canonical (item_list items.now)) ≤ writer.old.room }
     ensures octets { writer.new.octets ≡ writer.old.octets ++ canonical (item_list items.now) }
@@ -145,7 +145,7 @@ fn put_list(items: &Items, writer: &mut Writer)
     put_items(items, writer);
 }
 
-#[tactic(auto, using(crate::proofs::Lengths::lengths))]
+#[tactic(auto, using(ber_core::specs::Parts::lengths))]
 fn invoke_length(number: u16) -> usize
     ensures exact { result ≡ length (canonical (invoke (pos number))) }
     ensures small { result ≤ 26 }
@@ -162,7 +162,7 @@ fn put_invoke(number: u16, writer: &mut Writer)
 }
 
 // The number of octets of all the fields.
-#[tactic(auto, using(crate::proofs::Lengths::lengths))]
+#[tactic(auto, using(ber_core::specs::Parts::lengths))]
 fn fields_length(given: &Sample) -> usize
     requires { CredentialsFit given.now }
     ensures exact { result ≡ length (canonical_all (trees (fields (content given.now)))) }
@@ -174,7 +174,7 @@ fn fields_length(given: &Sample) -> usize
         + list_length(&given.items)
 }
 
-#[tactic(auto, using(crate::proofs::Lengths::lengths), unfolding(crate::specs::Sample::sample))]
+#[tactic(auto, using(ber_core::specs::Parts::lengths), unfolding(crate::specs::Sample::sample))]
 pub(crate) fn sample_length(given: &Sample) -> usize
     requires { CredentialsFit given.now }
     ensures exact { result ≡ length (canonical (sample (content given.now))) }
@@ -183,7 +183,7 @@ pub(crate) fn sample_length(given: &Sample) -> usize
     element_length(&[0xa0], fields_length(given))
 }
 
-#[tactic(auto, using(crate::proofs::Lengths::lengths), unfolding(crate::specs::Sample::sample))]
+#[tactic(auto, using(ber_core::specs::Parts::lengths), unfolding(crate::specs::Sample::sample))]
 pub(crate) fn put_sample(given: &Sample, writer: &mut Writer)
     requires credentials { CredentialsFit given.now }
     requires fits { length (canonical (sample (content given.now))) ≤ writer.old.room }

@@ -64,7 +64,7 @@ fn length_of(ert: &Cds) -> usize
     }
 }
 
-#[tactic(auto, using(crate::proofs::Lengths::lengths), unfolding(crate::specs::Items::time))]
+#[tactic(auto, using(ber_core::specs::Parts::lengths), unfolding(crate::specs::Items::time))]
 fn time_length(ert: &Cds) -> usize
     ensures exact { result ≡ length (canonical (time ert.now)) }
     ensures small { result ≤ 32 }
@@ -90,7 +90,7 @@ fn number_length(value: i128) -> usize
     element_length(&INTEGER, integer_length(value))
 }
 
-#[tactic(auto, using(crate::proofs::Lengths::lengths))]
+#[tactic(auto, using(ber_core::specs::Parts::lengths))]
 fn string_length(identifier: &[u8], octets: &[u8]) -> usize
     requires identifier { length identifier.now ≤ 2 }
     requires octets { length octets.now ≤ 65536 }
@@ -133,7 +133,7 @@ pub fn raf_frame_length(
 }
 
 /// Appends a frame with unused credentials, the local form of its antenna and no annotation.
-#[tactic(auto, using(crate::proofs::Lengths::lengths))]
+#[tactic(auto, using(ber_core::specs::Parts::lengths))]
 pub fn raf_frame(
     ert: Cds,
     antenna: &[u8],

@@ -1,8 +1,9 @@
-use Rattle.std.proofs.Common.{◌≡◌, ℕ, List, [], ◌∷◌, length, ap, subst, arith}
+use Rattle.std.proofs.Common.{ℕ, List, [], ◌∷◌, length, ap, subst, arith}
 use Rattle.std.specs.List.{AllByRecursion}
 use Rattle.ber_core.specs.Spelling.{canonical_all}
 use Rattle.codec_sample.specs.Sample.{item, item_trees, HasLength}
-use Rattle.codec_sample.proofs.Lengths.{few_small, length-primitive, length-tree_and, length-no_trees}
+use Rattle.ber_core.specs.Parts.{length-primitive, length-tree_and, length-no_trees}
+use Rattle.codec_sample.proofs.Lengths.{few_small}
 use Rattle.codec_sample.proofs.writing.items_length.Goals as goal
 
 size : List (List ℕ) → ℕ

@@ -1,7 +1,7 @@
 use Rattle.std.proofs.Common.{◌≡◌, ℕ, List, [], ◌∷◌, ◌++◌, length, append_assoc, append-nil, sym, ◌∙◌, ap, arith}
 use Rattle.ber_core.specs.Spelling.{canonical, canonical_all}
 use Rattle.codec_sample.specs.Sample.{item, item_trees}
-use Rattle.codec_sample.proofs.Lengths.{spelled-tree_and, spelled-no_trees, length-tree_and, length-no_trees}
+use Rattle.ber_core.specs.Parts.{spelled-tree_and, spelled-no_trees, length-tree_and, length-no_trees}
 use Rattle.codec_sample.proofs.writing.put_items.Goals as goal
 
 abbrev spelled : List (List ℕ) → List ℕ

@@ -1,7 +1,7 @@
 use Rattle.std.proofs.Common.{[], ◌∷◌, refl}
 use Rattle.ber_core.specs.Spelling.{canonical_all}
 use Rattle.codec_sample.specs.Sample.{item_trees}
-use Rattle.codec_sample.proofs.Lengths.{append_within}
+use Rattle.ber_core.specs.Parts.{append_within}
 use Rattle.codec_sample.proofs.writing.put_list.Goals as goal
 
 pub returns-clause-octets : goal.returns-clause-octets

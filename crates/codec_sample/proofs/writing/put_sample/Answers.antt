@@ -1,9 +1,10 @@
-use Rattle.std.proofs.Common.{[], ◌∷◌, ◌++◌, pos}
+use Rattle.std.proofs.Common.{[], ◌∷◌, ◌++◌}
 use Rattle.ber_core.specs.Tree.{trees}
 use Rattle.ber_core.specs.Spelling.{canonical}
 use Rattle.codec_sample.specs.Sample.{optional, used, invoke, known_time, item_list, fields, sample}
 use Rattle.codec_sample.specs.Seen.{content}
-use Rattle.codec_sample.proofs.Lengths.{append_within, four_trees, four_appended}
+use Rattle.ber_core.specs.Parts.{append_within}
+use Rattle.codec_sample.proofs.Lengths.{four_trees, four_appended}
 use Rattle.codec_sample.proofs.writing.put_sample.Goals as goal
 
 pub returns-clause-octets : goal.returns-clause-octets

@@ -2,7 +2,7 @@ use Rattle.std.proofs.Common.{◌∷◌, [], FitsSigned, sym}
 use Rattle.std.specs.Int.{w128}
 use Rattle.std.proofs.lemmas.Int.{to_z-of_z}
 use Rattle.ber_core.specs.Integer.{integer_octets}
-use Rattle.return_pdu.proofs.Lengths.{length-primitive}
+use Rattle.ber_core.specs.Parts.{length-primitive}
 use Rattle.return_pdu.proofs.frame.number_length.Goals as goal
 
 pub returns-clause-exact : goal.returns-clause-exact
