@@ -1,2 +1,3 @@
 pub mod Moment
+pub mod Octets
 pub mod Readings
