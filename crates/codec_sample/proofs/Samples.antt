@@ -1,31 +1,21 @@
 -- A sample is read exactly where its tree is spelled.
 use Rattle.cds_time.specs.declared.moment.Cds.{Cds}
-use Rattle.std.proofs.Common.{◌≡◌, ℕ, ℤ, zero, suc, ◌+◌, ◌-◌, ◌≤◌, max, true, false, List, [], ◌∷◌, ◌++◌, length, take, drop, ◌==◌, if◌then◌else◌, Option, Some, None, Result, Ok, Err, refl, sym, ◌∙◌, ap, subst, eq-eqb, arith}
-use Rattle.std.specs.Prelude.{IfSome}
+use Rattle.std.proofs.Common.{◌≡◌, ℕ, ℤ, ◌≤◌, List, [], ◌∷◌, ◌++◌, length, take, Option, Some, None, Ok, refl, sym, ◌∙◌, ap, subst, eq-eqb, arith}
 use Rattle.std.proofs.Math.Seq.{take-length}
-use Rattle.std.proofs.lemmas.List.{length-append, append-nil, nil_from_length, length-take}
-use Rattle.ber_core.specs.declared.fault.BerFault.{BerFault}
-use Rattle.ber_core.specs.declared.fault.BerFault.TheVariants.{BadLength}
+use Rattle.std.proofs.lemmas.List.{length-append, append-nil, nil_from_length}
 use Rattle.ber_core.specs.Length.{IsOctets}
-use Rattle.ber_core.specs.Tree.{Tree, Trees, primitive, constructed, no_trees, tree_and, trees}
+use Rattle.ber_core.specs.Tree.{Tree, Trees, no_trees, tree_and, trees}
 use Rattle.ber_core.specs.Spelling.{Spells, SpellsAll}
 use Rattle.ber_core.specs.View.{View, view_before, end_of, left}
-use Rattle.ber_core.specs.Reading.{◌>>=◌, leave, FoundWhereSpelled, ContentIsOctets, IntegerWhereSpelled, IntegerReadBack}
-use Rattle.ber_core.specs.Whole.{depth, depth_all, read_tree, read_trees, Passes, ReadWhereSpelled, AllReadAreSpelled, AllSpelledAreRead}
-use Rattle.codec_sample.specs.Sample.{Content, optional, used, invoke, known_time, item_list, item_trees, fields, sample, HasLength, IsTime, AreItems, IsSample}
-use Rattle.codec_sample.specs.Reading.{within, whole, credentials_at, invoke_at, conditional_time_at, item_list_at, items_at, fields_at, items_of, sample_of}
-use Rattle.codec_sample.proofs.Trees.{bind_ok, ok_is, tested, left_at_end}
-use Rattle.codec_sample.proofs.Fields.{IsField, AreFields, within_field, credentials_field, invoke_field, IsInvoke}
+use Rattle.ber_core.specs.Reading.{◌>>=◌, leave}
+use Rattle.ber_core.specs.Whole.{depth, depth_all, read_tree, read_trees, ReadWhereSpelled, AllReadAreSpelled, AllSpelledAreRead}
+use Rattle.codec_sample.specs.Sample.{Content, optional, used, invoke, known_time, item_list, item_trees, fields, sample, AreItems, IsSample}
+use Rattle.codec_sample.specs.Known.{Known}
+use Rattle.codec_sample.specs.Reading.{within, credentials_at, invoke_at, conditional_time_at, item_list_at, items_at, fields_at, items_of, sample_of}
+use Rattle.codec_sample.proofs.Trees.{bind_ok, ok_is, left_at_end}
+use Rattle.codec_sample.proofs.Fields.{IsField, AreFields, within_field, credentials_field, invoke_field}
 use Rattle.codec_sample.proofs.Times.{time_field}
 use Rattle.codec_sample.proofs.Listed.{items_fields, items_ok}
-
--- what a caller knows of a reader
-pub record Laws : Type 0 where
-  pub stands : FoundWhereSpelled
-  pub parts : ContentIsOctets
-  pub spelled : IntegerWhereSpelled
-  pub back : IntegerReadBack
-  pub trees_read : ReadWhereSpelled
 
 pub kept : ReadWhereSpelled → (t : Tree) (view new : View) → IsOctets view.octets → read_tree t view ≡ Ok new → IsOctets new.octets
 kept law t view new octets e =
@@ -63,7 +53,7 @@ four a b c d view new e =
 abbrev made : Option (List ℕ) → ℤ → Option Cds → List (List ℕ) → Content
 made credentials invoke time items = record { credentials = credentials; invoke = invoke; time = time; items = items }
 
-module _ (laws : Laws) where
+module _ (laws : Known) where
   fields_are : (view new : View) (s : Content) → IsOctets view.octets → fields_at view ≡ Ok (s, new) → IsSample s × (read_trees (trees (fields s)) view ≡ Ok new)
   unfolding fields_at
   fields_are view new s octets e =
@@ -72,11 +62,11 @@ module _ (laws : Laws) where
       let c = bind_ok (conditional_time_at b.0.1) (λ time. item_list_at time.1 >>= λ items. Ok (made a.0.0 b.0.0 time.0 items.0, items.1)) (s, new) b.2 in
       let d = bind_ok (item_list_at c.0.1) (λ items. Ok (made a.0.0 b.0.0 c.0.0 items.0, items.1)) (s, new) c.2 in
       let (a_fits, a_read) = credentials_field.is_tree view a.0.1 a.0.0 octets a.1 in
-      let octets_2 = kept laws.trees_read (optional used a.0.0) view a.0.1 octets a_read in
+      let octets_2 = kept laws.tree_read (optional used a.0.0) view a.0.1 octets a_read in
       let (b_fits, b_read) = (invoke_field laws.stands laws.parts laws.spelled laws.back).is_tree a.0.1 b.0.1 b.0.0 octets_2 b.1 in
-      let octets_3 = kept laws.trees_read (invoke b.0.0) a.0.1 b.0.1 octets_2 b_read in
-      let (c_fits, c_read) = (time_field laws.stands laws.parts).is_tree b.0.1 c.0.1 c.0.0 octets_3 c.1 in
-      let octets_4 = kept laws.trees_read (optional known_time c.0.0) b.0.1 c.0.1 octets_3 c_read in
+      let octets_3 = kept laws.tree_read (invoke b.0.0) a.0.1 b.0.1 octets_2 b_read in
+      let (c_fits, c_read) = (time_field laws.stands laws.parts laws.time_given laws.time_again).is_tree b.0.1 c.0.1 c.0.0 octets_3 c.1 in
+      let octets_4 = kept laws.tree_read (optional known_time c.0.0) b.0.1 c.0.1 octets_3 c_read in
       let (d_fits, d_read) = item_list_field.is_tree c.0.1 d.0.1 d.0.0 octets_4 d.1 in
       subst (λ read. IsSample read.0 × (read_trees (trees (fields read.0)) view ≡ Ok read.1)) (ok_is (made a.0.0 b.0.0 c.0.0 d.0.0, d.0.1) (s, new) d.2) (
         record { credentials_fit = a_fits; invoke_least = b_fits.0; invoke_greatest = b_fits.1; time_fits = c_fits; items_fit = d_fits },
@@ -90,7 +80,7 @@ module _ (laws : Laws) where
       rw (
         credentials_field.is_read view r.first s.credentials fits.credentials_fit r.a_read,
         (invoke_field laws.stands laws.parts laws.spelled laws.back).is_read r.first r.second s.invoke (fits.invoke_least, fits.invoke_greatest) r.b_read,
-        (time_field laws.stands laws.parts).is_read r.second r.third s.time fits.time_fits r.c_read,
+        (time_field laws.stands laws.parts laws.time_given laws.time_again).is_read r.second r.third s.time fits.time_fits r.c_read,
         item_list_field.is_read r.third new s.items fits.items_fit r.d_read,
       ) refl
 
@@ -154,19 +144,19 @@ sample_depth : (s : Content) → depth_all (tree_and (sample s) no_trees) ≤ 16
 unfolding depth sample
 sample_depth s = omega (arith, used_depth s.credentials, known_depth s.time, items_depth s.items)
 
-pub sample_is : Laws → AllReadAreSpelled → (octets : List ℕ) (s : Content) → IsOctets octets → sample_of octets ≡ Ok s → IsSample s × Spells (sample s) octets
+pub sample_is : Known → (octets : List ℕ) (s : Content) → IsOctets octets → sample_of octets ≡ Ok s → IsSample s × Spells (sample s) octets
 unfolding sample_of
-sample_is laws law octets s all e =
+sample_is laws octets s all e =
     let read = bind_ok (within (0xa0 ∷ []) fields_at (view_before octets)) (λ read. leave read.1 >>= λ behind. Ok read.0) s e in
     let left_it = bind_ok (leave read.0.1) (λ behind. Ok read.0.0) s read.2 in
     let (fits, tree) = (sample_field laws).is_tree (view_before octets) read.0.1 read.0.0 all read.1 in
-    let spelled = whole_spelled law (tree_and (sample read.0.0) no_trees) octets read.0.1 all (tree_alone (sample read.0.0) (view_before octets) read.0.1 tree) (left_at_end read.0.1 left_it.0 left_it.1) in
+    let spelled = whole_spelled laws.trees_are (tree_and (sample read.0.0) no_trees) octets read.0.1 all (tree_alone (sample read.0.0) (view_before octets) read.0.1 tree) (left_at_end read.0.1 left_it.0 left_it.1) in
     subst (λ s. IsSample s × Spells (sample s) octets) (ok_is read.0.0 s left_it.2) (fits, single (sample read.0.0) octets spelled)
 
-pub sample_again : Laws → AllSpelledAreRead → (octets : List ℕ) (s : Content) → IsSample s → Spells (sample s) octets → sample_of octets ≡ Ok s
+pub sample_again : Known → (octets : List ℕ) (s : Content) → IsSample s → Spells (sample s) octets → sample_of octets ≡ Ok s
 unfolding sample_of
-sample_again laws law octets s fits spells =
-    let trees_read = whole_again law (tree_and (sample s) no_trees) octets (sample_depth s) (octets, [], spells, refl, sym (append-nil octets)) in
+sample_again laws octets s fits spells =
+    let trees_read = whole_again laws.trees_again (tree_and (sample s) no_trees) octets (sample_depth s) (octets, [], spells, refl, sym (append-nil octets)) in
     rw ((sample_field laws).is_read (view_before octets) (at_end_of octets) s fits (alone_tree (sample s) (view_before octets) (at_end_of octets) trees_read), left_whole octets) refl
 
 pub items_are : AllReadAreSpelled → (octets : List ℕ) (items : List (List ℕ)) → IsOctets octets → items_of octets ≡ Ok items → AreItems items × SpellsAll (item_trees items) octets

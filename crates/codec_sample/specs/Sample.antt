@@ -1,9 +1,10 @@
 -- A sample of a PDU, this product's own, in the forms of CCSDS 911.1-B, annex A: what it says, and its tree.
-use Rattle.std.specs.Prelude.{ℕ, ℤ, pos, ◌^◌, ◌<◌, ◌≤◌, ◌≤ℤ◌, Option, Some, None, IfSome, List, [], ◌∷◌, length, map}
+use Rattle.std.specs.Prelude.{ℕ, ℤ, pos, ◌≤◌, ◌≤ℤ◌, Option, Some, None, IfSome, List, [], ◌∷◌, length, map}
 use Rattle.std.specs.List.{AllByRecursion}
 use Rattle.ber_core.specs.Integer.{integer_octets}
 use Rattle.ber_core.specs.Tree.{Tree, Trees, primitive, constructed, trees}
 use Rattle.cds_time.specs.Moment.{octets_of}
+use Rattle.cds_time.specs.Octets.{FieldsFit}
 use Rattle.cds_time.specs.declared.moment.Cds.{Cds}
 use Rattle.cds_time.specs.declared.moment.Rest.{Rest}
 use Rattle.cds_time.specs.declared.moment.Rest.TheVariants.{Micros, Picos}
@@ -56,15 +57,6 @@ sample s = constructed (0xa0 ∷ []) (trees (fields s))
 abbrev pub HasLength : ℕ → ℕ → List ℕ → Type 0
 HasLength least greatest octets = (least ≤ length octets) × (length octets ≤ greatest)
 
-abbrev pub IsRest : Rest → Type 0
-IsRest (Micros n) = n < 2 ^ 16
-IsRest (Picos n) = n < 2 ^ 32
-
-pub record IsTime (t : Cds) : Type 0 where
-  pub days : t.days < 2 ^ 16
-  pub millis : t.millis < 2 ^ 32
-  pub rest : IsRest t.rest
-
 -- at most 8 items of 1 to 16 octets
 pub record AreItems (items : List (List ℕ)) : Type 0 where
   pub few : length items ≤ 8
@@ -75,5 +67,5 @@ pub record IsSample (s : Content) : Type 0 where
   pub credentials_fit : IfSome s.credentials (HasLength 8 256)
   pub invoke_least : pos 0 ≤ℤ s.invoke
   pub invoke_greatest : s.invoke ≤ℤ pos 65535
-  pub time_fits : IfSome s.time IsTime
+  pub time_fits : IfSome s.time FieldsFit
   pub items_fit : AreItems s.items

@@ -1,12 +1,13 @@
-// What holds of every sample and its octets, by the laws of a reader.
+// What holds of every sample and its octets, by the laws of a reader and of times.
 
+ghost use Rattle.codec_sample.specs.Known.{Known};
 ghost use Rattle.codec_sample.specs.Laws.{ReadWhereSpelled, ItemsWhereSpelled, ReadBack};
 
 use ber_core::laws;
+use cds_time::laws as times;
 
-/// A sample is read exactly where its tree is spelled, octet for octet, and where it keeps the ranges.
-pub fn read_where_spelled()
-    ensures { ReadWhereSpelled }
+fn known()
+    ensures { Known }
 {
     laws::found_where_spelled();
     laws::content_is_octets();
@@ -15,6 +16,15 @@ pub fn read_where_spelled()
     laws::read_where_spelled();
     laws::all_read_are_spelled();
     laws::all_spelled_are_read();
+    times::octets_give_fields();
+    times::fields_give_octets();
+}
+
+/// A sample is read exactly where its tree is spelled, octet for octet, and where it keeps the ranges.
+pub fn read_where_spelled()
+    ensures { ReadWhereSpelled }
+{
+    known();
 }
 
 /// Items are read exactly where their trees are spelled, one after another.
@@ -29,11 +39,6 @@ pub fn items_where_spelled()
 pub fn read_back()
     ensures { ReadBack }
 {
-    laws::found_where_spelled();
-    laws::content_is_octets();
-    laws::integer_where_spelled();
-    laws::integer_read_back();
-    laws::read_where_spelled();
-    laws::all_spelled_are_read();
+    known();
     laws::canonical_spells();
 }
