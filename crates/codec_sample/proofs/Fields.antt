@@ -1,20 +1,20 @@
 -- Each field is read exactly where its tree is read and it keeps its range.
-use Rattle.std.proofs.Common.{◌≡◌, ℕ, ℤ, zero, suc, pos, ◌≤ℤ◌, ◌≤◌, ◌-◌, ◌%◌, ◌⊎◌, inl, inr, Bool, true, false, not, List, [], ◌∷◌, length, take, drop, map, nat_eq, ◌==◌, if◌then◌else◌, Option, Some, None, Result, Ok, Err, refl, sym, ◌∙◌, ap, subst, eq-eqb, length-take, arith}
+use Rattle.std.proofs.Common.{◌≡◌, ℕ, ℤ, pos, ◌≤ℤ◌, ◌%◌, ◌⊎◌, inl, inr, Bool, true, false, not, List, [], ◌∷◌, take, nat_eq, ◌==◌, if◌then◌else◌, Option, Some, None, Result, Ok, Err, refl, sym, ◌∙◌, ap, subst, arith}
 use Rattle.std.specs.Prelude.{IfSome}
-use Rattle.std.specs.List.{AllByRecursion, starts_with}
-use Rattle.std.specs.Cmp.Lexicographic.{pointwise, same_text}
+use Rattle.std.specs.List.{starts_with}
+use Rattle.std.specs.Cmp.Lexicographic.{same_text}
 use Rattle.std.proofs.lemmas.Int.{ints}
 use Rattle.ber_core.specs.declared.fault.BerFault.{BerFault}
-use Rattle.ber_core.specs.declared.fault.BerFault.TheVariants.{BadContent, WrongTag}
+use Rattle.ber_core.specs.declared.fault.BerFault.TheVariants.{BadContent}
 use Rattle.ber_core.specs.Length.{IsOctets}
 use Rattle.ber_core.specs.Integer.{integer_octets, Has64Bits}
 use Rattle.ber_core.specs.Tree.{Tree, Trees, primitive, constructed, first_identifier}
 use Rattle.ber_core.specs.View.{View, end_of, left}
-use Rattle.ber_core.specs.Reading.{◌>>=◌, next_content, content_at, missing, primitive_at, enter, has_length, integer_of, string_of, null_of, inside, FoundWhereSpelled, ContentIsOctets, IntegerWhereSpelled, IntegerReadBack}
+use Rattle.ber_core.specs.Reading.{next_content, primitive_at, has_length, integer_of, string_of, null_of, FoundWhereSpelled, ContentIsOctets, IntegerWhereSpelled, IntegerReadBack}
 use Rattle.ber_core.specs.Whole.{read_tree, read_trees}
-use Rattle.codec_sample.specs.Sample.{optional, used, invoke, item, item_trees, HasLength, AreItems}
+use Rattle.codec_sample.specs.Sample.{optional, used, invoke, HasLength}
 use Rattle.codec_sample.specs.Reading.{is_next, taken, within, optional_at, used_at, credentials_at, invoke_at}
-use Rattle.codec_sample.proofs.Trees.{bind_ok, ok_is, err_ok, tested, taken_ok, primitive_ok, content_found, primitive_again, Entered, within_ok, within_again, tree_ok, tree_again}
+use Rattle.codec_sample.proofs.Trees.{err_ok, tested, taken_ok, primitive_ok, content_found, primitive_again, within_ok, within_again, tree_ok, tree_again}
 
 pub record IsField {X : Type 0} (at : View → Result (X × View) BerFault) (tree : X → Tree) (Fits : X → Type 0) : Type 0 where
   pub is_tree : (view new : View) (x : X) → IsOctets view.octets → at view ≡ Ok (x, new) → Fits x × (read_tree (tree x) view ≡ Ok new)

@@ -9,7 +9,7 @@ use Rattle.ber_core.specs.Tree.{tree_and, no_trees}
 use Rattle.ber_core.specs.Spelling.{Spells, SpellsAll}
 use Rattle.ber_core.specs.View.{View, view_before, end_of, left}
 use Rattle.ber_core.specs.Reading.{◌>>=◌, next_content, enter, leave, inside, FoundWhereSpelled}
-use Rattle.ber_core.specs.Whole.{read_tree, read_trees, AllReadAreSpelled, AllSpelledAreRead}
+use Rattle.ber_core.specs.Whole.{AllReadAreSpelled, AllSpelledAreRead}
 use Rattle.codec_sample.specs.Sample.{item, item_trees, AreItems}
 use Rattle.codec_sample.specs.Items.{or_none, items_in}
 use Rattle.codec_sample.specs.Reading.{passed, items_at, item_list_at, items_of}

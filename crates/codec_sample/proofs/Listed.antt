@@ -1,13 +1,11 @@
 -- Items are read exactly where their trees stand one after another.
-use Rattle.std.proofs.Common.{◌≡◌, ℕ, zero, suc, ◌≤◌, ◌-◌, ◌⊎◌, inl, inr, Bool, true, false, List, [], ◌∷◌, length, take, drop, ◌==◌, if◌then◌else◌, Result, Ok, Err, refl, sym, ◌∙◌, ap, subst, eq-eqb, arith}
+use Rattle.std.proofs.Common.{◌≡◌, ℕ, zero, suc, ◌≤◌, ◌-◌, inl, inr, true, false, List, [], ◌∷◌, length, drop, ◌==◌, Result, Ok, refl, sym, ap, subst, eq-eqb, arith}
 use Rattle.std.specs.List.{AllByRecursion}
 use Rattle.std.proofs.lemmas.Bool.{eqb-true}
 use Rattle.std.proofs.lemmas.List.{length-take}
 use Rattle.ber_core.specs.declared.fault.BerFault.{BerFault}
-use Rattle.ber_core.specs.Length.{IsOctets}
-use Rattle.ber_core.specs.Tree.{Tree, Trees, primitive, trees}
 use Rattle.ber_core.specs.View.{View, end_of, left}
-use Rattle.ber_core.specs.Reading.{◌>>=◌, next_content, primitive_at, string_of}
+use Rattle.ber_core.specs.Reading.{◌>>=◌, primitive_at, string_of}
 use Rattle.ber_core.specs.Whole.{read_tree, read_trees}
 use Rattle.codec_sample.specs.Sample.{item, item_trees, HasLength, AreItems}
 use Rattle.codec_sample.specs.Reading.{items_at}

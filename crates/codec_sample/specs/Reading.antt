@@ -1,6 +1,6 @@
 -- Reading a sample, field by field: what it says, or the first fault. Where an element has none of the identifiers of a
 -- CHOICE, the fault is that of its first alternative.
-use Rattle.std.specs.Prelude.{ℕ, ℤ, zero, suc, pos, Bool, false, ◌==◌, ◌&&◌, Option, Some, None, List, [], ◌∷◌, if◌then◌else◌, Result, Ok, Err}
+use Rattle.std.specs.Prelude.{ℕ, ℤ, zero, suc, pos, Bool, false, ◌==◌, ◌&&◌, Option, Some, None, List, [], ◌∷◌, if◌then◌else◌, Result, Ok}
 use Rattle.ber_core.specs.declared.fault.BerFault.{BerFault}
 use Rattle.ber_core.specs.Tree.{first_identifier}
 use Rattle.ber_core.specs.View.{View, view_before, end_of, left}

@@ -1,6 +1,5 @@
 -- What contracts see of a sample.
-use Rattle.std.specs.Prelude.{ℕ, pos, Option, Some, None, IfSome, List, [], Result, Ok, Err}
-use Rattle.ber_core.specs.declared.fault.BerFault.{BerFault}
+use Rattle.std.specs.Prelude.{ℕ, pos, Option, Some, None, IfSome, List}
 use Rattle.codec_sample.specs.declared.sample.Credentials.{Credentials}
 use Rattle.codec_sample.specs.declared.sample.Credentials.TheVariants.{Unused, Used}
 use Rattle.codec_sample.specs.declared.sample.Sample.{Sample}

@@ -1,6 +1,5 @@
-use Rattle.std.proofs.Common.{◌≡◌, ◌-◌, ◌∷◌, List, ℕ, Ok, length, take, drop, refl, sym, ◌∙◌, ap, arith}
+use Rattle.std.proofs.Common.{◌∷◌, refl, sym, ◌∙◌, ap, arith}
 use Rattle.codec_sample.specs.Items.{or_none, items_in}
-use Rattle.codec_sample.specs.Reading.{items_of}
 use Rattle.codec_sample.proofs.Listed.{item_at}
 use Rattle.codec_sample.proofs.Lending.{from_each, is_listed, Next, next_some, next_none}
 use Rattle.codec_sample.proofs.items.split_first.Goals as goal
