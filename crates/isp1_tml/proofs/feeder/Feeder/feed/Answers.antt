@@ -3,43 +3,32 @@ use Rattle.isp1_tml.specs.Feeding.{Feeding, feeding_of}
 use Rattle.isp1_tml.proofs.Standing.{stands_fed, stands_refused}
 use Rattle.isp1_tml.proofs.Feedings.{Puts, put_whole, put_seen, put_refused}
 use Rattle.isp1_tml.proofs.feeder.Feeder.feed.Goals as goal
+use Rattle.isp1_tml.proofs.feeder.Feeder.feed.Goals.{After-further}
+
+-- the piece was put behind what was held
+puts : (c : After-further) → Puts c.self.inside.held.waiting c.args.piece.now c.octets.result.now c.put.new.self.waiting c.self.inside.place c.further.result c.self.inside.whole c.len-before.result c.min-taken.result
+puts c = record {
+  split = c.self.invariant;
+  before = c.len-before.ensures.exact;
+  count = c.min-taken.ensures;
+  put = c.put.ensures;
+  read = c.octets.ensures;
+  place = c.further.ensures;
+}
 
 pub invariant_of-self : goal.invariant_of-self
 invariant_of-self c =
-    let puts : Puts c.self.inside.held.waiting c.args.piece.now c.octets.result.now c.put.new.self.waiting c.self.inside.place c.further.result c.self.inside.whole c.len-before.result c.min-taken.result = record {
-      split = c.self.invariant;
-      before = c.len-before.ensures.exact;
-      count = c.min-taken.ensures;
-      put = c.put.ensures;
-      read = c.octets.ensures;
-      place = c.further.ensures;
-    } in
-    put_whole _ _ _ _ _ _ _ _ _ c.in-Ok.end _ puts c.in-Ok.ensures.within c.in-Ok.ensures.stream
+    put_whole _ _ _ _ _ _ _ _ _ c.in-Ok.end _ (puts (goal.at.invariant_of-self c).After-further) c.in-Ok.ensures.within c.in-Ok.ensures.stream
 
 pub returns-in-Ok-clause-stream : goal.returns-in-Ok-clause-stream
 returns-in-Ok-clause-stream c =
-    let puts : Puts c.self.inside.held.waiting c.args.piece.now c.octets.result.now c.put.new.self.waiting c.self.inside.place c.further.result c.self.inside.whole c.len-before.result c.min-taken.result = record {
-      split = c.self.invariant;
-      before = c.len-before.ensures.exact;
-      count = c.min-taken.ensures;
-      put = c.put.ensures;
-      read = c.octets.ensures;
-      place = c.further.ensures;
-    } in
-    let split = put_whole _ _ _ _ _ _ _ _ _ c.in-Ok.end _ puts c.in-Ok.ensures.within c.in-Ok.ensures.stream in
-    put_seen _ _ _ _ _ _ _ _ _ c.self.inside.fault _ _ _ _ puts c.self.view_is split.stream
+    let at = (goal.at.returns-in-Ok-clause-stream c).After-further in
+    let split = put_whole _ _ _ _ _ _ _ _ _ c.in-Ok.end _ (puts at) c.in-Ok.ensures.within c.in-Ok.ensures.stream in
+    put_seen _ _ _ _ _ _ _ _ _ c.self.inside.fault _ _ _ _ (puts at) c.self.view_is split.stream
 
 pub returns-in-Err-clause-refused : goal.returns-in-Err-clause-refused
 returns-in-Err-clause-refused c fresh =
-    let puts : Puts c.self.inside.held.waiting c.args.piece.now c.octets.result.now c.put.new.self.waiting c.self.inside.place c.further.result c.self.inside.whole c.len-before.result c.min-taken.result = record {
-      split = c.self.invariant;
-      before = c.len-before.ensures.exact;
-      count = c.min-taken.ensures;
-      put = c.put.ensures;
-      read = c.octets.ensures;
-      place = c.further.ensures;
-    } in
-    put_refused _ _ _ _ _ _ _ _ _ c.self.inside.fault _ c.in-Err.fault puts c.self.view_is c.in-Err.ensures.fault
+    put_refused _ _ _ _ _ _ _ _ _ c.self.inside.fault _ c.in-Err.fault (puts (goal.at.returns-in-Err-clause-refused c).After-further) c.self.view_is c.in-Err.ensures.fault
 
 pub returns-in-Ok-clause-so_far : goal.returns-in-Ok-clause-so_far
 returns-in-Ok-clause-so_far c before given fresh stood =
