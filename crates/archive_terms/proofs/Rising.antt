@@ -53,11 +53,6 @@ rises_to_end from to [] rise = rise
 rises_to_end from to (p ∷ places) rise =
     let h : suc p ≤ to = rises_to_end (suc p) to places rise.1 in let k : from ≤ p = rise.0 in omega arith
 
-rises_further : (from to more : ℕ) (places : List ℕ) → to ≤ more → RisesTo from to places
-    → RisesTo from more places
-rises_further from to more places further rise =
-    subst (RisesTo from more) (append-nil places) (rises-append from to more places [] rise further)
-
 handed_push : (done : List Outcome) (o : Outcome)
     → frame_places (handed_items (done ++ o ∷ [])) ≡ frame_places (handed_items done) ++ frame_places (handed_in o)
 handed_push done o =
@@ -77,32 +72,18 @@ pub Rising-same : (entries : List (ℕ × Entry)) (end : ℕ) (done : List Outco
 Rising-same entries end done o n none r =
     record { mid = r.mid; below = none_handed r.mid done o none r.below; above = r.above }
 
--- a round that hands over the next k entries, whatever heads them
-rising_handed : (entries : List (ℕ × Entry)) (end : ℕ) (done : List Outcome) (o : Outcome) (n k : ℕ)
-    → frame_places (handed_in o) ≡ frame_places (archived_items (take k (drop n entries)))
-    → Rising entries end done n → Rising entries end (done ++ o ∷ []) (n + k)
-rising_handed entries end done o n k frames r =
+-- a round that settles the next k entries, and hands over frames that rise between the same places
+rising_on : (entries : List (ℕ × Entry)) (end : ℕ) (done : List Outcome) (o : Outcome) (n k : ℕ) (r : Rising entries end done n)
+    → ((mid : ℕ) → RisesTo r.mid mid (places_of (take k (drop n entries))) → RisesTo r.mid mid (frame_places (handed_in o)))
+    → Rising entries end (done ++ o ∷ []) (n + k)
+rising_on entries end done o n k r frames =
     let next : (mid : ℕ) × RisesTo r.mid mid (places_of (take k (drop n entries))) × RisesTo mid end (places_of (drop (n + k) entries)) =
     next_rise entries r.mid end n k r.above in
     record {
       mid = next.0;
       below =
-          subst (RisesTo 0 next.0) (sym (handed_push done o ∙ ap (λ xs. frame_places (handed_items done) ++ xs) frames))
-          (rises-append 0 r.mid next.0 (frame_places (handed_items done)) (frame_places (archived_items (take k (drop n entries)))) r.below
-          (frames_rise r.mid next.0 (take k (drop n entries)) next.1));
-      above = next.2;
-    }
-
--- a round that discards the next k entries
-rising_discarded : (entries : List (ℕ × Entry)) (end : ℕ) (done : List Outcome) (o : Outcome) (n k : ℕ)
-    → handed_in o ≡ [] → Rising entries end done n → Rising entries end (done ++ o ∷ []) (n + k)
-rising_discarded entries end done o n k none r =
-    let next : (mid : ℕ) × RisesTo r.mid mid (places_of (take k (drop n entries))) × RisesTo mid end (places_of (drop (n + k) entries)) =
-    next_rise entries r.mid end n k r.above in
-    record {
-      mid = next.0;
-      below =
-          rises_further 0 r.mid next.0 (frame_places (handed_items (done ++ o ∷ []))) (rises_to_end r.mid next.0 (places_of (take k (drop n entries))) next.1) (none_handed r.mid done o none r.below);
+          subst (RisesTo 0 next.0) (sym (handed_push done o))
+          (rises-append 0 r.mid next.0 (frame_places (handed_items done)) (frame_places (handed_in o)) r.below (frames next.0 next.1));
       above = next.2;
     }
 
@@ -110,7 +91,8 @@ rising_stalled : (entries : List (ℕ × Entry)) (end : ℕ) (done : List Outcom
     → Rising entries end done d.settled
     → Rising entries end (done ++ cond discards (discarded items) (kept items) ∷ []) (cond discards (record (released d) { owed = true }) d).settled
 rising_stalled entries end done d items true r =
-    rising_discarded entries end done (discarded items) d.settled d.held refl r
+    rising_on entries end done (discarded items) d.settled d.held r
+    (λ mid rise. rises_to_end r.mid mid (places_of (take d.held (drop d.settled entries))) rise)
 rising_stalled entries end done d items false r = Rising-same entries end done (kept items) d.settled refl r
 
 pub Rising-answered : (t : Terms) (entries : List (ℕ × Entry)) (closed : Bool) (end : ℕ) (answer : Answer) (done : List Outcome) (d : Delivery)
@@ -119,7 +101,8 @@ pub Rising-answered : (t : Terms) (entries : List (ℕ × Entry)) (closed : Bool
 Rising-answered t entries closed end stall done d s r =
     rising_stalled entries end done d (buffer entries d) (is_discardable t.mode d) r
 Rising-answered t entries closed end whole done d s r =
-    rising_handed entries end done (handed (buffer entries d)) d.settled d.held (head_aside t entries closed d s) r
+    rising_on entries end done (handed (buffer entries d)) d.settled d.held r
+    (λ mid rise. subst (RisesTo r.mid mid) (sym (head_aside t entries closed d s)) (frames_rise r.mid mid (take d.held (drop d.settled entries)) rise))
   where
     head_aside : (t : Terms) (entries : List (ℕ × Entry)) (closed : Bool) (d : Delivery)
         → State t entries closed d
