@@ -5,10 +5,11 @@
 // doesn't tell what is pending has no images to speak of, and only its size and its count of faults are
 // claimed. `laws` says what the definition of images means.
 //
-// `MemoryDisk` tells all of its octets. It is a double for tests and scripts: it logs its counted calls,
-// fails at those of a list, stops at one, and leaves what a pick says. A call costs as much as the
-// octets that it moves; a restart costs as much as all that was written since the last one, and so much
-// memory is kept. `FileDisk` is an adapter over a file, and tells nothing of its octets.
+// `MemoryDisk` tells all of its octets. It is a double for tests and scripts: it counts its writes, cuts
+// and syncs, logs those that took effect, fails at those of a list, stops at one, and leaves what a pick
+// says. A call costs as much as the octets that it moves; a restart costs as much as all that was written
+// since the last one, and so much memory is kept. `FileDisk` is an adapter over a file, and tells nothing
+// of its octets.
 #![tactic(auto)]
 
 mod disk;

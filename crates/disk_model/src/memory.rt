@@ -41,9 +41,10 @@ pub struct Stop {
     pub pick: Pick,
 }
 
-/// A disk in memory, which logs its counted calls (`write_at`, `cut` and `sync`), fails at those of a
-/// list, and stops at one. A failing write writes nothing, and a failing sync leaves all as pending.
-/// A disk that stopped fails at each call, until it is restarted.
+/// A disk in memory, which counts its calls of `write_at`, `cut` and `sync`, logs those that took
+/// effect, fails at those of a list, and stops at one. A call that fails takes no effect, but for the
+/// write or cut at which the disk stops, which is left to the pick. A disk that stopped fails at each
+/// call, until it is restarted.
 ///
 /// It is a double for tests and scripts: it keeps all octets that were written since it was made or
 /// restarted, and a restart replays them.
