@@ -63,11 +63,24 @@ pub record DiskState : Type 0 where
   pub faults : ℕ
   pub memory_refused : Bool
 
--- what is pending on it
+-- a disk that was just made: it holds these octets, all synced, and neither fails nor stops
+abbrev pub fresh : List ℕ → DiskState
+fresh octets = record {
+  start = octets;
+  log = [];
+  calls = 0;
+  failing = [];
+  stop = None;
+  stopped = None;
+  faults = 0;
+  memory_refused = false;
+}
+
+-- what is pending on a disk
 abbrev pub pending_of : DiskState → Pending
 pending_of disk = pending_after disk.start disk.log
 
--- what a read of it gives
+-- what a read of a disk gives
 abbrev pub content_of : DiskState → List ℕ
 content_of disk = (pending_of disk).content
 

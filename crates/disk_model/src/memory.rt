@@ -1,9 +1,9 @@
 // A disk in memory, which stops and fails as it is told.
-ghost use Rattle.std.specs.Prelude.{◌≡◌, ◌+◌, ◌≤◌, ◌||◌, ℕ, nat_eq, length, fold, OnOk, OnErr, IfOk, IsErr, IsTrue, MatchOption, is_some, false, None, []};
+ghost use Rattle.std.specs.Prelude.{◌≡◌, ◌+◌, ◌≤◌, ◌||◌, ℕ, nat_eq, length, fold, OnOk, OnErr, IfOk, IsErr, IsTrue, MatchOption, is_some, []};
 ghost use Rattle.std.specs.List.{list_any};
 ghost use Rattle.octet_core.specs.Fault.{FailsOnlyByFault};
 ghost use Rattle.disk_model.specs.Images.{IsImage, overwritten};
-ghost use Rattle.disk_model.specs.Memory.{content_of, pending_of, left_of, left_of_write, counted, with_call, with_fault, with_refusal, with_stop, is_to_fail, stops_now, IsFailedCall, restarted};
+ghost use Rattle.disk_model.specs.Memory.{fresh, content_of, pending_of, left_of, left_of_write, counted, with_call, with_fault, with_refusal, with_stop, is_to_fail, stops_now, IsFailedCall, restarted};
 
 use crate::Disk;
 use octet_core::{Failed, Memory, Octets};
@@ -85,16 +85,7 @@ impl Model for MemoryDisk {
 impl MemoryDisk {
     /// A disk that holds nothing, and neither fails nor stops. It takes no memory.
     pub fn new(alloc: Global) -> MemoryDisk
-        ensures { result ≡ record {
-          start = [];
-          log = [];
-          calls = 0;
-          failing = [];
-          stop = None;
-          stopped = None;
-          faults = 0;
-          memory_refused = false;
-        } }
+        ensures { result ≡ fresh [] }
     {
         MemoryDisk {
             alloc,
@@ -113,16 +104,7 @@ impl MemoryDisk {
 
     /// A disk that holds these octets, all synced, and neither fails nor stops.
     pub fn holding(alloc: Global, octets: &[u8]) -> Result<MemoryDisk, Memory>
-        ensures { IfOk result (λ disk. disk ≡ record {
-          start = octets.now;
-          log = [];
-          calls = 0;
-          failing = [];
-          stop = None;
-          stopped = None;
-          faults = 0;
-          memory_refused = false;
-        }) }
+        ensures { IfOk result (λ disk. disk ≡ fresh octets.now) }
     {
         Ok(MemoryDisk {
             start: Vec::from_slice(alloc, octets)?,
