@@ -41,17 +41,14 @@ module _ (disk : DiskState) (call : Call) where
         was_or_is since was.0 image was.1 was.2 was.3 (grind (arith, one_more, was.2));
   }
 
--- time goes on at a failed call
-pub failed_elapses : (old new : DiskState) (call : Call) → IsFailedCall old call new
+-- time goes on at a call, also at one that failed
+pub call_elapses : {T E : Type 0} → (result : Result T E) (old new : DiskState) (call : Call)
+    → OnOk result (new ≡ with_call (counted old) call) → OnErr result (IsFailedCall old call new)
     → Elapses (length old.log) (length new.log) (IsImageSince old) (IsImageSince new) (Some (pending_of new))
-failed_elapses old new call (inl marked) = rw marked.1 (logged old call)
-failed_elapses old new call (inr (inl told)) = rw told.1 (still old)
-failed_elapses old new call (inr (inr refused)) = rw refused (still old)
-
--- and at a good one
-pub good_elapses : (old new : DiskState) (call : Call) → new ≡ with_call (counted old) call
-    → Elapses (length old.log) (length new.log) (IsImageSince old) (IsImageSince new) (Some (pending_of new))
-good_elapses old new call is = rw is (logged old call)
+call_elapses (Ok value) old new call whole failed = rw whole (logged old call)
+call_elapses (Err error) old new call whole (inl marked) = rw marked.1 (logged old call)
+call_elapses (Err error) old new call whole (inr (inl told)) = rw told.1 (still old)
+call_elapses (Err error) old new call whole (inr (inr refused)) = rw refused (still old)
 
 -- a whole write is a torn one
 whole_is_torn : (content octets : List ℕ) (place : ℕ) → place ≤ length content → IsTorn place (length octets) content (overwritten content place octets)
@@ -62,23 +59,14 @@ whole_is_torn content octets place there = record {
 }
 
 -- what a failed write leaves
-pub failed_write : (old new : DiskState) (place : ℕ) (octets : List ℕ) → place ≤ length (content_of old) → IsFailedCall old (Write place octets) new
-    → FailsToWrite place (length octets) (pending_of old) (pending_of new)
-failed_write old new place octets there (inl marked) =
+pub failed_write : {T E : Type 0} → (result : Result T E) (old new : DiskState) (place : ℕ) (octets : List ℕ) → place ≤ length (content_of old)
+    → OnErr result (IsFailedCall old (Write place octets) new) → OnErr result (FailsToWrite place (length octets) (pending_of old) (pending_of new))
+failed_write (Ok value) old new place octets there failed = failed
+failed_write (Err error) old new place octets there (inl marked) =
     inr (
       overwritten (content_of old) place octets,
       whole_is_torn (content_of old) octets place there,
       ap pending_of marked.1 ∙ pending_more old.start old.log (Write place octets),
     )
-failed_write old new place octets there (inr (inl told)) = inl (ap pending_of told.1)
-failed_write old new place octets there (inr (inr refused)) = inl (ap pending_of refused)
-
--- what follows from the failure follows where the call failed
-pub where_failed : {T E : Type 0} → {P Q : Type 0} (result : Result T E) → OnErr result P → (P → Q) → OnErr result Q
-where_failed (Ok value) failed follows = failed
-where_failed (Err error) failed follows = follows failed
-
--- and what follows from either outcome follows
-pub either_way : {T E : Type 0} → {P Q R : Type 0} (result : Result T E) → OnOk result P → OnErr result Q → (P → R) → (Q → R) → R
-either_way (Ok value) good failed from_good from_failed = from_good good
-either_way (Err error) good failed from_good from_failed = from_failed failed
+failed_write (Err error) old new place octets there (inr (inl told)) = inl (ap pending_of told.1)
+failed_write (Err error) old new place octets there (inr (inr refused)) = inl (ap pending_of refused)
