@@ -22,6 +22,10 @@ module _ (synced image : List ℕ) (a b : ℕ) (ordered : a ≤ b) (there : b �
   unfolding patched
   patched-outside k outside = grind (arith, places)
 
+-- a place lies in a range, or before or behind it
+pub inside_or : (k from upto : ℕ) → ((from ≤ k) × (k < upto)) ⊎ ((k < from) ⊎ (upto ≤ k))
+inside_or k from upto = grind arith
+
 pub before_or_behind : (k place count : ℕ) → is_inside k (place, count) ≡ false → (k < place) ⊎ (place + count ≤ k)
 before_or_behind k place count outside = grind (arith, nat_tests)
 

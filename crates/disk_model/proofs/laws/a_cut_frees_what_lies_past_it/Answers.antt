@@ -1,14 +1,11 @@
 use Rattle.std.proofs.Common.{◌≡◌, ◌⊎◌, inl, inr, ℕ, ◌≤◌, ◌<◌, min, max, List, length, slice_index, false, arith, ◌∙◌, sym}
 use Rattle.disk_model.specs.Images.{Pending, IsImage, IsHeld, with_cut, is_written}
-use Rattle.disk_model.proofs.Patched.{patched, length-patched, patched-inside, patched-outside}
+use Rattle.disk_model.proofs.Patched.{patched, length-patched, patched-inside, patched-outside, inside_or}
 use Rattle.disk_model.proofs.laws.a_cut_frees_what_lies_past_it.Goals as goal
 
 -- the image with the synced octets from the cut to the least length
 abbrev old : Pending → ℕ → List ℕ → List ℕ
 old pending size image = patched pending.synced (min pending.least size) pending.least image
-
-inside_or : (k from upto : ℕ) → ((from ≤ k) × (k < upto)) ⊎ ((k < from) ⊎ (upto ≤ k))
-inside_or k from upto = grind arith
 
 outside_or : (k least size : ℕ) → k < size → (k < min least size) ⊎ (least ≤ k)
 outside_or k least size below = grind arith

@@ -1,7 +1,7 @@
 use Rattle.std.proofs.Common.{◌≡◌, ◌⊎◌, inl, inr, ℕ, ◌+◌, ◌≤◌, ◌<◌, min, List, length, take, slice_index, false, arith, ◌∙◌, sym}
 use Rattle.std.proofs.lemmas.List.{get_or-take, length-take}
 use Rattle.disk_model.specs.Images.{Pending, IsImage, IsHeld, with_range, is_written}
-use Rattle.disk_model.proofs.Patched.{patched, length-patched, patched-inside, patched-outside, before_or_behind, not_inside}
+use Rattle.disk_model.proofs.Patched.{patched, length-patched, patched-inside, patched-outside, inside_or, before_or_behind, not_inside}
 use Rattle.disk_model.proofs.laws.a_write_frees_its_range.Goals as goal
 
 -- the image up to the greatest length before, with the synced octets in the range below the least length
@@ -11,9 +11,6 @@ old pending place count image =
 
 apart : (k place end least : ℕ) → (k < place) ⊎ (end ≤ k) → (k < min place least) ⊎ (min end least ≤ k)
 apart k place end least outside = grind arith
-
-inside_or : (k place count : ℕ) → ((place ≤ k) × (k < place + count)) ⊎ ((k < place) ⊎ (place + count ≤ k))
-inside_or k place count = grind arith
 
 module _ (pending : Pending) (place count : ℕ) (content image : List ℕ) (held : IsHeld pending) (is : IsImage (with_range place count content pending) image) where
   least_there : pending.least ≤ length (take pending.greatest image)
@@ -52,7 +49,7 @@ returns-clause-new c pending place count content image held is =
       record {
         no_shorter = omega (arith, same_length, held.content.no_shorter, held.content.no_longer, is.no_shorter);
         no_longer = omega (arith, same_length);
-        kept = λ k below free. old-kept pending place count content image held is k below free (inside_or k place count);
+        kept = λ k below free. old-kept pending place count content image held is k below free (inside_or k place (place + count));
       },
       record {
         no_shorter = omega (arith, same_length);
