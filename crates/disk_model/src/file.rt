@@ -1,8 +1,8 @@
 // A disk over a file.
-ghost use Rattle.std.specs.Prelude.{◌≡◌, IfOk, IsErr};
+ghost use Rattle.std.specs.Prelude.{◌≡◌, IfOk};
 
 use crate::Disk;
-use octet_core::Failed;
+use octet_core::{Failed, Faults};
 use std::fs::{File, OpenFile};
 use std::io;
 use std::marker::Model;
@@ -16,7 +16,7 @@ use std::os::unix::fs::FileExt;
 pub struct FileDisk {
     file: File,
     size: u64,
-    faults: u64,
+    faults: Faults,
 }
 
 impl Model for FileDisk {
@@ -28,8 +28,6 @@ impl Model for FileDisk {
 }
 
 impl FileDisk {
-    ghost use Rattle.octet_core.specs.Fault.{FailsOnlyByFault, count_up};
-
     /// A disk over a file that is open for reading and writing. It hasn't failed yet.
     pub fn new(file: File) -> io::Result<FileDisk>
         ensures { IfOk result (λ disk. disk.faults ≡ 0) }
@@ -38,18 +36,8 @@ impl FileDisk {
         Ok(FileDisk {
             file,
             size,
-            faults: 0,
+            faults: Faults::new(),
         })
-    }
-
-    // Counts a fault.
-    fn fault(&mut self) -> Result<(), Failed>
-        ensures answer { IsErr result }
-        ensures counted { self.new ≡ record self.old { faults = count_up self.old.faults } }
-        ensures cause { FailsOnlyByFault self.old.faults self.new.faults result }
-    {
-        self.faults = self.faults.saturating_add(1);
-        Err(Failed)
     }
 }
 
@@ -75,21 +63,21 @@ impl Disk for FileDisk {
     fn read_at(&mut self, place: u64, into: &mut [u8]) -> Result<(), Failed> {
         match self.file.read_exact_at(into, place) {
             Ok(()) => Ok(()),
-            Err(_) => self.fault(),
+            Err(_) => self.faults.fail(),
         }
     }
 
     /// Writes until all octets are taken. A file that takes none of a piece is at fault.
     fn write_at(&mut self, place: u64, octets: &[u8]) -> Result<(), Failed> {
         let Some(end) = place.checked_add(octets.len() as u64) else {
-            return self.fault();
+            return self.faults.fail();
         };
         match self.file.write_all_at(octets, place) {
             Ok(()) => {
                 self.size = self.size.max(end);
                 Ok(())
             }
-            Err(_) => self.fault(),
+            Err(_) => self.faults.fail(),
         }
     }
 
@@ -99,7 +87,7 @@ impl Disk for FileDisk {
                 self.size = size;
                 Ok(())
             }
-            Err(_) => self.fault(),
+            Err(_) => self.faults.fail(),
         }
     }
 
@@ -107,7 +95,7 @@ impl Disk for FileDisk {
     fn sync(&mut self) -> Result<(), Failed> {
         match self.file.sync_all() {
             Ok(()) => Ok(()),
-            Err(_) => self.fault(),
+            Err(_) => self.faults.fail(),
         }
     }
 
@@ -159,7 +147,7 @@ mod tests {
         assert_eq!(rt; octets, *b"xyz");
         // A file that is open for reading alone can't be cut.
         assert_eq!(rt; reopened.cut(1), Err(Failed));
-        assert_eq!(rt; reopened.faults, 1);
+        assert_eq!(rt; reopened.faults.count(), 1);
         Ok(())
     }
 }

@@ -6,7 +6,7 @@ ghost use Rattle.disk_model.specs.Images.{IsImage, overwritten};
 ghost use Rattle.disk_model.specs.Memory.{fresh, content_of, pending_of, left_of, left_of_write, counted, with_call, with_fault, with_refusal, with_stop, is_to_fail, stops_now, IsFailedCall, restarted};
 
 use crate::Disk;
-use octet_core::{Failed, Memory, Octets};
+use octet_core::{Failed, Faults, Memory, Octets};
 use std::alloc::Global;
 use std::marker::Model;
 
@@ -59,7 +59,7 @@ pub struct MemoryDisk {
     failing: Vec<u64>,
     stop: Option<Stop>,
     stopped: Option<Pick>,
-    faults: u64,
+    faults: Faults,
     memory_refused: bool,
 }
 
@@ -97,7 +97,7 @@ impl MemoryDisk {
             failing: Vec::new(alloc),
             stop: None,
             stopped: None,
-            faults: 0,
+            faults: Faults::new(),
             memory_refused: false,
         }
     }
@@ -131,7 +131,7 @@ impl MemoryDisk {
     pub fn faults(&self) -> u64
         ensures { result ≡ self.now.faults }
     {
-        self.faults
+        self.faults.count()
     }
 
     /// Whether memory was refused to a call.
@@ -202,13 +202,13 @@ impl MemoryDisk {
         let stops = self.count();
         let left_to_pick = stops && !matches!(call, Call::Sync);
         if self.is_failing() && !left_to_pick {
-            return self.fault();
+            return self.faults.fail();
         }
         if self.perform(call).is_err() {
             return self.refuse();
         }
         if left_to_pick {
-            return self.fault();
+            return self.faults.fail();
         }
         Ok(())
     }
@@ -261,16 +261,6 @@ impl MemoryDisk {
         }
     }
 
-    // Counts a fault.
-    fn fault(&mut self) -> Result<(), Failed>
-        ensures answer { IsErr result }
-        ensures counted { self.new ≡ with_fault self.old }
-        ensures cause { FailsOnlyByFault self.old.faults self.new.faults result }
-    {
-        self.faults = self.faults.saturating_add(1);
-        Err(Failed)
-    }
-
     // Counts a fault for want of memory.
     fn refuse(&mut self) -> Result<(), Failed>
         ensures answer { IsErr result }
@@ -278,7 +268,7 @@ impl MemoryDisk {
         ensures cause { FailsOnlyByFault self.old.faults self.new.faults result }
     {
         self.memory_refused = true;
-        self.fault()
+        self.faults.fail()
     }
 }
 
@@ -379,7 +369,7 @@ impl Disk for MemoryDisk {
         ensures failed { OnErr result (self.new ≡ with_fault self.old) }
     {
         if self.stopped.is_some() {
-            return self.fault();
+            return self.faults.fail();
         }
         let place = place as usize;
         into.copy_from_slice(&self.content[place..place + into.len()]);

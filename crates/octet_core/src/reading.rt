@@ -3,7 +3,7 @@ ghost use Rattle.std.specs.Prelude.{◌≡◌, List, ℕ, Option, length, IfOk, 
 ghost use Rattle.octet_core.specs.Fault.{FailsOnlyByFault};
 ghost use Rattle.octet_core.specs.Taken.{Gives};
 
-use crate::{Failed, Octets};
+use crate::{Failed, Faults, Octets};
 use std::io::Read;
 use std::marker::Model;
 
@@ -30,7 +30,7 @@ pub struct MemorySource {
     taken: usize,
     calls: u64,
     failing: Vec<u64>,
-    faults: u64,
+    faults: Faults,
 }
 
 impl Model for MemorySource {
@@ -59,7 +59,7 @@ impl MemorySource {
             taken: 0,
             calls: 0,
             failing,
-            faults: 0,
+            faults: Faults::new(),
         }
     }
 
@@ -74,7 +74,7 @@ impl MemorySource {
     pub fn faults(&self) -> u64
         ensures { result ≡ self.now.faults }
     {
-        self.faults
+        self.faults.count()
     }
 }
 
@@ -100,8 +100,7 @@ impl Source for MemorySource {
     {
         self.calls = self.calls.saturating_add(1);
         if self.failing.contains(&self.calls) {
-            self.faults = self.faults.saturating_add(1);
-            return Err(Failed);
+            return self.faults.fail();
         }
         let left = &self.octets.as_slice()[self.taken..];
         let count = left.len().min(into.len());
@@ -117,7 +116,7 @@ impl Source for MemorySource {
 #[derive(Debug, Drop)]
 pub struct ReaderSource<R> {
     reader: R,
-    faults: u64,
+    faults: Faults,
 }
 
 impl<R> Model for ReaderSource<R> {
@@ -131,7 +130,10 @@ impl<R: Read> ReaderSource<R> {
     pub fn new(reader: R) -> ReaderSource<R>
         ensures { result ≡ 0 }
     {
-        ReaderSource { reader, faults: 0 }
+        ReaderSource {
+            reader,
+            faults: Faults::new(),
+        }
     }
 }
 
@@ -145,10 +147,7 @@ impl<R: Read> Source for ReaderSource<R> {
     fn take(&mut self, into: &mut [u8]) -> Result<usize, Failed> {
         match self.reader.read(into) {
             Ok(count) => Ok(count),
-            Err(_) => {
-                self.faults = self.faults.saturating_add(1);
-                Err(Failed)
-            }
+            Err(_) => self.faults.fail(),
         }
     }
 }
@@ -207,7 +206,7 @@ mod tests {
         let mut source = ReaderSource::new(Breaking { calls: 0 });
         assert_eq!(rt; take_three(&mut source), (Ok(1), *b"x.."));
         assert_eq!(rt; take_three(&mut source).0, Err(Failed));
-        assert_eq!(rt; source.faults, 1);
+        assert_eq!(rt; source.faults.count(), 1);
         assert_eq!(rt; take_three(&mut source).0, Ok(0));
     }
 }

@@ -3,7 +3,7 @@ ghost use Rattle.std.specs.Prelude.{◌≡◌, List, ℕ, Option, IsErr, OnOk, O
 ghost use Rattle.octet_core.specs.Fault.{FailsOnlyByFault};
 ghost use Rattle.octet_core.specs.Written.{Gains, GainsFront};
 
-use crate::{Failed, Octets};
+use crate::{Failed, Faults, Octets};
 use std::alloc::Global;
 use std::io::Write;
 use std::marker::Model;
@@ -30,7 +30,7 @@ pub struct MemorySink {
     written: Octets,
     calls: u64,
     failing: Vec<u64>,
-    faults: u64,
+    faults: Faults,
     memory_refused: bool,
 }
 
@@ -50,7 +50,7 @@ impl Model for MemorySink {
 
 impl MemorySink {
     ghost use Rattle.std.specs.Prelude.{[], false};
-    ghost use Rattle.octet_core.specs.Doubles.{with_written, with_refusal, with_fault};
+    ghost use Rattle.octet_core.specs.Doubles.{with_written, with_refusal};
 
     /// A sink that holds nothing yet, and fails at these calls, counted from 1.
     pub fn new(alloc: Global, failing: Vec<u64>) -> MemorySink
@@ -66,7 +66,7 @@ impl MemorySink {
             written: Octets::new(alloc),
             calls: 0,
             failing,
-            faults: 0,
+            faults: Faults::new(),
             memory_refused: false,
         }
     }
@@ -82,7 +82,7 @@ impl MemorySink {
     pub fn faults(&self) -> u64
         ensures { result ≡ self.now.faults }
     {
-        self.faults
+        self.faults.count()
     }
 
     /// Whether a call failed since memory was refused to it.
@@ -100,19 +100,9 @@ impl MemorySink {
     {
         if self.written.append(octets).is_err() {
             self.memory_refused = true;
-            return self.fault();
+            return self.faults.fail();
         }
         Ok(())
-    }
-
-    // Counts a fault of the call.
-    fn fault(&mut self) -> Result<(), Failed>
-        ensures answer { IsErr result }
-        ensures counted { self.new ≡ with_fault self.old }
-        ensures cause { FailsOnlyByFault self.old.faults self.new.faults result }
-    {
-        self.faults = self.faults.saturating_add(1);
-        Err(Failed)
     }
 }
 
@@ -137,7 +127,7 @@ impl Sink for MemorySink {
         self.calls = self.calls.saturating_add(1);
         if self.failing.contains(&self.calls) {
             self.write(&octets[..octets.len() / 2])?;
-            return self.fault();
+            return self.faults.fail();
         }
         self.write(octets)
     }
@@ -149,7 +139,7 @@ impl Sink for MemorySink {
 #[derive(Debug, Drop)]
 pub struct WriterSink<W> {
     writer: W,
-    faults: u64,
+    faults: Faults,
 }
 
 impl<W> Model for WriterSink<W> {
@@ -163,7 +153,10 @@ impl<W: Write> WriterSink<W> {
     pub fn new(writer: W) -> WriterSink<W>
         ensures { result ≡ 0 }
     {
-        WriterSink { writer, faults: 0 }
+        WriterSink {
+            writer,
+            faults: Faults::new(),
+        }
     }
 }
 
@@ -178,10 +171,7 @@ impl<W: Write> Sink for WriterSink<W> {
     fn put_all(&mut self, octets: &[u8]) -> Result<(), Failed> {
         match self.writer.write_all(octets) {
             Ok(()) => Ok(()),
-            Err(_) => {
-                self.faults = self.faults.saturating_add(1);
-                Err(Failed)
-            }
+            Err(_) => self.faults.fail(),
         }
     }
 }
@@ -244,6 +234,6 @@ mod tests {
         assert_eq!(rt; put(&mut sink, b""), Ok(()));
         assert_eq!(rt; put(&mut sink, b"fgh"), Err(Failed));
         assert_eq!(rt; sink.writer.taken.as_slice(), b"abcdefg".as_slice());
-        assert_eq!(rt; sink.faults, 1);
+        assert_eq!(rt; sink.faults.count(), 1);
     }
 }
