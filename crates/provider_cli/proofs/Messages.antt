@@ -2,17 +2,18 @@
 use Rattle.std.proofs.Common.{◌≡◌, ℕ, ◌+◌, List, [], ◌∷◌, ◌++◌, length, sym, ap, subst, ◌∙◌, append_assoc, length-append, append-nil}
 use Rattle.ber_core.specs.Tree.{Tree}
 use Rattle.ber_core.specs.Spelling.{canonical}
+use Rattle.isp1_tml.specs.Message.{header}
 use Rattle.return_pdu.specs.Items.{transfer_buffer, buffer_start, items_spelled, BufferIsHeadAndItems}
-use Rattle.provider_cli.specs.Transcript.{message_head, message}
+use Rattle.provider_cli.specs.Transcript.{message}
 
 -- the octets of a message whose items have so many octets
 abbrev pub written : ℕ → List ℕ → List ℕ
-written content items = (message_head (length (buffer_start content) + content) ++ buffer_start content) ++ items
+written content items = (header 1 (length (buffer_start content) + content) ++ buffer_start content) ++ items
 
 pub written-items : BufferIsHeadAndItems → (items : List Tree) → written (length (items_spelled items)) (items_spelled items) ≡ message (canonical (transfer_buffer items))
 written-items law items =
     rw (law items, length-append (buffer_start (length (items_spelled items))) (items_spelled items))
-    (append_assoc (message_head (length (buffer_start (length (items_spelled items))) + length (items_spelled items))) (buffer_start (length (items_spelled items))) (items_spelled items))
+    (append_assoc (header 1 (length (buffer_start (length (items_spelled items))) + length (items_spelled items))) (buffer_start (length (items_spelled items))) (items_spelled items))
 
 spelled_one : (item : Tree) → items_spelled (item ∷ []) ≡ canonical item
 spelled_one item = append-nil (canonical item)

@@ -1,15 +1,15 @@
 -- What a drill writes: the transcript of its script. The lines' forms are this product's own.
-use Rattle.std.specs.Prelude.{ℕ, ◌+◌, Bool, nat_lt, if◌then◌else◌, Option, Some, None, List, [], ◌∷◌, ◌++◌, map, length, codes, slice_get, false}
+use Rattle.std.specs.Prelude.{ℕ, ◌+◌, Bool, nat_lt, if◌then◌else◌, Option, Some, None, List, [], ◌∷◌, ◌++◌, map, codes, slice_get, false}
 use Rattle.std.specs.List.{list_all}
 use Rattle.std.specs.Option.{option_map_or, is_some}
-use Rattle.std.specs.Int.{w32, to_be_bytes}
 use Rattle.std.specs.Fmt.{decimal}
 use Rattle.hex.specs.Hex.{encode_lower}
 use Rattle.cds_time.specs.declared.moment.Cds.{Cds}
 use Rattle.ber_core.specs.Tree.{Tree}
 use Rattle.ber_core.specs.Spelling.{canonical}
+use Rattle.isp1_tml.specs.Message.{spelling, pdu}
 use Rattle.return_pdu.specs.Items.{frame_of, absent, transfer_buffer}
-use Rattle.return_pdu.specs.Items as pdu
+use Rattle.return_pdu.specs.Items as items
 use Rattle.archive_terms.specs.Archive.{may_follow, is_closed}
 use Rattle.archive_terms.specs.Selection.{Selection, by_quality, picked}
 use Rattle.archive_terms.specs.Delivery.{Item, archived, backlog, end_of_data, offline_buffers}
@@ -21,12 +21,9 @@ use Rattle.provider_cli.specs.declared.grammar.ScriptLine.TheVariants.{Offer, De
 use Rattle.provider_cli.specs.Held.{moment, entry_of, archive_of}
 use Rattle.provider_cli.specs.Grammar.{line_of}
 
--- a PDU as a transport message (CCSDS 913.1-B): kind 1, three octets 0, the length, the PDU
-abbrev pub message_head : ℕ → List ℕ
-message_head length = 1 ∷ 0 ∷ 0 ∷ 0 ∷ to_be_bytes w32 length
-
+-- a PDU as a message of the transport
 abbrev pub message : List ℕ → List ℕ
-message pdu = message_head (length pdu) ++ pdu
+message octets = spelling (pdu octets)
 
 -- connection 0 was handed a message, in lower-case hexadecimal digits
 abbrev pub sent_line : List ℕ → List ℕ
@@ -34,18 +31,18 @@ sent_line octets = codes "sent 0 " ++ encode_lower octets ++ 10 ∷ []
 
 -- a transfer buffer of these items, handed over
 abbrev pub sent_buffer : List Tree → List ℕ
-sent_buffer items = sent_line (message (canonical (transfer_buffer items)))
+sent_buffer members = sent_line (message (canonical (transfer_buffer members)))
 
 -- a frame with its fields as it was received, and its continuity
 abbrev pub frame_tree : List Entry → Option ℕ → ℕ → Option Entry → Tree
 frame_tree entries before place (Some (Frame ert quality antenna lost octets)) =
-    pdu.frame (frame_of ert antenna (continuity (archive_of entries) before place) quality octets)
+    items.frame (frame_of ert antenna (continuity (archive_of entries) before place) quality octets)
 frame_tree entries before place _ = absent
 
 -- an item of a buffer, with the place of the last frame before it; an offline delivery has frames and the end of data
 abbrev pub item_tree : List Entry → Option ℕ × Item → Tree
 item_tree entries (before, archived place _) = frame_tree entries before place (slice_get entries place)
-item_tree entries (before, end_of_data) = pdu.end_of_data
+item_tree entries (before, end_of_data) = items.end_of_data
 item_tree entries (before, backlog) = absent
 
 -- buffers handed over one after another, behind a frame that was handed over last

@@ -5,18 +5,20 @@ ghost use Rattle.std.specs.Prelude.{◌≡◌, ◌+◌, ◌<◌, ◌≤◌, ◌^
 ghost use Rattle.std.specs.Option.{ForSome};
 ghost use Rattle.archive_terms.specs.Archive.{is_storable};
 ghost use Rattle.ber_core.specs.Spelling.{canonical};
+ghost use Rattle.isp1_tml.specs.Message.{header};
 ghost use Rattle.return_pdu.specs.Items.{frame, end_of_data, buffer_start};
 ghost use Rattle.return_pdu.specs.Fields.{IsFrame};
 ghost use Rattle.provider_cli.specs.Held.{entry_of};
 ghost use Rattle.provider_cli.specs.Output.{Wrote};
 ghost use Rattle.provider_cli.specs.Desk.{wants, gap_after, picked_of, frame_in};
-ghost use Rattle.provider_cli.specs.Transcript.{message_head, sent_buffer, start_buffers};
+ghost use Rattle.provider_cli.specs.Transcript.{sent_buffer, start_buffers};
 
 use crate::archive::Archive;
 use crate::entry::{Entry, moment};
 use crate::transcript::{Stop, put_sent};
 use ber_core::Writer;
 use cds_time::Cds;
+use isp1_tml::head;
 use octet_core::Sink;
 use return_pdu::laws::buffer_is_head_and_items;
 use return_pdu::{buffer_head, buffer_length, raf_end_of_data, raf_frame, raf_frame_length};
@@ -24,6 +26,9 @@ use std::alloc::Global;
 
 /// The most that a continuity tells.
 const MOST_LOST: u32 = 16_777_215;
+
+// The kind of a transport message that is a PDU.
+const PDU: u8 = 1;
 
 // Which frames a START asks for.
 #[derive(Clone, Copy, Debug, PartialEq, Eq)]
@@ -126,7 +131,7 @@ impl Gap {
     }
 }
 
-/// Answers a START of the desk: in rounds, until one hands nothing over.
+/// Answers a START of the desk: hands its buffers over, in one pass over the archive.
 pub fn answer_start<O: Sink>(
     alloc: Global,
     archive: &Archive,
@@ -211,17 +216,16 @@ fn send_end<O: Sink>(alloc: Global, output: &mut O) -> Result<(), Stop>
 // The head of a transport message (CCSDS 913.1-B) and of the transfer buffer in it.
 fn begin_message(alloc: Global, content: usize) -> Result<Writer, Stop>
     requires { content < 2 ^ 31 }
-    ensures octets { IfOk result (λ writer. writer.octets ≡ message_head (length (buffer_start content) + content) ++ buffer_start content) }
+    ensures octets { IfOk result (λ writer. writer.octets ≡ header 1 (length (buffer_start content) + content) ++ buffer_start content) }
     ensures room { IfOk result (λ writer. writer.room ≡ content) }
     ensures small { length (buffer_start content) ≤ 10 }
     ensures memory { IfErr result (λ stop. stop ≡ Stop.Memory) }
 {
     let length = buffer_length(content);
-    let [l0, l1, l2, l3] = (length as u32).to_be_bytes();
     let Ok(mut writer) = Writer::new(alloc, 8 + length) else {
         return Err(Stop::Memory);
     };
-    writer.raw(&[1, 0, 0, 0, l0, l1, l2, l3]);
+    writer.raw(&head(PDU, length as u32));
     buffer_head(content, &mut writer);
     Ok(writer)
 }

@@ -16,6 +16,7 @@ use crate::entry::{Entry, moment};
 use archive_terms::laws::{frames_fill_by_number, picked_frames};
 use ber_core::Writer;
 use cds_time::Cds;
+use isp1_tml::head;
 use return_pdu::laws::buffer_is_head_and_items;
 use return_pdu::{buffer_head, buffer_length, raf_end_of_data, raf_frame, raf_frame_length};
 use std::alloc::{AllocError, Global};
@@ -283,9 +284,8 @@ fn message(alloc: Global, items: &[u8]) -> Result<Writer, AllocError>
     ensures { IfOk result (λ writer. writer.octets ≡ message (buffer_start (length items.now) ++ items.now)) }
 {
     let length = buffer_length(items.len());
-    let [l0, l1, l2, l3] = (length as u32).to_be_bytes();
     let mut writer = writer(alloc, 8 + length)?;
-    writer.raw(&[1, 0, 0, 0, l0, l1, l2, l3]);
+    writer.raw(&head(1, length as u32));
     buffer_head(items.len(), &mut writer);
     writer.raw(items);
     Ok(writer)
