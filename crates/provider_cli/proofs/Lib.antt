@@ -9,4 +9,5 @@ pub mod Steps
 pub mod PlainText
 pub mod FirstLines
 pub mod Outcomes
+pub mod Around
 pub mod Promises

@@ -1,8 +1,9 @@
 -- From the exact transcript to the headline and to completeness.
-use Rattle.std.proofs.Common.{◌≡◌, ℕ, Bool, true, false, ◌&&◌, IsTrue, IsFalse, if◌then◌else◌, List, [], ◌∷◌, ◌++◌, length, take, Option, Some, None, refl, sym, ap, ◌∙◌, append_assoc, arith, inl, inr}
+use Rattle.std.proofs.Common.{subst, ◌≡◌, ℕ, Bool, true, false, ◌&&◌, IsTrue, IsFalse, if◌then◌else◌, List, [], ◌∷◌, ◌++◌, length, take, Option, Some, None, refl, sym, ap, ◌∙◌, append_assoc, arith, inl, inr}
 use Rattle.std.proofs.lemmas.List.{append-nil}
 use Rattle.std.specs.List.{list_any, flat_map}
 use Rattle.std.specs.Option.{option_map_or, IfSome}
+use Rattle.octet_core.specs.Written.{Gains, GainsFront}
 use Rattle.archive_terms.specs.Archive as terms
 use Rattle.archive_terms.specs.Archive.{is_archive, IsArchive, may_follow, is_closed}
 use Rattle.archive_terms.specs.Selection.{picked}
@@ -16,10 +17,11 @@ use Rattle.provider_cli.specs.declared.status.Status.{Status}
 use Rattle.provider_cli.specs.declared.status.Status.TheVariants.{Done, Usage, BadLine, ReadFault, WriteFault, InputTooLong, Memory}
 use Rattle.provider_cli.specs.Grammar.{line_of, lines_of}
 use Rattle.provider_cli.specs.Held.{moment, entry_of, archive_of}
-use Rattle.provider_cli.specs.Transcript.{selection, after_line, is_script}
-use Rattle.provider_cli.specs.Script.{Drilled}
-use Rattle.provider_cli.specs.Headline.{archive_after, IsRightFor, Headline, Completes}
+use Rattle.provider_cli.specs.Transcript.{selection, after_line, desk_buffers, transcript, is_script}
+use Rattle.provider_cli.specs.Script.{script_transcript, Drilled}
+use Rattle.provider_cli.specs.Headline.{archive_after, items_in, IsRightFor, HasWritten, Headline, Completes}
 use Rattle.provider_cli.proofs.Floors.{archive-push}
+use Rattle.provider_cli.proofs.Around.{transcript_around, front_of_front, few_begin}
 
 -- the laws of archives and deliveries that the headline rests on
 pub record Laws : Type 0 where
@@ -67,25 +69,46 @@ extends_lines laws entries (line ∷ lines) archive =
     let first = extends_option laws entries (line_of line) archive in
     joined entries (option_map_or (after_line entries) (line_of line) entries) (archive_after entries (line ∷ lines)) first (extends_lines laws (option_map_or (after_line entries) (line_of line) entries) lines first.archive)
 
--- what a START handed over stays right
-right_for : Laws → (archive more : List terms.Entry) (start stop : Cds) (quality : ℕ) → IsArchive (archive ++ more) →
-    IsRightFor (flat_map (λ buffer. buffer) (offline_buffers 2 (picked archive (selection start stop quality)) (is_closed archive (moment stop)))) (archive ++ more) start stop quality
-right_for laws archive more start stop quality longer =
-    let items : List Item = flat_map (λ buffer. buffer) (offline_buffers 2 (picked archive (selection start stop quality)) (is_closed archive (moment stop))) in
-    let now : take (length items) (all_items (picked (archive ++ more) (selection start stop quality)) (is_closed (archive ++ more) (moment stop))) ≡ items =
-    laws.stays (record { mode = offline; size = 2; latency = 0; selection = selection start stop quality }) archive more items longer
-    (laws.holds 2 (picked archive (selection start stop quality)) (is_closed archive (moment stop))) in
+-- what begins the items of an archive begins those of a longer one, and is right for it
+right_for : Laws → (archive more : List terms.Entry) (start stop : Cds) (quality few : ℕ) → IsArchive (archive ++ more) →
+    IsRightFor (items_in (take few (offline_buffers 2 (picked archive (selection start stop quality)) (is_closed archive (moment stop))))) (archive ++ more) start stop quality
+right_for laws archive more start stop quality few longer =
+    let entries : List (ℕ × terms.Entry) = picked archive (selection start stop quality) in
+    let buffers : List (List Item) = offline_buffers 2 entries (is_closed archive (moment stop)) in
+    let now : take (length (items_in (take few buffers))) (all_items (picked (archive ++ more) (selection start stop quality)) (is_closed (archive ++ more) (moment stop))) ≡ items_in (take few buffers) =
+    laws.stays (record { mode = offline; size = 2; latency = 0; selection = selection start stop quality }) archive more (items_in (take few buffers)) longer
+    (front_of_front (items_in (take few buffers)) (items_in buffers) (all_items entries (is_closed archive (moment stop))) (few_begin few buffers) (laws.holds 2 entries (is_closed archive (moment stop)))) in
     record {
-      frames = laws.begins _ _ items now;
-      end_of_data = laws.ends _ _ items now;
+      frames = laws.begins _ _ (items_in (take few buffers)) now;
+      end_of_data = laws.ends _ _ (items_in (take few buffers)) now;
     }
 
-pub headline_of : Laws → (lines : List (List ℕ)) → Headline lines
-headline_of laws lines before later line start stop quality _ _ =
-    let archived : List Entry = archive_after [] before in
-    let first = extends_lines laws [] before refl in
-    let second = extends_lines laws archived later first.archive in
-    rw second.appended (right_for laws (archive_of archived) second.more start stop quality (rw (← second.appended) second.archive))
+stays_right : Laws → (archived : List Entry) (later : List (List ℕ)) (start stop : Cds) (quality few : ℕ) → IsArchive (archive_of archived)
+    → IsRightFor (items_in (take few (desk_buffers archived start stop quality))) (archive_of (archive_after archived later)) start stop quality
+stays_right laws archived later start stop quality few archive =
+    let longer = extends_lines laws archived later archive in
+    rw longer.appended (right_for laws (archive_of archived) longer.more start stop quality few (rw (← longer.appended) longer.archive))
+
+-- the exact transcript, as the text that each status has written
+written_as : (script : List ℕ) (r s : ℕ) (before after : Option (List ℕ)) (f g : ℕ) (status : Status) (text : List ℕ) → script_transcript script ≡ text
+    → Drilled (Some script) r s before after f g status → HasWritten status before after text
+written_as script r s before after f g Done text is drilled = subst (Gains before after) is ((drilled.done refl).0)
+written_as script r s before after f g BadLine text is drilled = subst (Gains before after) is ((drilled.bad_line refl).0)
+written_as script r s before after f g WriteFault text is drilled = subst (GainsFront before after) is ((drilled.write_fault refl).1)
+written_as script r s before after f g Memory text is drilled = subst (GainsFront before after) is (drilled.memory refl)
+written_as script r s before after f g Usage text is drilled = tt
+written_as script r s before after f g ReadFault text is drilled = tt
+written_as script r s before after f g InputTooLong text is drilled = tt
+
+pub headline_of : Laws → (input : Option (List ℕ)) (r s : ℕ) (before after : Option (List ℕ)) (f g : ℕ) (status : Status) → Drilled input r s before after f g status
+    → IfSome input (λ script. Headline status before after (lines_of script))
+headline_of laws None r s before after f g status drilled = tt
+headline_of laws (Some script) r s before after f g status drilled = λ earlier later line start stop quality are good says ordered.
+    let archive = (extends_lines laws [] earlier refl).archive in
+    record {
+      messages = written_as script r s before after f g status _ (ap transcript are ∙ transcript_around earlier later line start stop quality good says ordered) drilled;
+      right = λ few some. stays_right laws (archive_after [] earlier) (take some later) start stop quality few archive;
+    }
 
 -- a good script is done, or memory is wanted
 contradicts : (script : List ℕ) → IsTrue (is_script (lines_of script)) → IsFalse (is_script (lines_of script)) → ⊥
@@ -100,7 +123,3 @@ complete_of (Some script) r s before after f g ReadFault drilled = λ _ _ calm _
 complete_of (Some script) r s before after f g WriteFault drilled = λ _ _ _ calm. absurd (calm ((drilled.write_fault refl).0))
 complete_of (Some script) r s before after f g InputTooLong drilled = λ short _ _ _. let long = (drilled.too_long refl).0 in absurd (omega (arith, short, long))
 complete_of (Some script) r s before after f g Memory drilled = λ _ _ _ _. inr refl
-
-pub headline_if : Laws → (input : Option (List ℕ)) → IfSome input (λ script. Headline (lines_of script))
-headline_if laws None = tt
-headline_if laws (Some script) = headline_of laws (lines_of script)

@@ -1,5 +1,5 @@
 -- Texts that are written one after another.
-use Rattle.std.proofs.Common.{◌≡◌, ℕ, ◌≤◌, List, [], ◌++◌, length, Option, Some, None, Result, Ok, Err, sym, ap, ◌∙◌, refl, append_assoc, length-append, length-take, arith, inl, inr}
+use Rattle.std.proofs.Common.{◌≡◌, ℕ, ◌≤◌, List, [], ◌++◌, length, take, Option, Some, None, Result, Ok, Err, sym, ap, ◌∙◌, refl, append_assoc, length-append, length-take, arith, inl, inr}
 use Rattle.std.proofs.lemmas.List.{append-nil, take-append-le}
 use Rattle.std.proofs.Math.Seq.{take-append_seam}
 use Rattle.std.specs.Option.{option_map, MatchOption, IsSomeAnd}
@@ -21,7 +21,7 @@ rose_since : (f g h : ℕ) → f ≤ g → Rose g h → Rose f h
 rose_since f g h le (inl less) = inl (omega arith)
 rose_since f g h le (inr last) = inr last
 
-front_le : (front whole : List ℕ) → IsFront front whole → length front ≤ length whole
+pub front_le : {X : Type 0} (front whole : List X) → take (length front) whole ≡ front → length front ≤ length whole
 front_le front whole is = omega (arith, simp length-take at (ap length is))
 
 -- what begins a text begins the whole that starts with it

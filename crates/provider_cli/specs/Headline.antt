@@ -1,8 +1,9 @@
 -- What a drill promises of its STARTs and of good scripts, beyond its transcript.
-use Rattle.std.specs.Prelude.{◌≡◌, ◌⊎◌, ℕ, ◌≤◌, IsTrue, IfSome, Option, Some, List, [], ◌∷◌, ◌++◌, length, take}
+use Rattle.std.specs.Prelude.{◌≡◌, ◌⊎◌, ℕ, ◌+◌, ◌≤◌, IsTrue, IfSome, Option, Some, None, List, [], ◌∷◌, ◌++◌, length, take}
 use Rattle.std.specs.List.{list_any, flat_map}
 use Rattle.std.specs.Option.{option_map_or}
 use Rattle.octet_core.specs.Fault.{Rose}
+use Rattle.octet_core.specs.Written.{Gains, GainsFront}
 use Rattle.archive_terms.specs.Archive as terms
 use Rattle.archive_terms.specs.Archive.{is_closed}
 use Rattle.archive_terms.specs.Selection.{picked}
@@ -11,10 +12,10 @@ use Rattle.cds_time.specs.declared.moment.Cds.{Cds}
 use Rattle.provider_cli.specs.declared.entry.Entry.{Entry}
 use Rattle.provider_cli.specs.declared.grammar.ScriptLine.TheVariants.{Desk}
 use Rattle.provider_cli.specs.declared.status.Status.{Status}
-use Rattle.provider_cli.specs.declared.status.Status.TheVariants.{Done, Memory}
+use Rattle.provider_cli.specs.declared.status.Status.TheVariants.{Done, BadLine, WriteFault, Memory}
 use Rattle.provider_cli.specs.Grammar.{line_of, lines_of}
 use Rattle.provider_cli.specs.Held.{moment, archive_of}
-use Rattle.provider_cli.specs.Transcript.{selection, after_line, desk_buffers, is_script}
+use Rattle.provider_cli.specs.Transcript.{selection, after_line, desk_buffers, sent_buffers, transcript, transcript_from, is_script}
 use Rattle.provider_cli.specs.Command.{code}
 use Rattle.provider_cli.specs.Script.{most_octets, Drilled}
 
@@ -23,9 +24,9 @@ abbrev pub archive_after : List Entry → List (List ℕ) → List Entry
 archive_after entries [] = entries
 archive_after entries (line ∷ lines) = archive_after (option_map_or (after_line entries) (line_of line) entries) lines
 
--- the items of the buffers that a START of the desk hands over, one after another
-abbrev pub handed : List Entry → Cds → Cds → ℕ → List Item
-handed entries start stop quality = flat_map (λ buffer. buffer) (desk_buffers entries start stop quality)
+-- the items of buffers, one after another
+abbrev pub items_in : List (List Item) → List Item
+items_in buffers = flat_map (λ buffer. buffer) buffers
 
 -- What a START handed over is right for an archive: its frames are, in order and each once, those that begin the frames
 -- which the selection picks of the archive, and end of data stands only behind all of them, and only where the stop is closed.
@@ -34,14 +35,29 @@ pub record IsRightFor (items : List Item) (archive : List terms.Entry) (start st
   pub end_of_data : IsTrue (list_any is_end_of_data items) → IsTrue (is_closed archive (moment stop))
       × (items ≡ archived_items (picked archive (selection start stop quality)) ++ end_of_data ∷ [])
 
--- For each START of a script: what it hands over is right for the archive at its line, and after each later line.
-abbrev pub Headline : List (List ℕ) → Type 0
-Headline lines =
-    (before later : List (List ℕ)) (line : List ℕ) (start stop : Cds) (quality : ℕ)
-    → take (length (before ++ line ∷ later)) lines ≡ before ++ line ∷ later
-    → line_of line ≡ Some (Desk start stop quality)
-    → let archived = archive_after [] before in
-    IsRightFor (handed archived start stop quality) (archive_of (archive_after archived later)) start stop quality
+-- What a drill that ended so has written: the text, or with 7 and 70 what begins it. With another status it ran no line.
+abbrev pub HasWritten : Status → Option (List ℕ) → Option (List ℕ) → List ℕ → Type 0
+HasWritten Done before after text = Gains before after text
+HasWritten BadLine before after text = Gains before after text
+HasWritten WriteFault before after text = GainsFront before after text
+HasWritten Memory before after text = GainsFront before after text
+HasWritten status before after text = Unit {0}
+
+-- How a drill answered a START, with these entries archived before it: behind the text of the earlier lines, and before that of
+-- the later ones, stand the messages of its buffers; and what any first few of these hold is right for the archive at that
+-- line, and after any first few of the later lines.
+pub record IsAnswered (status : Status) (before after : Option (List ℕ)) (earlier later : List (List ℕ)) (archived : List Entry) (start stop : Cds) (quality : ℕ) : Type 0 where
+  pub messages : HasWritten status before after
+      (transcript earlier ++ sent_buffers archived None (desk_buffers archived start stop quality) ++ transcript_from (length earlier + 2) archived later)
+  pub right : (few some : ℕ)
+      → IsRightFor (items_in (take few (desk_buffers archived start stop quality))) (archive_of (archive_after archived (take some later))) start stop quality
+
+-- So is each START of a script, behind lines that are in the grammar, whose stop doesn't lie before its start.
+abbrev pub Headline : Status → Option (List ℕ) → Option (List ℕ) → List (List ℕ) → Type 0
+Headline status before after lines =
+    (earlier later : List (List ℕ)) (line : List ℕ) (start stop : Cds) (quality : ℕ)
+    → lines ≡ earlier ++ line ∷ later → IsTrue (is_script earlier) → line_of line ≡ Some (Desk start stop quality) → moment start ≤ moment stop
+    → IsAnswered status before after earlier later (archive_after [] earlier) start stop quality
 
 -- A script that is short enough and all of whose lines are in the grammar is done, or memory is wanted, where no count rises.
 abbrev pub Completes : Option (List ℕ) → ℕ → ℕ → ℕ → ℕ → Status → Type 0
@@ -50,10 +66,10 @@ Completes input read_before read_after faults_before faults_after status =
     → ¬ Rose read_before read_after → ¬ Rose faults_before faults_after → (status ≡ Done) ⊎ (status ≡ Memory))
 
 -- All that a drill promises: it ended with the status of this exit code, with what it has written then, with a good
--- script done, and with each START right.
+-- script done, and with each START answered rightly.
 pub record Promised (input : Option (List ℕ)) (read_before read_after : ℕ) (before after : Option (List ℕ)) (faults_before faults_after : ℕ) (exit : ℕ) : Type 0 where
   pub status : Status
   pub exit_is : exit ≡ code status
   pub drilled : Drilled input read_before read_after before after faults_before faults_after status
   pub complete : Completes input read_before read_after faults_before faults_after status
-  pub headline : IfSome input (λ script. Headline (lines_of script))
+  pub headline : IfSome input (λ script. Headline status before after (lines_of script))

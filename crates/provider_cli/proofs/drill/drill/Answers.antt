@@ -1,4 +1,4 @@
-use Rattle.provider_cli.proofs.Promises.{Laws, headline_if, complete_of}
+use Rattle.provider_cli.proofs.Promises.{Laws, headline_of, complete_of}
 use Rattle.provider_cli.proofs.drill.drill.Goals as goal
 
 pub returns : goal.returns
@@ -15,5 +15,5 @@ returns g c =
       exit_is = c.code.ensures;
       drilled = c.read_and_run.ensures;
       complete = complete_of _ _ _ _ _ _ _ _ c.read_and_run.ensures;
-      headline = headline_if laws _;
+      headline = headline_of laws _ _ _ _ _ _ _ _ c.read_and_run.ensures;
     }
