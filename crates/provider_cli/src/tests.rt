@@ -200,7 +200,7 @@ start 20000/0/0 20000/2000/0 0
 ",
         3,
     ),
-    // Five frames with an open stop.
+    // Five frames and then six with an open stop.
     (
         b"frame 20000/1000/0 0 41 1 0010a1
 frame 20000/2000/0 0 41 2 0010a2
@@ -208,8 +208,10 @@ frame 20000/3000/0 0 41 3 0010a3
 frame 20000/4000/0 0 41 4 0010a4
 frame 20000/5000/0 0 41 5 0010a5
 start 20000/0/0 20000/5000/0 0
+frame 20000/6000/0 0 41 6 0010a6
+start 20000/0/0 20000/6000/0 0
 ",
-        2,
+        5,
     ),
     // Seven frames, closed by an eighth one above the stop.
     (
