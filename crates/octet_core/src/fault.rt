@@ -26,6 +26,7 @@ impl Faults {
         Faults { count: 0 }
     }
 
+    /// How often it has failed.
     pub fn count(&self) -> u64
         ensures { result ≡ self.now }
     {
