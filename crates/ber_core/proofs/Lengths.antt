@@ -1,19 +1,15 @@
 -- The shortest length is one of the lengths.
-use Rattle.std.proofs.Common.{◌≡◌, ℕ, zero, suc, ◌^◌, ◌<◌, ◌≤◌, inl, inr, List, [], ◌∷◌, length, refl, sym, ◌∙◌, arith, true, false, rules, nat_lt, if◌then◌else◌}
+use Rattle.std.proofs.Common.{◌≡◌, ℕ, zero, suc, ◌^◌, ◌<◌, inl, inr, List, [], ◌∷◌, length, refl, sym, ◌∙◌, arith, true, false, rules, nat_lt, if◌then◌else◌}
 use Rattle.std.specs.Int.{w64, to_be_bytes}
 use Rattle.std.proofs.lemmas.Nat.{from_be_bytes-to_be_bytes_8, mod_below}
 use Rattle.std.proofs.lemmas.Bool.{ltb-true, ltb-false}
 use Rattle.ber_core.specs.Length.{IsOctets, number_of, long_form, IsLength, without_zeros, shortest_length}
+use Rattle.ber_core.specs.Parts.{length-without_zeros}
 
 number_of-without_zeros : (octets : List ℕ) → number_of (without_zeros octets) ≡ number_of octets
 number_of-without_zeros [] = refl
 number_of-without_zeros (zero ∷ octets) = number_of-without_zeros octets ∙ omega arith
 number_of-without_zeros (suc n ∷ octets) = refl
-
-length-without_zeros : (octets : List ℕ) → length (without_zeros octets) ≤ length octets
-length-without_zeros [] = omega arith
-length-without_zeros (zero ∷ octets) = omega (arith, length-without_zeros octets)
-length-without_zeros (suc n ∷ octets) = omega arith
 
 IsOctets-without_zeros : (octets : List ℕ) → IsOctets octets → IsOctets (without_zeros octets)
 IsOctets-without_zeros [] h = h

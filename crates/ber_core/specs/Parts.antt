@@ -1,7 +1,9 @@
 -- How a canonical spelling is put together, and how long it is: theorems for those who write one or measure it.
-use Rattle.std.proofs.Common.{◌≡◌, ℕ, ◌+◌, List, [], ◌∷◌, ◌++◌, length, length-append, append_assoc, append-nil, refl, sym, ◌∙◌, ap, arith}
+use Rattle.std.proofs.Common.{◌≡◌, ℕ, zero, suc, ℤ, ◌+◌, ◌≤◌, true, false, nat_lt, if◌then◌else◌, List, [], ◌∷◌, ◌++◌, length, length-append, append_assoc, append-nil, refl, sym, ◌∙◌, ap, arith}
 use Rattle.std.specs.List.{flat_map}
-use Rattle.ber_core.specs.Length.{shortest_length}
+use Rattle.std.specs.Int.{w64, w128, to_be_bytes, cast_unsigned}
+use Rattle.ber_core.specs.Length.{long_form, without_zeros, shortest_length}
+use Rattle.ber_core.specs.Integer.{is_redundant, without_redundant, integer_octets}
 use Rattle.ber_core.specs.Tree.{Tree, Trees, primitive, constructed, no_trees, tree_and, trees}
 use Rattle.ber_core.specs.Spelling.{element, canonical, canonical_all}
 
@@ -65,3 +67,27 @@ pub length-no_trees : length (canonical_all no_trees) ≡ 0
 length-no_trees = ap length spelled-no_trees
 
 pub ruleset lengths = (length-primitive, length-constructed, length-tree_and, length-no_trees)
+
+-- ---- at most so long
+
+pub length-without_zeros : (octets : List ℕ) → length (without_zeros octets) ≤ length octets
+length-without_zeros [] = omega arith
+length-without_zeros (zero ∷ octets) = omega (arith, length-without_zeros octets)
+length-without_zeros (suc n ∷ octets) = omega arith
+
+pub few-shortest_length : (n : ℕ) → length (shortest_length n) ≤ 9
+unfolding shortest_length
+few-shortest_length n =
+    elim (nat_lt n 128) as (λ b. length (if b then n ∷ [] else long_form (without_zeros (to_be_bytes w64 n))) ≤ 9)
+    [ true ↦ omega arith | false ↦ omega (arith, length-without_zeros (to_be_bytes w64 n)) ]
+
+length-without_redundant : (octets : List ℕ) → length (without_redundant octets) ≤ length octets
+unfolding without_redundant
+length-without_redundant [] = omega arith
+length-without_redundant (first ∷ octets) =
+    elim (is_redundant (first ∷ octets)) as (λ b. length (if b then without_redundant octets else first ∷ octets) ≤ length (first ∷ octets))
+    [ true ↦ omega (arith, length-without_redundant octets) | false ↦ omega arith ]
+
+pub few-integer_octets : (z : ℤ) → length (integer_octets z) ≤ 16
+unfolding integer_octets
+few-integer_octets z = length-without_redundant (to_be_bytes w128 (cast_unsigned w128 z))

@@ -1,5 +1,5 @@
 -- What a transfer buffer says: items whose fields its octets name.
-use Rattle.std.specs.Prelude.{◌≡◌, ◌^◌, ◌<◌, ℕ, List, length, map}
+use Rattle.std.specs.Prelude.{◌≡◌, ◌+◌, ◌^◌, ◌<◌, ◌≤◌, ℕ, List, length, map}
 use Rattle.std.specs.List.{AllByRecursion}
 use Rattle.ber_core.specs.Length.{IsOctets}
 use Rattle.ber_core.specs.Tree.{Tree, IsWellFormed}
@@ -56,3 +56,7 @@ abbrev pub CanonicalNamesItems : Type 0
 CanonicalNamesItems =
     (items others : List Item) → AreItems items → AreItems others → length (canonical (buffer_of items)) < 2 ^ 64
     → canonical (buffer_of items) ≡ canonical (buffer_of others) → items ≡ others
+
+-- A frame's spelling has few octets more than the frame.
+abbrev pub FramesAreShort : Type 0
+FramesAreShort = (f : Frame) → IsFrame f → length (canonical (frame f)) ≤ length f.octets + 300

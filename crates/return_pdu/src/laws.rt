@@ -2,7 +2,7 @@
 
 ghost use Rattle.ber_core.specs.Tree.{IsWellFormed};
 ghost use Rattle.return_pdu.specs.Items.{end_of_data, BufferIsHeadAndItems};
-ghost use Rattle.return_pdu.specs.Buffers.{FramesAreWellFormed, BuffersAreWellFormed, FrameNamesItsFields, SpellingNamesItems, CanonicalNamesItems};
+ghost use Rattle.return_pdu.specs.Buffers.{FramesAreWellFormed, BuffersAreWellFormed, FrameNamesItsFields, FramesAreShort, SpellingNamesItems, CanonicalNamesItems};
 
 use ber_core::laws::{canonical_spells, integer_read_back, one_tree};
 use cds_time::laws::fields_give_octets;
@@ -46,3 +46,8 @@ pub fn canonical_names_items()
     spelling_names_items();
     canonical_spells();
 }
+
+/// A frame's canonical spelling has at most 300 octets more than the frame.
+pub fn frames_are_short()
+    ensures { FramesAreShort }
+{}
