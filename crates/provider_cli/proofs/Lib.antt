@@ -10,4 +10,8 @@ pub mod PlainText
 pub mod FirstLines
 pub mod Outcomes
 pub mod Around
+pub mod Each
+pub mod HexOctets
+pub mod Fitting
+pub mod Readable
 pub mod Promises

@@ -227,7 +227,7 @@ goes-frame start stop quality closed entries n ert found antenna lost octets res
         next.holding before (lost_with gap lost) place f shown (gap-next entries (Some place) n gap (Frame ert found antenna lost octets) rest stands is) still tree
 
 -- what an archive says of its first entry, and of the rest
-first_storable : (entry : terms.Entry) (later : List terms.Entry) → is_archive (entry ∷ later) ≡ true → (is_storable entry ≡ true) × (is_archive later ≡ true)
+pub first_storable : (entry : terms.Entry) (later : List terms.Entry) → is_archive (entry ∷ later) ≡ true → (is_storable entry ≡ true) × (is_archive later ≡ true)
 first_storable entry later archive =
     let parts : ((is_storable entry && list_all (may_precede entry) later) ≡ true) × (is_archive later ≡ true) =
     and_parts (is_storable entry && list_all (may_precede entry) later) (is_archive later) archive in

@@ -1,14 +1,12 @@
 -- From the exact transcript to the headline and to completeness.
-use Rattle.std.proofs.Common.{subst, ◌≡◌, ℕ, Bool, true, false, ◌&&◌, IsTrue, IsFalse, if◌then◌else◌, List, [], ◌∷◌, ◌++◌, length, take, Option, Some, None, refl, sym, ap, ◌∙◌, append_assoc, arith, inl, inr}
+use Rattle.std.proofs.Common.{subst, ◌≡◌, ℕ, Bool, true, false, IsTrue, IsFalse, if◌then◌else◌, List, [], ◌∷◌, ◌++◌, length, take, Option, Some, None, refl, sym, ap, ◌∙◌, append_assoc, arith, inl, inr}
 use Rattle.std.proofs.lemmas.List.{append-nil}
-use Rattle.std.specs.List.{list_any, flat_map}
 use Rattle.std.specs.Option.{option_map_or, IfSome}
 use Rattle.octet_core.specs.Written.{Gains, GainsFront}
 use Rattle.archive_terms.specs.Archive as terms
 use Rattle.archive_terms.specs.Archive.{is_archive, IsArchive, may_follow, is_closed}
 use Rattle.archive_terms.specs.Selection.{picked}
-use Rattle.archive_terms.specs.Delivery.{Item, offline, Terms, entries_of, archived_items, all_items, end_of_data, is_end_of_data, offline_buffers}
-use Rattle.archive_terms.specs.Rounds.{to_hand_over}
+use Rattle.archive_terms.specs.Delivery.{Item, offline, all_items, offline_buffers}
 use Rattle.cds_time.specs.declared.moment.Cds.{Cds}
 use Rattle.provider_cli.specs.declared.entry.Entry.{Entry}
 use Rattle.provider_cli.specs.declared.grammar.ScriptLine.{ScriptLine}
@@ -19,17 +17,12 @@ use Rattle.provider_cli.specs.Grammar.{line_of, lines_of}
 use Rattle.provider_cli.specs.Held.{moment, entry_of, archive_of}
 use Rattle.provider_cli.specs.Transcript.{selection, after_line, desk_buffers, transcript, is_script}
 use Rattle.provider_cli.specs.Script.{script_transcript, Drilled}
+use Rattle.provider_cli.specs.Known.{Known}
 use Rattle.provider_cli.specs.Headline.{archive_after, items_in, IsRightFor, HasWritten, Headline, Completes}
 use Rattle.provider_cli.proofs.Floors.{archive-push}
 use Rattle.provider_cli.proofs.Around.{transcript_around, front_of_front, few_begin}
-
--- the laws of archives and deliveries that the headline rests on
-pub record Laws : Type 0 where
-  pub grows : (a : List terms.Entry) (e : terms.Entry) → is_archive (a ++ e ∷ []) ≡ (is_archive a && may_follow a e)
-  pub holds : (size : ℕ) (entries : List (ℕ × terms.Entry)) (closed : Bool) → let items = flat_map (λ b. b) (offline_buffers size entries closed) in take (length items) (all_items entries closed) ≡ items
-  pub begins : (entries : List (ℕ × terms.Entry)) (closed : Bool) (items : List Item) → take (length items) (all_items entries closed) ≡ items → take (length (entries_of items)) entries ≡ entries_of items
-  pub ends : (entries : List (ℕ × terms.Entry)) (closed : Bool) (items : List Item) → take (length items) (all_items entries closed) ≡ items → IsTrue (list_any is_end_of_data items) → IsTrue closed × (items ≡ archived_items entries ++ end_of_data ∷ [])
-  pub stays : (t : Terms) (a b : List terms.Entry) (items : List Item) → IsArchive (a ++ b) → take (length items) (to_hand_over t a) ≡ items → take (length items) (to_hand_over t (a ++ b)) ≡ items
+use Rattle.provider_cli.proofs.Fitting.{fits_lines}
+use Rattle.provider_cli.proofs.Readable.{start_readable}
 
 -- the entries stay an archive, with more entries behind them
 pub record Extends (old new : List Entry) : Type 0 where
@@ -40,7 +33,7 @@ pub record Extends (old new : List Entry) : Type 0 where
 same : (entries : List Entry) → IsArchive (archive_of entries) → Extends entries entries
 same entries archive = record { more = []; appended = sym (append-nil (archive_of entries)); archive = archive }
 
-extends_by : Laws → (entries : List Entry) (entry : Entry) (follows : Bool) → follows ≡ may_follow (archive_of entries) (entry_of entry) → IsArchive (archive_of entries) → Extends entries (if follows then entries ++ entry ∷ [] else entries)
+extends_by : Known → (entries : List Entry) (entry : Entry) (follows : Bool) → follows ≡ may_follow (archive_of entries) (entry_of entry) → IsArchive (archive_of entries) → Extends entries (if follows then entries ++ entry ∷ [] else entries)
 extends_by laws entries entry true is archive = record {
   more = entry_of entry ∷ [];
   appended = archive-push entries entry;
@@ -48,11 +41,11 @@ extends_by laws entries entry true is archive = record {
 }
 extends_by laws entries entry false is archive = same entries archive
 
-extends_line : Laws → (entries : List Entry) (says : ScriptLine) → IsArchive (archive_of entries) → Extends entries (after_line entries says)
+extends_line : Known → (entries : List Entry) (says : ScriptLine) → IsArchive (archive_of entries) → Extends entries (after_line entries says)
 extends_line laws entries (Offer entry) archive = extends_by laws entries entry (may_follow (archive_of entries) (entry_of entry)) refl archive
 extends_line laws entries (Desk start stop quality) archive = same entries archive
 
-extends_option : Laws → (entries : List Entry) (says : Option ScriptLine) → IsArchive (archive_of entries) → Extends entries (option_map_or (after_line entries) says entries)
+extends_option : Known → (entries : List Entry) (says : Option ScriptLine) → IsArchive (archive_of entries) → Extends entries (option_map_or (after_line entries) says entries)
 extends_option laws entries None archive = same entries archive
 extends_option laws entries (Some says) archive = extends_line laws entries says archive
 
@@ -63,14 +56,14 @@ joined a b c first second = record {
   archive = second.archive;
 }
 
-pub extends_lines : Laws → (entries : List Entry) (lines : List (List ℕ)) → IsArchive (archive_of entries) → Extends entries (archive_after entries lines)
+pub extends_lines : Known → (entries : List Entry) (lines : List (List ℕ)) → IsArchive (archive_of entries) → Extends entries (archive_after entries lines)
 extends_lines laws entries [] archive = same entries archive
 extends_lines laws entries (line ∷ lines) archive =
     let first = extends_option laws entries (line_of line) archive in
     joined entries (option_map_or (after_line entries) (line_of line) entries) (archive_after entries (line ∷ lines)) first (extends_lines laws (option_map_or (after_line entries) (line_of line) entries) lines first.archive)
 
 -- what begins the items of an archive begins those of a longer one, and is right for it
-right_for : Laws → (archive more : List terms.Entry) (start stop : Cds) (quality few : ℕ) → IsArchive (archive ++ more) →
+right_for : Known → (archive more : List terms.Entry) (start stop : Cds) (quality few : ℕ) → IsArchive (archive ++ more) →
     IsRightFor (items_in (take few (offline_buffers 2 (picked archive (selection start stop quality)) (is_closed archive (moment stop))))) (archive ++ more) start stop quality
 right_for laws archive more start stop quality few longer =
     let entries : List (ℕ × terms.Entry) = picked archive (selection start stop quality) in
@@ -83,7 +76,7 @@ right_for laws archive more start stop quality few longer =
       end_of_data = laws.ends _ _ (items_in (take few buffers)) now;
     }
 
-stays_right : Laws → (archived : List Entry) (later : List (List ℕ)) (start stop : Cds) (quality few : ℕ) → IsArchive (archive_of archived)
+stays_right : Known → (archived : List Entry) (later : List (List ℕ)) (start stop : Cds) (quality few : ℕ) → IsArchive (archive_of archived)
     → IsRightFor (items_in (take few (desk_buffers archived start stop quality))) (archive_of (archive_after archived later)) start stop quality
 stays_right laws archived later start stop quality few archive =
     let longer = extends_lines laws archived later archive in
@@ -100,14 +93,17 @@ written_as script r s before after f g Usage text is drilled = tt
 written_as script r s before after f g ReadFault text is drilled = tt
 written_as script r s before after f g InputTooLong text is drilled = tt
 
-pub headline_of : Laws → (input : Option (List ℕ)) (r s : ℕ) (before after : Option (List ℕ)) (f g : ℕ) (status : Status) → Drilled input r s before after f g status
+pub headline_of : Known → (input : Option (List ℕ)) (r s : ℕ) (before after : Option (List ℕ)) (f g : ℕ) (status : Status) → Drilled input r s before after f g status
     → IfSome input (λ script. Headline status before after (lines_of script))
 headline_of laws None r s before after f g status drilled = tt
 headline_of laws (Some script) r s before after f g status drilled = λ earlier later line start stop quality are good says ordered.
+    let archived : List Entry = archive_after [] earlier in
     let archive = (extends_lines laws [] earlier refl).archive in
     record {
       messages = written_as script r s before after f g status _ (ap transcript are ∙ transcript_around earlier later line start stop quality good says ordered) drilled;
-      right = λ few some. stays_right laws (archive_after [] earlier) (take some later) start stop quality few archive;
+      readable = start_readable laws.short laws.named laws.spells laws.cuts start stop quality archived (is_closed (archive_of archived) (moment stop)) archive (fits_lines [] earlier tt)
+          (laws.holds 2 (picked (archive_of archived) (selection start stop quality)) (is_closed (archive_of archived) (moment stop)));
+      right = λ few some. stays_right laws archived (take some later) start stop quality few archive;
     }
 
 -- a good script is done, or memory is wanted

@@ -7,4 +7,6 @@ pub mod Desk
 pub mod Transcript
 pub mod Command
 pub mod Script
+pub mod Known
+pub mod Readable
 pub mod Headline

@@ -4,6 +4,7 @@ ghost use Rattle.octet_core.specs.Fault.{Rose};
 ghost use Rattle.provider_cli.specs.Grammar.{lines_of};
 ghost use Rattle.provider_cli.specs.Output.{Wrote};
 ghost use Rattle.provider_cli.specs.Script.{IsValidLine, Drilled};
+ghost use Rattle.provider_cli.specs.Known.{Known};
 ghost use Rattle.provider_cli.specs.Headline.{Promised};
 ghost use Rattle.provider_cli.specs.Transcript.{line_text, after_line, bad_line, transcript, is_script};
 
@@ -15,9 +16,12 @@ use crate::lines::split_line;
 use crate::status::Status;
 use crate::transcript::{Stop, put_line};
 use archive_terms::laws::{
-    archive_grows, handed_over_stays_a_prefix, offline_buffers_hold_a_prefix, prefix_of_all_items,
+    archive_grows, cut_into_buffers, handed_over_stays_a_prefix, offline_buffers_hold_a_prefix,
+    prefix_of_all_items,
 };
+use ber_core::laws::canonical_spells;
 use octet_core::{Sink, Source};
+use return_pdu::laws::{frames_are_short, spelling_names_items};
 use std::alloc::{AllocError, Global};
 
 /// The most octets that a script may have.
@@ -32,11 +36,22 @@ pub fn drill<I: Source, O: Sink>(alloc: Global, input: &mut I, output: &mut O) -
     ensures { Promised (I.left input.old) (I.faults input.old) (I.faults input.new)
         (O.written output.old) (O.written output.new) (O.faults output.old) (O.faults output.new) result }
 {
+    known();
+    read_and_run(alloc, input, output).code()
+}
+
+// The laws that the promise of each START rests on.
+fn known()
+    ensures { Known }
+{
     archive_grows();
     offline_buffers_hold_a_prefix();
     prefix_of_all_items();
     handed_over_stays_a_prefix();
-    read_and_run(alloc, input, output).code()
+    cut_into_buffers();
+    frames_are_short();
+    spelling_names_items();
+    canonical_spells();
 }
 
 // Reads the script, and runs it.

@@ -1,0 +1,26 @@
+-- What the headline rests on: laws of archives and deliveries, of buffers, and of the octets that spell them.
+use Rattle.std.specs.Prelude.{◌≡◌, ℕ, ◌<◌, ◌&&◌, Bool, IsTrue, List, [], ◌∷◌, ◌++◌, length, take}
+use Rattle.std.specs.List.{All, list_any, flat_map}
+use Rattle.ber_core.specs.Spelling.{CanonicalSpells}
+use Rattle.return_pdu.specs.Buffers.{FramesAreShort, SpellingNamesItems}
+use Rattle.archive_terms.specs.Archive.{Entry, is_archive, IsArchive, may_follow}
+use Rattle.archive_terms.specs.Delivery.{Item, Terms, entries_of, archived_items, all_items, end_of_data, is_end_of_data, IsBuffer, cut, offline_buffers}
+use Rattle.archive_terms.specs.Rounds.{to_hand_over}
+
+abbrev pub CutsAreBuffers : Type 0
+CutsAreBuffers = (size : ℕ) (items : List Item) → 0 < size → All (IsBuffer size) (cut size items)
+
+pub record Known : Type 0 where
+  pub grows : (a : List Entry) (e : Entry) → is_archive (a ++ e ∷ []) ≡ (is_archive a && may_follow a e)
+  pub holds : (size : ℕ) (entries : List (ℕ × Entry)) (closed : Bool) → let items = flat_map (λ b. b) (offline_buffers size entries closed) in
+      take (length items) (all_items entries closed) ≡ items
+  pub begins : (entries : List (ℕ × Entry)) (closed : Bool) (items : List Item) → take (length items) (all_items entries closed) ≡ items
+      → take (length (entries_of items)) entries ≡ entries_of items
+  pub ends : (entries : List (ℕ × Entry)) (closed : Bool) (items : List Item) → take (length items) (all_items entries closed) ≡ items
+      → IsTrue (list_any is_end_of_data items) → IsTrue closed × (items ≡ archived_items entries ++ end_of_data ∷ [])
+  pub stays : (t : Terms) (a b : List Entry) (items : List Item) → IsArchive (a ++ b) → take (length items) (to_hand_over t a) ≡ items
+      → take (length items) (to_hand_over t (a ++ b)) ≡ items
+  pub cuts : CutsAreBuffers
+  pub short : FramesAreShort
+  pub named : SpellingNamesItems
+  pub spells : CanonicalSpells
