@@ -143,7 +143,7 @@ module _ {T E O : Type 0} (origin : T → O) (stands : T → List E → Type 0) 
   pub starts : (slots : List (Option T)) (x : T) → slots ≡ Some x ∷ [] → origin x ≡ first → stands x [] → Rule (opening (0 ∷ 0 ∷ 0 ∷ []) slots (fresh_view first turns (turns + 1)))
   starts slots x full mine st =
       let v : V = fresh_view first turns (turns + 1) in
-      let fit : Fits {T = T} first turns 0 [] (some (Some x) ∷ []) v = record { of = (refl, refl); counted = omega arith; holding = λ h k. absurd (not_both v.kept h refl k); early = omega arith; prefix = ([], refl); own = (tt, tt); some_own = omega arith } in
+      let fit : Fits {T = T} first turns 0 [] (some (Some x) ∷ []) v = record { of = (refl, refl); counted = omega arith; holding = λ h k. absurd (not_both v.kept h refl k); early = omega arith; prefix = ([], refl); begins = ([], refl); own = (tt, tt); some_own = omega arith } in
       subst (λ (xs : List (Option T)). Rule (opening (0 ∷ 0 ∷ 0 ∷ []) xs v)) (sym full) (record {
         ticket = 0;
         serving = 0;
@@ -193,6 +193,7 @@ module _ {T E O : Type 0} (origin : T → O) (stands : T → List E → Type 0) 
               holding = λ h k. absurd (not_both v.kept h no_value k);
               early = fit.early;
               prefix = fit.prefix;
+              begins = fit.begins;
               own = fit.own;
               some_own = omega (arith, fit.some_own);
             })
@@ -203,19 +204,19 @@ module _ {T E O : Type 0} (origin : T → O) (stands : T → List E → Type 0) 
 
   -- the slot is empty now
   emptied : (s : S) (r : Rule s) (u : V) → Fits first turns r.serving r.log s.homes u → Fits {T = T} first turns r.serving r.log (none ∷ []) u
-  emptied s r u f = record { of = f.of; counted = f.counted; holding = λ h k. ((f.holding h k).0, refl, (f.holding h k).2); early = f.early; prefix = f.prefix; own = f.own; some_own = f.some_own }
+  emptied s r u f = record { of = f.of; counted = f.counted; holding = λ h k. ((f.holding h k).0, refl, (f.holding h k).2); early = f.early; prefix = f.prefix; begins = f.begins; own = f.own; some_own = f.some_own }
 
   -- the seat takes the value that is at home, as its ticket is served
   taken : (s : S) (r : Rule s) (id : ℕ) (v w : V) (ticket : ℕ) → get_elem? s.views id ≡ some v → r.ticket ≤ ticket
       → (r.serving + counts w.ticket) + r.ticket ≡ (r.serving + counts v.ticket) + ticket
       → ((n : ℕ) → (is_ticket n w.ticket ≤ is_ticket n v.ticket) ⊎ ((r.ticket ≤ n) × (n < ticket)))
       → w.entered + r.ticket ≡ v.entered + ticket → pending w + r.ticket ≤ pending v + ticket → w.left + ticket ≤ v.left + r.ticket → own_lists w ≡ own_lists v
-      → IsOf first turns w w.origin → counts w.ticket ≤ w.entered → w.ticket ≡ Some r.serving → w.kept ≡ Some r.log → w.added ≡ None → IsPrefix w.seen r.log → AllStand r.log (own_lists w) → total (own_lists w) + pending w ≤ w.entered
+      → IsOf first turns w w.origin → counts w.ticket ≤ w.entered → w.ticket ≡ Some r.serving → w.kept ≡ Some r.log → w.added ≡ None → IsPrefix w.seen r.log → IsPrefix w.beginning w.seen → AllStand r.log (own_lists w) → total (own_lists w) + pending w ≤ w.entered
       → Rule record { words = ticket ∷ r.serving ∷ length r.log ∷ []; homes = none ∷ []; views = set s.views id w }
-  taken s r id v w ticket at more waiting tickets entered few left lists of counted served value nothing prefix own some_own =
+  taken s r id v w ticket at more waiting tickets entered few left lists of counted served value nothing prefix begins own some_own =
       let none_added : counts w.added ≡ 0 = ap counts nothing in
       moved s r id v w ticket r.serving r.log (none ∷ []) at more waiting tickets entered (omega (arith, few)) left (λ k. ap (λ ls. times k ls + counts (slice_get r.log k)) lists)
-      (record { of = of; counted = counted; holding = λ h k. (served, refl, some_same w.kept r.log h value k ∙ ap (with_added h) (sym nothing)); early = omega arith; prefix = prefix; own = own; some_own = some_own })
+      (record { of = of; counted = counted; holding = λ h k. (served, refl, some_same w.kept r.log h value k ∙ ap (with_added h) (sym nothing)); early = omega arith; prefix = prefix; begins = begins; own = own; some_own = some_own })
       (λ j u _ e. emptied s r u (r.each_view j u e))
       (inr (id, w, r.log, refl, here_set s.views id v w at, value))
 
@@ -249,7 +250,7 @@ module _ {T E O : Type 0} (origin : T → O) (stands : T → List E → Type 0) 
         ap (λ (hs : Homes). get_elem? hs 0) home.1,
         subst (λ (ws : List ℕ). Rule record { words = set ws 1 (get_or ws 1 0); homes = set s.homes 0 none; views = set s.views id w }) (sym r.words)
             (subst (λ (hs : Homes). Rule record { words = r.ticket ∷ r.serving ∷ length r.log ∷ []; homes = set hs 0 none; views = set s.views id w }) (sym home.1)
-            (taken s r id v w r.ticket at (omega arith) (omega arith) (λ k. inl (omega arith)) (omega arith) (omega arith) (omega arith) refl (of_same v w refl some_view v.origin fit.of) fit.counted served refl refl fit.prefix fit.own (omega (arith, fit.some_own)))),
+            (taken s r id v w r.ticket at (omega arith) (omega arith) (λ k. inl (omega arith)) (omega arith) (omega arith) (omega arith) refl (of_same v w refl some_view v.origin fit.of) fit.counted served refl refl fit.prefix fit.begins fit.own (omega (arith, fit.some_own)))),
         λ k e. match_true (found == k) _ _ (eq-eqb found k (hit ∙ some_same v.ticket n k ticket e)) (home.0, r.log, refl, has_origin v (origin home.0) v.origin some_view fit.of home.2, home.3, fit.prefix),
       ))
       (λ (miss : found ≢ n). (
@@ -290,9 +291,9 @@ module _ {T E O : Type 0} (origin : T → O) (stands : T → List E → Type 0) 
             (subst (λ (hs : Homes). Rule record { words = r.ticket ∷ ((r.serving + 1) % 2 ^ 64) ∷ length r.log ∷ []; homes = set hs 0 (some (Some x)); views = set s.views id w }) (sym place.1)
             (subst (λ (n : ℕ). Rule record { words = r.ticket ∷ n ∷ length r.log ∷ []; homes = some (Some x) ∷ []; views = set s.views id w }) (sym up)
             (moved s r id v w r.ticket (r.serving + 1) r.log (some (Some x) ∷ []) at (omega arith) (omega arith) (λ n. inl (omega arith)) (omega arith) (omega arith) (omega arith) (λ k. refl)
-            (record { of = of_same v w refl some_view v.origin fit.of; counted = omega arith; holding = λ k e. absurd (not_both w.kept k refl e); early = omega arith; prefix = fit.prefix; own = fit.own; some_own = omega (arith, fit.some_own) })
+            (record { of = of_same v w refl some_view v.origin fit.of; counted = omega arith; holding = λ k e. absurd (not_both w.kept k refl e); early = omega arith; prefix = fit.prefix; begins = fit.begins; own = fit.own; some_own = omega (arith, fit.some_own) })
             (λ j u other there. let known : Fits first turns r.serving r.log s.homes u = r.each_view j u there in
-            record { of = known.of; counted = known.counted; holding = λ k e. absurd (other (one_seat s r id j v u r.serving at there served (known.holding k e).0)); early = known.early; prefix = known.prefix; own = known.own; some_own = known.some_own })
+            record { of = known.of; counted = known.counted; holding = λ k e. absurd (other (one_seat s r id j v u r.serving at there served (known.holding k e).0)); early = known.early; prefix = known.prefix; begins = known.begins; own = known.own; some_own = known.some_own })
             (inl (x, refl, mine, subst (stands x) (sym hold.2) st)))))),
         refl,
       )
@@ -328,11 +329,12 @@ module _ {T E O : Type 0} (origin : T → O) (stands : T → List E → Type 0) 
               holding = λ k d. (served, hold.1, ap (λ (l : List E). l ++ e ∷ []) (log_is ∙ some_same v.kept h k value d));
               early = omega arith;
               prefix = prefix_self log;
+              begins = prefix_trans v.beginning v.seen log fit.begins (prefix_trans v.seen r.log log fit.prefix (e ∷ [], refl));
               own = own;
               some_own = omega (arith, fit.some_own);
             })
             (λ j u other there. let known : Fits first turns r.serving r.log s.homes u = r.each_view j u there in
-            record { of = known.of; counted = known.counted; holding = λ k d. absurd (other (one_seat s r id j v u r.serving at there served (known.holding k d).0)); early = known.early; prefix = prefix_trans u.seen r.log log known.prefix (e ∷ [], refl); own = all_on r.log log (own_lists u) (e ∷ [], refl) known.own; some_own = known.some_own })
+            record { of = known.of; counted = known.counted; holding = λ k d. absurd (other (one_seat s r id j v u r.serving at there served (known.holding k d).0)); early = known.early; prefix = prefix_trans u.seen r.log log known.prefix (e ∷ [], refl); begins = known.begins; own = all_on r.log log (own_lists u) (e ∷ [], refl) known.own; some_own = known.some_own })
             (slot_goes_on r.log log s.homes s.views id v w at refl hold.1 r.slot))),
         λ k d. let same : r.log ≡ k = log_is ∙ some_same v.kept h k value d in (ap (λ (l : List E). (adding v l (Some e), me.1)) same, sym (here ∙ ap length same), subst (λ (l : List E). AllStand (with_added l (Some e)) (own_lists (adding v l (Some e)))) same own),
       )
@@ -353,7 +355,7 @@ module _ {T E O : Type 0} (origin : T → O) (stands : T → List E → Type 0) 
         tt,
         subst (λ (ws : List ℕ). Rule record { words = set ws 2 (get_or ws 2 0); homes = s.homes; views = set s.views id w }) (sym r.words)
             (moved s r id v w r.ticket r.serving r.log s.homes at (omega arith) (omega arith) (λ k. inl (omega arith)) (omega arith) (omega arith) (omega arith) (λ k. refl)
-            (record { of = of_same v w refl some_view v.origin fit.of; counted = fit.counted; holding = fit.holding; early = fit.early; prefix = prefix_self r.log; own = fit.own; some_own = fit.some_own })
+            (record { of = of_same v w refl some_view v.origin fit.of; counted = fit.counted; holding = fit.holding; early = fit.early; prefix = prefix_self r.log; begins = prefix_trans v.beginning v.seen r.log fit.begins fit.prefix; own = fit.own; some_own = fit.some_own })
             (λ j u _ e. r.each_view j u e)
             (slot_stays r.log s.homes s.views id v w at refl r.slot)),
         (r.log, refl, sym here, fit.prefix, fit.own, λ h k. (fit.holding h k).2),
@@ -378,7 +380,7 @@ module _ {T E O : Type 0} (origin : T → O) (stands : T → List E → Type 0) 
         subst (λ (ws : List ℕ). Rule record { words = set ws 0 (get_or ws 0 0); homes = s.homes; views = set s.views id v }) (sym r.words)
             (moved s r id v v r.ticket r.serving r.log s.homes at (omega arith) (omega arith) (λ k. inl (omega arith)) (omega arith) (omega arith) (omega arith) (λ k. refl) fit (λ j u _ e. r.each_view j u e)
             (slot_stays r.log s.homes s.views id v v at refl r.slot)),
-        (refl, all_turns v (v.left + v.entered) some_view v.origin fit.of (omega (arith, few_turns s r id v at, one_of (λ (u : V). u.entered) s.views id v at, r.entered))),
+        (refl, all_turns v (v.left + v.entered) some_view v.origin fit.of (omega (arith, few_turns s r id v at, one_of (λ (u : V). u.entered) s.views id v at, r.entered)), fit.begins),
       )
 
   -- the sum over the views of a seat whose view is cut in two
@@ -405,9 +407,9 @@ module _ {T E O : Type 0} (origin : T → O) (stands : T → List E → Type 0) 
         bounded = omega (arith, split_sum (λ (u : V). u.left) s.views id v left right at, r.bounded);
         each_view = λ j u e. ⊎_elim
             (λ (here : get_elem? (set s.views id left) j ≡ some u). ⊎_elim
-            (λ (t : (j ≡ id) × (left ≡ u)). subst (Fits first turns r.serving r.log s.homes) t.1 (record { of = of_same v left refl some_view v.origin fit.of; counted = fit.counted; holding = fit.holding; early = fit.early; prefix = fit.prefix; own = fit.own; some_own = fit.some_own }))
+            (λ (t : (j ≡ id) × (left ≡ u)). subst (Fits first turns r.serving r.log s.homes) t.1 (record { of = of_same v left refl some_view v.origin fit.of; counted = fit.counted; holding = fit.holding; early = fit.early; prefix = fit.prefix; begins = fit.begins; own = fit.own; some_own = fit.some_own }))
             (λ (t : (j ≢ id) × (get_elem? s.views j ≡ some u)). r.each_view j u t.1) (at_set s.views id j left u here))
-            (λ (new : right ≡ u). subst (Fits first turns r.serving r.log s.homes) new (record { of = of_same v right refl some_view v.origin fit.of; counted = omega arith; holding = λ h k. absurd (not_both right.kept h refl k); early = omega arith; prefix = fit.prefix; own = (tt, tt); some_own = omega arith }))
+            (λ (new : right ≡ u). subst (Fits first turns r.serving r.log s.homes) new (record { of = of_same v right refl some_view v.origin fit.of; counted = omega arith; holding = λ h k. absurd (not_both right.kept h refl k); early = omega arith; prefix = fit.prefix; begins = fit.begins; own = (tt, tt); some_own = omega arith }))
             (at_snoc (set s.views id left) right u j e);
         slot = longer_views r.log s.homes (set s.views id left) right (slot_stays r.log s.homes s.views id v left at refl r.slot);
       }
@@ -425,10 +427,11 @@ module _ {T E O : Type 0} (origin : T → O) (stands : T → List E → Type 0) 
   pub joins : (id other : ℕ) (v w u : V) (o : O) → v.origin ≡ Some o → v.ticket ≡ None → w.ticket ≡ None → v.kept ≡ None → w.kept ≡ None
       → u.origin ≡ v.origin → u.turns ≡ v.turns → u.ticket ≡ None → u.kept ≡ None → u.added ≡ v.added → u.left ≡ v.left + w.left → u.entered ≡ v.entered + w.entered
       → ((l : List E) → IsPrefix v.seen l → IsPrefix w.seen l → IsPrefix u.seen l)
+      → ((l : List E) → IsPrefix v.seen l → IsPrefix w.seen l → IsPrefix v.beginning v.seen → IsPrefix u.beginning u.seen)
       → ((l : List E) → AllStand l (own_lists v) → AllStand l (own_lists w) → AllStand l (own_lists u))
       → ((k : ℕ) → times k (own_lists u) ≡ times k (own_lists v) + times k (own_lists w)) → total (own_lists u) ≤ total (own_lists v) + total (own_lists w)
       → Joins Rule id v other w u spent_view
-  joins id other v w u o is v_ticket w_ticket v_value w_value u_origin u_turns u_ticket u_value u_added u_left u_entered u_seen u_own u_times u_total s r at apart there =
+  joins id other v w u o is v_ticket w_ticket v_value w_value u_origin u_turns u_ticket u_value u_added u_left u_entered u_seen u_begins u_own u_times u_total s r at apart there =
       let fit : Fits first turns r.serving r.log s.homes v = r.each_view id v at in
       let some_view : v ≢ spent_view = λ e. let d : Some o ≡ None = sym is ∙ ap (λ (x : V). x.origin) e in absurd (cc d) in
       let views : List V = set (set s.views id u) other spent_view in
@@ -455,10 +458,10 @@ module _ {T E O : Type 0} (origin : T → O) (stands : T → List E → Type 0) 
         few = omega (arith, join_sum pending s.views id other v w u at there, r.few, no_v, no_w, no_u);
         bounded = omega (arith, join_sum (λ (x : V). x.left) s.views id other v w u at there, r.bounded);
         each_view = λ j x e. ⊎_elim
-            (λ (t : (j ≡ other) × (spent_view ≡ x)). subst (Fits first turns r.serving r.log s.homes) t.1 (record { of = refl; counted = omega arith; holding = λ h k. absurd (not_both {A = List E} None h refl k); early = omega arith; prefix = (r.log, refl); own = (tt, tt); some_own = omega arith }))
+            (λ (t : (j ≡ other) × (spent_view ≡ x)). subst (Fits first turns r.serving r.log s.homes) t.1 (record { of = refl; counted = omega arith; holding = λ h k. absurd (not_both {A = List E} None h refl k); early = omega arith; prefix = (r.log, refl); begins = ([], refl); own = (tt, tt); some_own = omega arith }))
             (λ (t : (j ≢ other) × (get_elem? (set s.views id u) j ≡ some x)). ⊎_elim
             (λ (h : (j ≡ id) × (u ≡ x)). subst (Fits first turns r.serving r.log s.homes) h.1
-            (record { of = of_same v u u_turns some_view u.origin (subst (IsOf first turns v) (sym u_origin) fit.of); counted = omega arith; holding = λ k d. absurd (not_both u.kept k u_value d); early = omega arith; prefix = u_seen r.log fit.prefix other_fit.prefix; own = u_own r.log fit.own other_fit.own; some_own = omega (arith, fit.some_own, other_fit.some_own) }))
+            (record { of = of_same v u u_turns some_view u.origin (subst (IsOf first turns v) (sym u_origin) fit.of); counted = omega arith; holding = λ k d. absurd (not_both u.kept k u_value d); early = omega arith; prefix = u_seen r.log fit.prefix other_fit.prefix; begins = u_begins r.log fit.prefix other_fit.prefix fit.begins; own = u_own r.log fit.own other_fit.own; some_own = omega (arith, fit.some_own, other_fit.some_own) }))
             (λ (h : (j ≢ id) × (get_elem? s.views j ≡ some x)). r.each_view j x h.1) (at_set s.views id j u x t.1))
             (at_set (set s.views id u) other j spent_view x e);
         slot = slot_stays r.log s.homes (set s.views id u) other w spent_view there (sym w_value) (slot_stays r.log s.homes s.views id v u at (u_value ∙ sym v_value) r.slot);
@@ -506,7 +509,7 @@ module _ {T E O : Type 0} (origin : T → O) (stands : T → List E → Type 0) 
             (subst (λ (hs : Homes). Rule record { words = either (r.ticket == old) new r.ticket ∷ r.serving ∷ length r.log ∷ []; homes = set hs 0 none; views = set s.views id w }) (sym home.1)
             (subst (λ (k : ℕ). Rule record { words = k ∷ r.serving ∷ length r.log ∷ []; homes = none ∷ []; views = set s.views id w }) (sym next)
             (taken s r id v w (r.ticket + 1) at (omega arith) (omega arith) (λ n. drawn_now r.ticket found v.ticket n here) (omega arith) (omega arith) (omega arith) refl (of_same v w refl some_view v.origin fit.of) (omega arith)
-            (ap Some (here ∙ sym still)) refl refl fit.prefix fit.own (omega (arith, fit.some_own))))),
+            (ap Some (here ∙ sym still)) refl refl fit.prefix fit.begins fit.own (omega (arith, fit.some_own))))),
         match_true (found == old) _ _ (eq-eqb found old hit) ((home.0, r.log, refl, has_origin v (origin home.0) v.origin some_view fit.of home.2, home.3, fit.prefix), all_mine s r id v at (all ∙ sym hit ∙ here)),
       ))
       (λ (miss : found ≢ old).

@@ -22,10 +22,10 @@ with_added h None = h
 module _ {E O : Type 0} where
   -- a view of a lock with this origin and so many turns in all, which has `left` of them and has done nothing yet
   abbrev pub fresh_view : O → ℕ → ℕ → View E O
-  fresh_view o turns left = record { origin = Some o; turns = turns; left = left; entered = 0; ticket = None; kept = None; added = None; seen = []; own = []; joined = []; noted_own = []; noted_joined = [] }
+  fresh_view o turns left = record { origin = Some o; turns = turns; left = left; entered = 0; ticket = None; kept = None; added = None; seen = []; beginning = []; own = []; joined = []; noted_own = []; noted_joined = [] }
 
   abbrev pub spent_view : View E O
-  spent_view = record { origin = None; turns = 0; left = 0; entered = 0; ticket = None; kept = None; added = None; seen = []; own = []; joined = []; noted_own = []; noted_joined = [] }
+  spent_view = record { origin = None; turns = 0; left = 0; entered = 0; ticket = None; kept = None; added = None; seen = []; beginning = []; own = []; joined = []; noted_own = []; noted_joined = [] }
 
   -- a view has the origin and the turns of the lock, or is spent
   abbrev pub IsOf : O → ℕ → View E O → Option O → Type 0
@@ -52,6 +52,8 @@ module _ {E O : Type 0} where
       pub early : counts v.added ≤ counts v.kept
       -- the history begins with all that was seen
       pub prefix : IsPrefix v.seen log
+      -- what was seen begins with the shorter of the lists that two seats had seen as they were joined
+      pub begins : IsPrefix v.beginning v.seen
       -- its own events stand in the history, in its order
       pub own : AllStand log (own_lists v)
       -- each turn entered has one own event at most, and none yet where it may still add one

@@ -9,6 +9,9 @@ use Rattle.turn_lock.specs.Rule.{own_lists, with_added}
 abbrev pub longer : {E : Type 0} → List E → List E → List E
 longer xs ys = if nat_lt (length xs) (length ys) then ys else xs
 
+abbrev pub shorter : {E : Type 0} → List E → List E → List E
+shorter xs ys = if nat_lt (length xs) (length ys) then xs else ys
+
 abbrev pub list_of : {E : Type 0} → Option (List E) → List E
 list_of (Some h) = h
 list_of None = []
@@ -56,7 +59,7 @@ module _ {E O : Type 0} where
 
   -- the turns of both, and what both know
   abbrev pub both : View E O → View E O → View E O
-  both v w = record v { left = v.left + w.left; entered = v.entered + w.entered; seen = longer v.seen w.seen; joined = v.joined ++ w.own ∷ w.joined }
+  both v w = record v { left = v.left + w.left; entered = v.entered + w.entered; seen = longer v.seen w.seen; beginning = shorter v.seen w.seen; joined = v.joined ++ w.own ∷ w.joined }
 
 module _ {T E O : Type 0} where
   -- a ticket was drawn
@@ -87,9 +90,9 @@ module _ {T E O : Type 0} where
   abbrev pub Ends : Step (Option T) → Sat T E O → ℕ → Sat T E O → Type 0
   Ends st m found m' = m' ≡ (resting m.0, rest m.1)
 
-  -- the turns of a view are at most those of the lock, and the one that closes it
+  -- the turns of a view are at most those of the lock, and the one that closes it. What was seen begins with the shorter of the lists that two seats had seen as they were joined
   abbrev pub Learns : Step (Option T) → Sat T E O → ℕ → Sat T E O → Type 0
-  Learns st m found m' = (m' ≡ m) × (m.0.left + m.0.entered ≤ m.0.turns + 1)
+  Learns st m found m' = (m' ≡ m) × (m.0.left + m.0.entered ≤ m.0.turns + 1) × IsPrefix m.0.beginning m.0.seen
 
   -- the last turn was entered and the value taken, as all turns so far were the seat's, so that its own lists make up the history; or there were more
   abbrev pub Closes : (T → O) → (T → List E → Type 0) → Step (Option T) → Sat T E O → ℕ → Sat T E O → Type 0

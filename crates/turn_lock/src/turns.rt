@@ -173,6 +173,7 @@ fn unite<T: StandsFor<E>, E: Event>(
     ensures seat { (seat.new.table_id ≡ seat.old.table_id) × (seat.new.id ≡ seat.old.id) }
     ensures both { seat.new.me ≡ (both seat.old.me.0 other.me.0, seat.old.me.1) }
     ensures few { seat.new.me.0.left + seat.new.me.0.entered ≤ seat.new.me.0.turns + 1 }
+    ensures begins { IsPrefix seat.old.me.0.seen seat.new.me.0.seen × IsPrefix other.me.0.seen seat.new.me.0.seen }
 {
     shared.join_seat::<Unite>(seat, other);
     shared.load::<Learn>(seat, TICKET);
@@ -329,7 +330,8 @@ impl<T: StandsFor<E>, E: Event> Turns<T, E> {
     pub fn join(&self, pass: &mut Pass<E>, mut other: Pass<E>)
         requires lock { (pass.old.lock ≡ Some self.now) × (other.lock ≡ Some self.now) }
         requires ready { (pass.old.standing ≡ Ready) × (other.standing ≡ Ready) }
-        ensures { pass.new ≡ record pass.old { left = pass.old.left + other.left; entered = pass.old.entered + other.entered; found = 0; seen = longer pass.old.seen other.seen; joined = pass.old.joined ++ other.own ∷ other.joined } }
+        ensures both { pass.new ≡ record pass.old { left = pass.old.left + other.left; entered = pass.old.entered + other.entered; found = 0; seen = longer pass.old.seen other.seen; joined = pass.old.joined ++ other.own ∷ other.joined } }
+        ensures begins { IsPrefix pass.old.seen pass.new.seen × IsPrefix other.seen pass.new.seen }
     {
         let mut seat = pass.take().into_seat::<Option<T>>();
         let given = other.take().into_seat::<Option<T>>();

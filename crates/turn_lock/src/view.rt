@@ -26,6 +26,8 @@ pub struct View<E: Event> {
     /// The event that the open turn has added.
     pub added: Option<E>,
     pub seen: LinkedList<E>,
+    /// The shorter of the lists that two seats had seen as they were joined. `seen` begins with it.
+    pub beginning: LinkedList<E>,
     pub own: LinkedList<Mark<E>>,
     /// The own events of each pass that was joined into this one.
     pub joined: LinkedList<LinkedList<Mark<E>>>,
