@@ -1,5 +1,5 @@
 -- From the exact transcript to the headline and to completeness.
-use Rattle.std.proofs.Common.{subst, ◌≡◌, ℕ, Bool, true, false, IsTrue, IsFalse, if◌then◌else◌, List, [], ◌∷◌, ◌++◌, length, take, Option, Some, None, refl, sym, ap, ◌∙◌, append_assoc, arith, inl, inr}
+use Rattle.std.proofs.Common.{◌≡◌, ℕ, ◌+◌, Bool, true, false, IsTrue, IsFalse, if◌then◌else◌, List, [], ◌∷◌, ◌++◌, length, take, Option, Some, None, refl, sym, ap, subst, ◌∙◌, append_assoc, arith, inl, inr}
 use Rattle.std.proofs.lemmas.List.{append-nil}
 use Rattle.std.specs.Option.{option_map_or, IfSome}
 use Rattle.octet_core.specs.Written.{Gains, GainsFront}
@@ -15,14 +15,14 @@ use Rattle.provider_cli.specs.declared.status.Status.{Status}
 use Rattle.provider_cli.specs.declared.status.Status.TheVariants.{Done, Usage, BadLine, ReadFault, WriteFault, InputTooLong, Memory}
 use Rattle.provider_cli.specs.Grammar.{line_of, lines_of}
 use Rattle.provider_cli.specs.Held.{moment, entry_of, archive_of}
-use Rattle.provider_cli.specs.Transcript.{selection, after_line, desk_buffers, transcript, is_script}
+use Rattle.provider_cli.specs.Transcript.{selection, after_line, desk_buffers, transcript, transcript_from, is_script}
 use Rattle.provider_cli.specs.Script.{script_transcript, Drilled}
 use Rattle.provider_cli.specs.Known.{Known}
 use Rattle.provider_cli.specs.Headline.{archive_after, items_in, IsRightFor, HasWritten, Headline, Completes}
 use Rattle.provider_cli.proofs.Floors.{archive-push}
 use Rattle.provider_cli.proofs.Around.{transcript_around, front_of_front, few_begin}
 use Rattle.provider_cli.proofs.Fitting.{fits_lines}
-use Rattle.provider_cli.proofs.Readable.{start_readable}
+use Rattle.provider_cli.proofs.Readable.{start_readable, are_messages, sent_messages}
 
 -- the entries stay an archive, with more entries behind them
 pub record Extends (old new : List Entry) : Type 0 where
@@ -99,10 +99,15 @@ headline_of laws None r s before after f g status drilled = tt
 headline_of laws (Some script) r s before after f g status drilled = λ earlier later line start stop quality are good says ordered.
     let archived : List Entry = archive_after [] earlier in
     let archive = (extends_lines laws [] earlier refl).archive in
+    let buffers : List (List Item) = desk_buffers archived start stop quality in
+    let text = ap transcript are ∙ transcript_around earlier later line start stop quality good says ordered
+    ∙ ap (λ sent. transcript earlier ++ sent ++ transcript_from (length earlier + 2) archived later) (sent_messages archived None buffers) in
+    let readable = start_readable laws.short laws.named laws.spells laws.cuts start stop quality archived (is_closed (archive_of archived) (moment stop)) archive (fits_lines [] earlier tt)
+    (laws.holds 2 (picked (archive_of archived) (selection start stop quality)) (is_closed (archive_of archived) (moment stop))) in
     record {
-      messages = written_as script r s before after f g status _ (ap transcript are ∙ transcript_around earlier later line start stop quality good says ordered) drilled;
-      readable = start_readable laws.short laws.named laws.spells laws.cuts start stop quality archived (is_closed (archive_of archived) (moment stop)) archive (fits_lines [] earlier tt)
-          (laws.holds 2 (picked (archive_of archived) (selection start stop quality)) (is_closed (archive_of archived) (moment stop)));
+      messages = written_as script r s before after f g status _ text drilled;
+      stream = laws.streams 0 _ (are_messages archived None buffers readable);
+      readable = readable;
       right = λ few some. stays_right laws archived (take some later) start stop quality few archive;
     }
 

@@ -1,5 +1,5 @@
 -- Whoever reads the messages of a START reads its frames, and nothing else.
-use Rattle.std.proofs.Common.{◌≡◌, ℕ, suc, pos, negsuc, ◌≤ℤ◌, ◌+◌, ◌*◌, ◌≤◌, ◌&&◌, nat_le, Bool, true, false, cond, if◌then◌else◌, List, [], ◌∷◌, length, map, take, drop, slice_get, Option, Some, None, refl, sym, ap, subst, ◌∙◌, length-append, arith}
+use Rattle.std.proofs.Common.{◌≡◌, ℕ, suc, pos, negsuc, ◌≤ℤ◌, ◌+◌, ◌*◌, ◌≤◌, ◌&&◌, nat_le, Bool, true, false, cond, if◌then◌else◌, List, [], ◌∷◌, ◌++◌, length, map, take, drop, slice_get, Option, Some, None, refl, sym, ap, subst, ◌∙◌, length-append, arith}
 use Rattle.std.proofs.lemmas.Bool.{and_parts, leb-true}
 use Rattle.std.proofs.lemmas.Int.{ints}
 use Rattle.std.proofs.lemmas.List.Elements.{All-get_or}
@@ -9,6 +9,7 @@ use Rattle.ber_core.specs.Length.{shortest_length}
 use Rattle.ber_core.specs.Parts.{length-constructed, spelled-trees, few-shortest_length}
 use Rattle.ber_core.specs.Spelling.{element, canonical, canonical_all, Spells, CanonicalSpells}
 use Rattle.ber_core.specs.Tree.{Tree, trees}
+use Rattle.isp1_tml.specs.Message.{IsMessage}
 use Rattle.return_pdu.specs.Items as pdu
 use Rattle.return_pdu.specs.Items.{frame_of, transfer_buffer, buffer_tag}
 use Rattle.return_pdu.specs.Fields.{IsFrame}
@@ -23,10 +24,10 @@ use Rattle.cds_time.specs.declared.moment.Cds.{Cds}
 use Rattle.provider_cli.specs.declared.entry.Entry.{Entry}
 use Rattle.provider_cli.specs.declared.entry.Entry.TheVariants.{Frame, Seal}
 use Rattle.provider_cli.specs.Held.{moment, entry_of, archive_of}
-use Rattle.provider_cli.specs.Transcript.{selection, frame_tree, item_tree}
+use Rattle.provider_cli.specs.Transcript.{selection, frame_tree, item_tree, sent_buffer, sent_buffers}
 use Rattle.provider_cli.specs.Known.{CutsAreBuffers}
-use Rattle.provider_cli.specs.Readable.{IsReadable, AreReadable}
-use Rattle.provider_cli.specs.Headline.{items_in}
+use Rattle.provider_cli.specs.Readable.{messages_of, IsReadable, AreReadable}
+use Rattle.provider_cli.specs.Headline.{items_in, sent}
 use Rattle.provider_cli.proofs.Behind.{get_at, drop_next}
 use Rattle.provider_cli.proofs.Each.{each_joined, each_taken, each_split, each_filtered, each_at}
 use Rattle.provider_cli.proofs.Fitting.{EntryFits, AllFit}
@@ -209,3 +210,16 @@ module _ (short : FramesAreShort) (named : SpellingNamesItems) (spells : Canonic
       = each_joined (IsOffline entries) (archived_items picked) (if closed then end_of_data ∷ [] else []) (picks_are start stop quality entries 0 entries refl archive fits) (end_is entries closed) in
       let items : AreOffline entries (items_in buffers) = subst (AreOffline entries) begins (each_taken (IsOffline entries) (length (items_in buffers)) (all_items picked closed) all) in
       buffers_readable entries None buffers (each_split (IsOffline entries) buffers items) (buffers_few cuts picked closed)
+
+-- ---- the messages of a START
+
+-- each is one that the transport reads
+pub are_messages : (entries : List Entry) (before : Option ℕ) (buffers : List (List Item)) → AreReadable entries before buffers → AllByRecursion IsMessage (messages_of entries before buffers)
+are_messages entries before [] readable = tt
+are_messages entries before (buffer ∷ buffers) readable = (readable.0.fits, are_messages entries (last_frame before buffer) buffers readable.1)
+
+-- what is sent for buffers is sent message by message
+pub sent_messages : (entries : List Entry) (before : Option ℕ) (buffers : List (List Item)) → sent_buffers entries before buffers ≡ flat_map sent (messages_of entries before buffers)
+sent_messages entries before [] = refl
+sent_messages entries before (buffer ∷ buffers) =
+    ap (λ rest. sent_buffer (map (item_tree entries) (with_frame_before before buffer)) ++ rest) (sent_messages entries (last_frame before buffer) buffers)

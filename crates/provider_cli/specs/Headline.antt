@@ -4,6 +4,8 @@ use Rattle.std.specs.List.{list_any, flat_map}
 use Rattle.std.specs.Option.{option_map_or}
 use Rattle.octet_core.specs.Fault.{Rose}
 use Rattle.octet_core.specs.Written.{Gains, GainsFront}
+use Rattle.isp1_tml.specs.Message.{Content, spelling, spellings}
+use Rattle.isp1_tml.specs.Stream.{IsStream}
 use Rattle.archive_terms.specs.Archive as terms
 use Rattle.archive_terms.specs.Archive.{is_closed}
 use Rattle.archive_terms.specs.Selection.{picked}
@@ -15,8 +17,8 @@ use Rattle.provider_cli.specs.declared.status.Status.{Status}
 use Rattle.provider_cli.specs.declared.status.Status.TheVariants.{Done, BadLine, WriteFault, Memory}
 use Rattle.provider_cli.specs.Grammar.{line_of, lines_of}
 use Rattle.provider_cli.specs.Held.{moment, archive_of}
-use Rattle.provider_cli.specs.Transcript.{selection, after_line, desk_buffers, sent_buffers, transcript, transcript_from, is_script}
-use Rattle.provider_cli.specs.Readable.{AreReadable}
+use Rattle.provider_cli.specs.Transcript.{selection, after_line, desk_buffers, sent_line, transcript, transcript_from, is_script}
+use Rattle.provider_cli.specs.Readable.{messages_of, AreReadable}
 use Rattle.provider_cli.specs.Command.{code}
 use Rattle.provider_cli.specs.Script.{most_octets, Drilled}
 
@@ -44,12 +46,17 @@ HasWritten WriteFault before after text = GainsFront before after text
 HasWritten Memory before after text = GainsFront before after text
 HasWritten status before after text = Unit {0}
 
+-- connection 0 was handed a message
+abbrev pub sent : Content → List ℕ
+sent message = sent_line (spelling message)
+
 -- How a drill answered a START, with these entries archived before it: behind the text of the earlier lines, and before that of
--- the later ones, stand the messages of its buffers; a user reads of each just what it says; and what any first few of these
--- hold is right for the archive at that line, and after any first few of the later lines.
+-- the later ones, stand the messages of its buffers; a user reads just these messages, and of each just what it says; and what
+-- any first few buffers hold is right for the archive at that line, and after any first few of the later lines.
 pub record IsAnswered (status : Status) (before after : Option (List ℕ)) (earlier later : List (List ℕ)) (archived : List Entry) (start stop : Cds) (quality : ℕ) : Type 0 where
   pub messages : HasWritten status before after
-      (transcript earlier ++ sent_buffers archived None (desk_buffers archived start stop quality) ++ transcript_from (length earlier + 2) archived later)
+      (transcript earlier ++ flat_map sent (messages_of archived None (desk_buffers archived start stop quality)) ++ transcript_from (length earlier + 2) archived later)
+  pub stream : let messages = messages_of archived None (desk_buffers archived start stop quality) in IsStream 0 (spellings messages) messages [] None
   pub readable : AreReadable archived None (desk_buffers archived start stop quality)
   pub right : (few some : ℕ)
       → IsRightFor (items_in (take few (desk_buffers archived start stop quality))) (archive_of (archive_after archived (take some later))) start stop quality

@@ -1,7 +1,9 @@
--- What the headline rests on: laws of archives and deliveries, of buffers, and of the octets that spell them.
-use Rattle.std.specs.Prelude.{◌≡◌, ℕ, ◌<◌, ◌&&◌, Bool, IsTrue, List, [], ◌∷◌, ◌++◌, length, take}
-use Rattle.std.specs.List.{All, list_any, flat_map}
+-- What the headline rests on: laws of archives and deliveries, of buffers, of the octets that spell them, and of streams.
+use Rattle.std.specs.Prelude.{◌≡◌, ℕ, ◌<◌, ◌&&◌, Bool, IsTrue, List, [], ◌∷◌, ◌++◌, length, take, None}
+use Rattle.std.specs.List.{All, AllByRecursion, list_any, flat_map}
 use Rattle.ber_core.specs.Spelling.{CanonicalSpells}
+use Rattle.isp1_tml.specs.Message.{Content, IsMessage, spellings}
+use Rattle.isp1_tml.specs.Stream.{IsStream}
 use Rattle.return_pdu.specs.Buffers.{FramesAreShort, SpellingNamesItems}
 use Rattle.archive_terms.specs.Archive.{Entry, is_archive, IsArchive, may_follow}
 use Rattle.archive_terms.specs.Delivery.{Item, Terms, entries_of, archived_items, all_items, end_of_data, is_end_of_data, IsBuffer, cut, offline_buffers}
@@ -24,3 +26,4 @@ pub record Known : Type 0 where
   pub short : FramesAreShort
   pub named : SpellingNamesItems
   pub spells : CanonicalSpells
+  pub streams : (place : ℕ) (messages : List Content) → AllByRecursion IsMessage messages → IsStream place (spellings messages) messages [] None

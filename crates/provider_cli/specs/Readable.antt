@@ -2,7 +2,7 @@
 use Rattle.std.specs.Prelude.{◌≡◌, ℕ, Option, List, [], ◌∷◌, map}
 use Rattle.ber_core.specs.Tree.{Tree}
 use Rattle.ber_core.specs.Spelling.{Spells, canonical}
-use Rattle.isp1_tml.specs.Message.{pdu, IsMessage}
+use Rattle.isp1_tml.specs.Message.{Content, pdu, IsMessage}
 use Rattle.return_pdu.specs.Items.{transfer_buffer}
 use Rattle.return_pdu.specs.Buffers as said
 use Rattle.return_pdu.specs.Buffers.{AreItems, buffer_of}
@@ -10,6 +10,13 @@ use Rattle.archive_terms.specs.Delivery.{Item}
 use Rattle.archive_terms.specs.Continuity.{last_frame, with_frame_before}
 use Rattle.provider_cli.specs.declared.entry.Entry.{Entry}
 use Rattle.provider_cli.specs.Transcript.{item_tree}
+
+-- the messages of buffers that are handed over one after another, behind a frame that was handed over last
+abbrev pub messages_of : List Entry → Option ℕ → List (List Item) → List Content
+messages_of entries before [] = []
+messages_of entries before (buffer ∷ buffers) =
+    pdu (canonical (transfer_buffer (map (item_tree entries) (with_frame_before before buffer))))
+    ∷ messages_of entries (last_frame before buffer) buffers
 
 -- A transfer buffer of these trees fits in a message of the transport and says these items: frames, with each field in its
 -- range, and the end of data. Its octets spell them, and no others.

@@ -20,6 +20,7 @@ use archive_terms::laws::{
     prefix_of_all_items,
 };
 use ber_core::laws::canonical_spells;
+use isp1_tml::laws::spelled_is_read;
 use octet_core::{Sink, Source};
 use return_pdu::laws::{frames_are_short, spelling_names_items};
 use std::alloc::{AllocError, Global};
@@ -52,6 +53,7 @@ fn known()
     frames_are_short();
     spelling_names_items();
     canonical_spells();
+    spelled_is_read();
 }
 
 // Reads the script, and runs it.
