@@ -1,4 +1,7 @@
 pub mod Fault
+pub mod FailingCalls
 pub mod Taken
 pub mod Written
+pub mod Writing
 pub mod Doubles
+pub mod Adapters
