@@ -1,30 +1,43 @@
 -- CDS times by CCSDS 301.0-B (day segmented, epoch 1958-01-01): the moment that one names, and its octets.
-use Rattle.std.specs.Prelude.{ℕ, ◌+◌, ◌*◌, ◌^◌, Bool, ◌&&◌, nat_le, if◌then◌else◌, Option, Some, None, List, ◌++◌, take, drop, true, false}
+use Rattle.std.specs.Prelude.{ℕ, ◌+◌, ◌*◌, ◌/◌, ◌%◌, Bool, ◌&&◌, nat_lt, if◌then◌else◌, Option, Some, None, List, ◌++◌, take, drop, true, false}
 use Rattle.std.specs.Int.{w16, w32, to_be_bytes, from_be_bytes}
-use Rattle.cds_time.specs.declared.moment.Cds.{Cds}
-use Rattle.cds_time.specs.declared.moment.Rest.{Rest}
-use Rattle.cds_time.specs.declared.moment.Rest.TheVariants.{Micros, Picos}
+use Rattle.cds_time.specs.declared.cds.Cds.{Cds}
+use Rattle.cds_time.specs.declared.cds.Rest.{Rest}
+use Rattle.cds_time.specs.declared.cds.Rest.TheVariants.{Micros, Picos}
+use Rattle.cds_time.specs.declared.cds.TheConstants.{MILLIS_A_DAY, MICROS_A_MILLI, PICOS_A_MICRO, PICOS_A_MILLI}
 
 -- the part below the millisecond, in picoseconds
 abbrev pub picos_of : Rest → ℕ
-picos_of (Micros n) = n * 10 ^ 6
+picos_of (Micros n) = n * PICOS_A_MICRO
 picos_of (Picos n) = n
 
--- a millisecond has 1,000 microseconds, or 1,000,000,000 picoseconds
+-- the part below the millisecond is less than one
 abbrev pub is_within_milli : Rest → Bool
-is_within_milli (Micros n) = nat_le n 999
-is_within_milli (Picos n) = nat_le n 999999999
+is_within_milli rest = nat_lt (picos_of rest) PICOS_A_MILLI
 
--- a day has 86,400,000 milliseconds
+-- the fields are in range
 abbrev pub names_moment : Cds → Bool
-names_moment time = nat_le time.millis 86399999 && is_within_milli time.rest
+names_moment time = nat_lt time.millis MILLIS_A_DAY && is_within_milli time.rest
 
 -- the picoseconds since 1958-01-01, where the fields are in range
 abbrev pub moment_of : Cds → Option ℕ
 moment_of time =
     if names_moment time
-    then Some ((time.days * 86400000 + time.millis) * 10 ^ 9 + picos_of time.rest)
+    then Some ((time.days * MILLIS_A_DAY + time.millis) * PICOS_A_MILLI + picos_of time.rest)
     else None
+
+-- a whole number of milliseconds, and microseconds below one, as a time
+abbrev pub of_millis : ℕ → ℕ → Cds
+of_millis millis micros = record { days = millis / MILLIS_A_DAY; millis = millis % MILLIS_A_DAY; rest = Micros micros }
+
+-- the time of a moment, rounded down to the microsecond
+abbrev pub in_micros : ℕ → Cds
+in_micros moment =
+    let micros = moment / PICOS_A_MICRO in of_millis (micros / MICROS_A_MILLI) (micros % MICROS_A_MILLI)
+
+-- 1958-01-01, the moment 0
+abbrev pub epoch : Cds
+epoch = record { days = 0; millis = 0; rest = Micros 0 }
 
 -- the part below the millisecond as octets: 2 for microseconds, 4 for picoseconds
 abbrev pub rest_octets : Rest → List ℕ

@@ -2,9 +2,9 @@
 use Rattle.std.specs.Prelude.{◌≡◌, ℕ, ◌^◌, ◌<◌, List, length}
 use Rattle.std.specs.List.{AllByRecursion}
 use Rattle.cds_time.specs.Moment.{octets_of, of_micro_octets, of_pico_octets}
-use Rattle.cds_time.specs.declared.moment.Cds.{Cds}
-use Rattle.cds_time.specs.declared.moment.Rest.{Rest}
-use Rattle.cds_time.specs.declared.moment.Rest.TheVariants.{Micros, Picos}
+use Rattle.cds_time.specs.declared.cds.Cds.{Cds}
+use Rattle.cds_time.specs.declared.cds.Rest.{Rest}
+use Rattle.cds_time.specs.declared.cds.Rest.TheVariants.{Micros, Picos}
 
 abbrev pub RestFits : Rest → Type 0
 RestFits (Micros n) = n < 2 ^ 16

@@ -1,21 +1,17 @@
 -- What a clock tells of its readings.
 use Rattle.std.specs.Prelude.{◌≡◌, ℕ, ◌+◌, ◌-◌, nat_le, min, if◌then◌else◌, Option, Some, None, IfSome, IsSomeAnd, unwrap_or, List, [], ◌∷◌, ◌++◌, length, take, slice_get}
-use Rattle.cds_time.specs.declared.moment.Cds.{Cds}
-use Rattle.cds_time.specs.declared.moment.Rest.TheVariants.{Micros}
+use Rattle.cds_time.specs.Moment.{epoch}
+use Rattle.cds_time.specs.declared.cds.Cds.{Cds}
 
--- after a reading a clock that still tells has told what it told before, and this reading last
-abbrev pub TellsReading : Option (List Cds) → Option (List Cds) → Cds → Type 0
-TellsReading before after reading =
-    IfSome after (λ told. IsSomeAnd before (λ earlier. told ≡ earlier ++ reading ∷ []))
+-- after a call an object that still tells has told what it told before, and this answer last
+abbrev pub TellsNext : {A : Type 0} → Option (List A) → Option (List A) → A → Type 0
+TellsNext before after answer =
+    IfSome after (λ told. IsSomeAnd before (λ earlier. told ≡ earlier ++ answer ∷ []))
 
 -- the readings that a clock in memory is to give, and how many it was asked for, up to one more than there are
 pub record Script : Type 0 where
   pub readings : List Cds
   pub given : ℕ
-
--- 1958-01-01, the moment 0
-abbrev pub epoch : Cds
-epoch = record { days = 0; millis = 0; rest = Micros 0 }
 
 -- the next reading: the one in turn, behind the last one the last again, and of an empty list the epoch
 abbrev pub next_reading : Script → Cds

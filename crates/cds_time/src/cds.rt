@@ -1,15 +1,36 @@
 // Times by their fields, and the moments that they name.
-ghost use Rattle.std.specs.Prelude.{◌≡◌, ◌+◌, ◌*◌, ◌/◌, ◌^◌, ◌<◌, ◌≤◌, ◌++◌, length, take, drop, Some, IfSome, IsTrue};
-ghost use Rattle.cds_time.specs.Moment.{moment_of, octets_of, of_micro_octets, of_pico_octets, is_micros};
+ghost use Rattle.std.specs.Prelude.{◌≡◌, ◌+◌, ◌*◌, ◌/◌, ◌<◌, ◌≤◌, ◌++◌, length, take, drop, Some, IfSome, IsTrue};
+ghost use Rattle.std.specs.Duration.{as_nanos};
+ghost use Rattle.cds_time.specs.Moment.{moment_of, octets_of, of_micro_octets, of_pico_octets, is_micros, in_micros};
+ghost use Rattle.cds_time.specs.Unix.{of_unix_time};
 
-const PICOS_A_MICRO: u128 = 1_000_000;
+use std::time::Duration;
 
-const PICOS_A_MILLI: u128 = 1_000_000_000;
+/// The days that a CDS time can name: those that two octets count.
+pub const DAYS: u128 = 65_536;
 
-const MILLIS_A_DAY: u64 = 86_400_000;
+/// The milliseconds of a day. CDS time has no leap second.
+pub const MILLIS_A_DAY: u64 = 86_400_000;
 
-/// The first moment past the last day that a CDS time can name: 65,536 days, in picoseconds.
-pub const MOMENT_END: u128 = 5_662_310_400_000_000_000_000;
+/// The microseconds of a millisecond.
+pub const MICROS_A_MILLI: u64 = 1_000;
+
+/// The picoseconds of a microsecond.
+pub const PICOS_A_MICRO: u128 = 1_000_000;
+
+/// The picoseconds of a millisecond.
+pub const PICOS_A_MILLI: u128 = 1_000_000_000;
+
+/// The picoseconds of a day.
+pub const PICOS_A_DAY: u128 = MILLIS_A_DAY as u128 * PICOS_A_MILLI;
+
+/// The days from 1958-01-01 to 1970-01-01: twelve years, and the leap days of 1960, 1964 and 1968.
+pub const DAYS_TO_1970: u128 = 4_383;
+
+const PICOS_A_NANO: u128 = 1_000;
+
+/// The first moment past the last day that a CDS time can name, in picoseconds.
+pub const MOMENT_END: u128 = DAYS * PICOS_A_DAY;
 
 /// The part of a CDS time below the millisecond, in the form that it stands in.
 #[derive(Clone, Copy, Debug, PartialEq, Eq)]
@@ -32,16 +53,24 @@ pub struct Cds {
 }
 
 impl Cds {
+    /// 1958-01-01T00:00:00, the moment 0.
+    pub const EPOCH: Cds = Cds {
+        days: 0,
+        millis: 0,
+        rest: Rest::Micros(0),
+    };
+
     /// The moment that the time names, or none where a field is out of its range.
     pub fn moment(&self) -> Option<u128>
         ensures exact { result ≡ moment_of self.now }
         ensures below { IfSome result (λ moment. moment < MOMENT_END) }
     {
-        if self.millis > 86_399_999 {
+        let millis = u64::from(self.millis);
+        if millis >= MILLIS_A_DAY {
             return None;
         }
         let picos = self.rest.picos()?;
-        let millis = u64::from(self.days) * MILLIS_A_DAY + u64::from(self.millis);
+        let millis = u64::from(self.days) * MILLIS_A_DAY + millis;
         Some(u128::from(millis) * PICOS_A_MILLI + picos)
     }
 
@@ -95,16 +124,26 @@ impl Cds {
     /// The time of a moment in the microsecond form, rounded down to the microsecond.
     pub fn of_moment(moment: u128) -> Cds
         requires { moment < MOMENT_END }
-        ensures rounded { moment_of result ≡ Some (moment / 10 ^ 6 * 10 ^ 6) }
+        ensures exact { result ≡ in_micros moment }
+        ensures rounded { moment_of result ≡ Some (moment / PICOS_A_MICRO * PICOS_A_MICRO) }
         ensures form { IsTrue (is_micros result.rest) }
     {
         let micros = (moment / PICOS_A_MICRO) as u64;
-        let millis = micros / 1_000;
+        let millis = micros / MICROS_A_MILLI;
         Cds {
             days: (millis / MILLIS_A_DAY) as u16,
             millis: (millis % MILLIS_A_DAY) as u32,
-            rest: Rest::Micros((micros % 1_000) as u16),
+            rest: Rest::Micros((micros % MICROS_A_MILLI) as u16),
         }
+    }
+
+    /// The time of a Unix time (POSIX, Seconds Since the Epoch: days of 86,400 seconds since
+    /// 1970-01-01 UTC), rounded down to the microsecond, or none past the last day of CDS time.
+    pub fn of_unix_time(since_1970: Duration) -> Option<Cds>
+        ensures { result ≡ of_unix_time (as_nanos since_1970) }
+    {
+        let moment = DAYS_TO_1970 * PICOS_A_DAY + since_1970.as_nanos() * PICOS_A_NANO;
+        (moment < MOMENT_END).then(|| Cds::of_moment(moment))
     }
 }
 
@@ -116,11 +155,11 @@ impl Rest {
     fn picos(self) -> Option<u128>
         ensures { result ≡ (if is_within_milli self then Some (picos_of self) else None) }
     {
-        match self {
-            Rest::Micros(micros) if micros <= 999 => Some(u128::from(micros) * PICOS_A_MICRO),
-            Rest::Picos(picos) if picos <= 999_999_999 => Some(u128::from(picos)),
-            _ => None,
-        }
+        let picos = match self {
+            Rest::Micros(micros) => u128::from(micros) * PICOS_A_MICRO,
+            Rest::Picos(picos) => u128::from(picos),
+        };
+        (picos < PICOS_A_MILLI).then_some(picos)
     }
 }
 
@@ -201,6 +240,36 @@ mod tests {
         );
         assert_eq!(rt; time.put(&mut octets), 10);
         assert_eq!(rt; octets, pico);
+        Ok(())
+    }
+
+    // The fields and the seconds were worked out with Python's datetime.
+    #[test]
+    fn unix_times_have_the_days_of_the_calendar(rt: HostRuntime) -> Result<(), Fail> {
+        let table = [
+            (0, 0, 4_383, 0, 0),
+            (0, 999, 4_383, 0, 0),
+            (0, 1_000, 4_383, 0, 1),
+            (86_399, 999_999_999, 4_383, 86_399_999, 999),
+            (86_400, 0, 4_384, 0, 0),
+            // 2000-02-29T12:34:56.789012 and 2026-11-27T00:00:00
+            (951_827_696, 789_012_345, 15_399, 45_296_789, 12),
+            (1_795_737_600, 0, 25_167, 0, 0),
+            // 2137-06-06T23:59:59.999999, the last microsecond
+            (5_283_619_199, 999_999_999, 65_535, 86_399_999, 999),
+        ];
+        for (seconds, nanos, days, millis, micros) in table {
+            let time = Cds {
+                days,
+                millis,
+                rest: Rest::Micros(micros),
+            };
+            let since_1970 = Duration::new(seconds, nanos);
+            assert_eq!(rt; Cds::of_unix_time(since_1970), Some(time), "at {seconds}");
+        }
+        for seconds in [5_283_619_200, u64::MAX] {
+            assert_eq!(rt; Cds::of_unix_time(Duration::new(seconds, 0)), None);
+        }
         Ok(())
     }
 

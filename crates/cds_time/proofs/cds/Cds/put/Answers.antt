@@ -1,7 +1,7 @@
 use Rattle.std.proofs.Common.{◌≡◌, [], drop, arith}
 use Rattle.std.proofs.lemmas.Grind.{common_steps}
 use Rattle.std.proofs.lemmas.List.{drop_all}
-use Rattle.cds_time.proofs.moment.Cds.put.Goals as goal
+use Rattle.cds_time.proofs.cds.Cds.put.Goals as goal
 
 -- nothing of the ten octets lies behind the tenth
 pub returns-in-Picos-clause-octets : goal.returns-in-Picos-clause-octets

@@ -7,9 +7,9 @@ use Rattle.std.proofs.lemmas.List.{append_assoc, take-append-drop, drop-drop, ge
 use Rattle.std.proofs.lemmas.Bool.{cases_lt}
 use Rattle.cds_time.specs.Moment.{octets_of, of_micro_octets, of_pico_octets}
 use Rattle.cds_time.specs.Octets.{FieldsFit, RestFits, HasOctets, of_octets}
-use Rattle.cds_time.specs.declared.moment.Cds.{Cds}
-use Rattle.cds_time.specs.declared.moment.Rest.{Rest}
-use Rattle.cds_time.specs.declared.moment.Rest.TheVariants.{Micros, Picos}
+use Rattle.cds_time.specs.declared.cds.Cds.{Cds}
+use Rattle.cds_time.specs.declared.cds.Rest.{Rest}
+use Rattle.cds_time.specs.declared.cds.Rest.TheVariants.{Micros, Picos}
 
 abbrev AreOctets : List ℕ → Type 0
 AreOctets octets = (i : ℕ) → get_or octets i 0 < 256
