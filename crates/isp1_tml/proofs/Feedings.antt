@@ -5,7 +5,8 @@ use Rattle.std.specs.Option.{is_some}
 use Rattle.isp1_tml.specs.Given.{front_of}
 use Rattle.std.proofs.lemmas.Bool.{cases_lt}
 use Rattle.std.proofs.Math.Seq.{take-length}
-use Rattle.isp1_tml.specs.declared.fault.TmlFault.{TmlFault}
+use Rattle.isp1_tml.specs.declared.octet_queue.TheConstants.{CAPACITY}
+use Rattle.isp1_tml.specs.declared.tml_fault.TmlFault.{TmlFault}
 use Rattle.isp1_tml.specs.Message.{Content, pdu, context, heartbeat, spelling, spellings}
 use Rattle.isp1_tml.specs.Fault.{capped}
 use Rattle.isp1_tml.specs.Stream.{IsStream}
@@ -30,10 +31,10 @@ take_fewer n t =
       | inr le ↦ ap (λ (k : ℕ). take k t) (omega arith) ∙ take-length t ∙ sym (take_all n t le)
     ]
 
-pub held_with_is : (x t : List ℕ) (w p n : ℕ) (f : Option TmlFault) → IsSplit x w p → n ≡ min (length t) (1048584 - length x) → held_with (feeding_of x w p f) t ≡ x ++ take n t
+pub held_with_is : (x t : List ℕ) (w p n : ℕ) (f : Option TmlFault) → IsSplit x w p → n ≡ min (length t) (CAPACITY - length x) → held_with (feeding_of x w p f) t ≡ x ++ take n t
 held_with_is x t w p n f h e =
-    ap (λ (y : List ℕ). y ++ take (1048584 - length y) t) (held_is x w p f h)
-    ∙ ap (λ (y : List ℕ). x ++ y) (sym (take_fewer (1048584 - length x) t) ∙ ap (λ (k : ℕ). take k t) (sym e))
+    ap (λ (y : List ℕ). y ++ take (CAPACITY - length y) t) (held_is x w p f h)
+    ∙ ap (λ (y : List ℕ). x ++ y) (sym (take_fewer (CAPACITY - length x) t) ∙ ap (λ (k : ℕ). take k t) (sym e))
 
 -- the walk goes on from where the whole messages end
 goes_on : (p q w : ℕ) (x t : List ℕ) (ms : List Content) (r : List ℕ) (f : Option TmlFault) → IsSplit x w p → q ≡ capped (p + w) → IsStream q (from_on w (x ++ t)) ms r f → IsStream p (x ++ t) ((reading p x).messages ++ ms) r f
@@ -48,12 +49,12 @@ goes_on p q w x t ms r f h place s =
 pub record Puts (x piece y z : List ℕ) (p q w b n : ℕ) : Type 0 where
   pub split : IsSplit x w p
   pub before : b ≡ length x
-  pub count : n ≡ min (length piece) (1048584 - b)
+  pub count : n ≡ min (length piece) (CAPACITY - b)
   pub put : z ≡ x ++ take n piece
   pub read : y ≡ z
   pub place : q ≡ capped (p + w)
 
-put_size : (x piece y z : List ℕ) (p q w b n : ℕ) → Puts x piece y z p q w b n → length z ≤ 1048584
+put_size : (x piece y z : List ℕ) (p q w b n : ℕ) → Puts x piece y z p q w b n → length z ≤ CAPACITY
 put_size x piece y z p q w b n h = omega (arith, h.count, h.before, ap length h.put, length-append x (take n piece), length-take n piece, h.split.size)
 
 put_stream : (x piece y z : List ℕ) (p q w b n : ℕ) (ms : List Content) (r : List ℕ) (f : Option TmlFault) → Puts x piece y z p q w b n → IsStream q (from_on w y) ms r f → IsStream p z ((reading p x).messages ++ ms) r f
@@ -75,7 +76,7 @@ put_whole x piece y z p q w b n e ms h within stream =
 -- the same, of the feeder as contracts see it
 pub put_seen : (x piece y z : List ℕ) (p q w b n : ℕ) (f : Option TmlFault) (seen : Feeding) (ms : List Content) (r : List ℕ) (g : Option TmlFault) → Puts x piece y z p q w b n → feeding_of x w p f ≡ seen → IsStream p z ms r g → IsStream seen.place (held_with seen piece) ms r g
 put_seen x piece y z p q w b n f seen ms r g h is s =
-    let count = h.count ∙ ap (λ (k : ℕ). min (length piece) (1048584 - k)) h.before in
+    let count = h.count ∙ ap (λ (k : ℕ). min (length piece) (CAPACITY - k)) h.before in
     let octets : held_with (feeding_of x w p f) piece ≡ z = held_with_is x piece w p n f h.split count ∙ sym h.put in
     subst (λ (v : Feeding). IsStream v.place (held_with v piece) ms r g) is (subst (λ (v : List ℕ). IsStream p v ms r g) (sym octets) s)
 

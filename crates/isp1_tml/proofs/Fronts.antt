@@ -5,7 +5,8 @@ use Rattle.std.specs.Int.{w16, w32, from_be_bytes, to_be_bytes}
 use Rattle.std.proofs.lemmas.Bool.{le-ltb, le-leb}
 use Rattle.std.proofs.lemmas.List.{length-append}
 use Rattle.std.proofs.lemmas.Nat.{from_be_bytes-to_be_bytes_2, from_be_bytes-to_be_bytes_4}
-use Rattle.isp1_tml.specs.declared.fault.TmlFault.{TmlFault}
+use Rattle.isp1_tml.specs.declared.message.TheConstants.{LONGEST_PDU}
+use Rattle.isp1_tml.specs.declared.tml_fault.TmlFault.{TmlFault}
 use Rattle.isp1_tml.specs.Message.{Content, pdu, context, heartbeat, spelling, IsMessage}
 use Rattle.isp1_tml.specs.Fault.{fault_of, wrong_size}
 use Rattle.isp1_tml.specs.Stream.{whole_size, size_among}
@@ -13,11 +14,11 @@ use Rattle.isp1_tml.specs.Reading.{content}
 
 -- ---- what is spelled is found
 
-declared_is : (n : ℕ) → n ≤ 1048576 → from_be_bytes w32 (to_be_bytes w32 n) ≡ n
+declared_is : (n : ℕ) → n ≤ LONGEST_PDU → from_be_bytes w32 (to_be_bytes w32 n) ≡ n
 declared_is n h = from_be_bytes-to_be_bytes_4 n (omega arith)
 
-allowed : (p n : ℕ) → n ≤ 1048576 → wrong_size p 1 (Some n) ≡ None
-allowed p n h = rw (le-leb n 1048576 h) refl
+allowed : (p n : ℕ) → n ≤ LONGEST_PDU → wrong_size p 1 (Some n) ≡ None
+allowed p n h = rw (le-leb n LONGEST_PDU h) refl
 
 pub fault_of-spelling : (p : ℕ) (m : Content) (y : List ℕ) → IsMessage m → fault_of p (spelling m ++ y) ≡ None
 fault_of-spelling p (pdu body) y h =

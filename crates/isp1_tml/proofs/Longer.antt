@@ -2,8 +2,8 @@
 use Rattle.std.proofs.Common.{◌≡◌, ℕ, ◌+◌, Bool, true, false, cond, not, eqb, List, [], ◌∷◌, ◌++◌, length, drop, Option, Some, None, refl, sym, ap, ◌∙◌, ◌⊎◌, append_assoc, inl, inr}
 use Rattle.std.specs.Option.{option_or, option_map}
 use Rattle.std.specs.List.{position_from, zip}
-use Rattle.isp1_tml.specs.declared.fault.TmlFault.{TmlFault}
-use Rattle.isp1_tml.specs.declared.fault.TmlFault.TheVariants.{NotZero, BadContext}
+use Rattle.isp1_tml.specs.declared.tml_fault.TmlFault.{TmlFault}
+use Rattle.isp1_tml.specs.declared.tml_fault.TmlFault.TheVariants.{NotZero, BadContext}
 use Rattle.isp1_tml.specs.Message.{Content, spellings, protocol}
 use Rattle.isp1_tml.specs.Fault.{capped, fault_of, bad_type, not_zero, bad_length, bad_context, wrong_size, declared_length, first_difference}
 use Rattle.isp1_tml.specs.Stream.{IsStream}

@@ -5,8 +5,8 @@ use Rattle.std.specs.List.{position_from, zip}
 use Rattle.std.specs.Int.{w32, from_be_bytes, to_be_bytes}
 use Rattle.std.proofs.lemmas.Bool.{eq-eqb, eqb-true, ltb-true}
 use Rattle.std.proofs.lemmas.List.{append-nil, length-append, length-drop, take-append-drop, take_all}
-use Rattle.isp1_tml.specs.declared.fault.TmlFault.{TmlFault}
-use Rattle.isp1_tml.specs.declared.fault.TmlFault.TheVariants.{BadType, BadLength, TooLong, BadContext, NotZero}
+use Rattle.isp1_tml.specs.declared.tml_fault.TmlFault.{TmlFault}
+use Rattle.isp1_tml.specs.declared.tml_fault.TmlFault.TheVariants.{BadType, BadLength, TooLong, BadContext, NotZero}
 use Rattle.isp1_tml.specs.Message.{Content, header, protocol, spelling, IsMessage}
 use Rattle.isp1_tml.specs.Fault.{capped, fault_of, bad_type, not_zero, bad_length, bad_context, first_difference, is_allowed}
 use Rattle.isp1_tml.specs.Stream.{whole_size, size_among, BeginsHeader, BeginsMessage}

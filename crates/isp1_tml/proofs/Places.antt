@@ -2,8 +2,8 @@
 use Rattle.std.proofs.Common.{◌≡◌, ℕ, ◌+◌, cond, eqb, List, [], ◌∷◌, drop, Option, Some, None, refl, ap, ◌∙◌, arith}
 use Rattle.std.specs.Option.{option_or, option_map}
 use Rattle.std.specs.Int.{is_in_range}
-use Rattle.isp1_tml.specs.declared.fault.TmlFault.{TmlFault}
-use Rattle.isp1_tml.specs.declared.fault.TmlFault.TheVariants.{BadType, NotZero, BadLength, TooLong, BadContext}
+use Rattle.isp1_tml.specs.declared.tml_fault.TmlFault.{TmlFault}
+use Rattle.isp1_tml.specs.declared.tml_fault.TmlFault.TheVariants.{BadType, NotZero, BadLength, TooLong, BadContext}
 use Rattle.isp1_tml.specs.Message.{protocol}
 use Rattle.isp1_tml.specs.Fault.{capped, kind_of, declared_length, first_difference, bad_type, not_zero, bad_length, bad_context, wrong_size, fault_of, is_allowed}
 

@@ -4,11 +4,11 @@ use Rattle.std.specs.List.{AllByRecursion}
 use Rattle.std.specs.Int.{w32, from_be_bytes}
 use Rattle.std.proofs.lemmas.List.{append-nil, length-append, length-drop, length-take-le, take_at, drop_at, take-append-drop}
 use Rattle.std.proofs.lemmas.List.Concat.{flat_map-append}
-use Rattle.isp1_tml.specs.declared.fault.TmlFault.{TmlFault}
+use Rattle.isp1_tml.specs.declared.tml_fault.TmlFault.{TmlFault}
 use Rattle.isp1_tml.specs.Message.{Content, spelling, spellings, IsMessage}
 use Rattle.isp1_tml.specs.Fault.{fault_of}
 use Rattle.isp1_tml.specs.Stream.{whole_size, IsStream}
-use Rattle.isp1_tml.specs.Reading.{Reading, content, at_end, behind, reading_by, reading_within, reading}
+use Rattle.isp1_tml.specs.Reading.{Reading, IsRead, content, at_end, behind, reading_by, reading_within, reading}
 use Rattle.isp1_tml.proofs.Fronts.{fault_of-spelling, whole_size-spelling, content-spelling}
 use Rattle.isp1_tml.proofs.Spelled.{IsOctets, IsOctets-drop, sized, spelled}
 use Rattle.isp1_tml.proofs.Places.{SamePlace, SamePlace-add, fault_of-same}
@@ -98,9 +98,6 @@ within-same_place (suc n) p q x h =
     ∙ same_by _ _ x (fault_of q x) (whole_size x) (λ s e. within-same_place n (p + s) (q + s) (drop s x) (SamePlace-add p q s h))
 
 -- ---- what is worked out is a stream's reading
-
-abbrev pub IsRead : ℕ → List ℕ → Reading → Type 0
-IsRead p x r = IsStream p x r.messages r.rest r.fault
 
 read_by : (p : ℕ) (x : List ℕ) (later : ℕ → Reading) (F : Option TmlFault) (W : Option ℕ) → fault_of p x ≡ F → whole_size x ≡ W → IsOctets x → ((s : ℕ) → W ≡ Some s → IsRead (p + s) (drop s x) (later s)) → IsRead p x (reading_by later x F W)
 read_by p x later (Some fault) W f w o h = record { whole = refl; each = tt; refused = ap (λ (q : ℕ). fault_of q x) (add-zero p) ∙ f; partial = λ e. absurd cc }

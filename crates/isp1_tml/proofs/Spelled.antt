@@ -7,6 +7,7 @@ use Rattle.std.proofs.lemmas.Bool.{ltb-false, leb-true, eqb-true, cases_lt}
 use Rattle.std.proofs.lemmas.List.{length-take, length-take-le, length-drop, get_or-drop, get_or-take, get_or_past}
 use Rattle.std.proofs.lemmas.Nat.{be_bytes_2, be_bytes_4}
 use Rattle.std.proofs.Math.Seq.{take-append-add, take-add}
+use Rattle.isp1_tml.specs.declared.message.TheConstants.{LONGEST_PDU}
 use Rattle.isp1_tml.specs.Message.{protocol}
 use Rattle.isp1_tml.specs.Fault.{fault_of, bad_type, not_zero, bad_length, bad_context, is_allowed}
 use Rattle.isp1_tml.specs.Stream.{whole_size, size_among}
@@ -75,7 +76,7 @@ sized came s n e = by_test (ltb came (8 + s)) refl e
 pub length_octets : (a b c d : ℕ) → IsOctets (a ∷ b ∷ c ∷ d ∷ []) → to_be_bytes w32 (from_be_bytes w32 (a ∷ b ∷ c ∷ d ∷ [])) ≡ a ∷ b ∷ c ∷ d ∷ []
 length_octets a b c d o = be_bytes_4 (a ∷ b ∷ c ∷ d ∷ []) _ refl o refl
 
-pdu_spelled : (a b c d : ℕ) (body : List ℕ) → IsOctets (a ∷ b ∷ c ∷ d ∷ []) → from_be_bytes w32 (a ∷ b ∷ c ∷ d ∷ []) ≡ length body → length body ≤ 1048576 → IsSpelled (1 ∷ 0 ∷ 0 ∷ 0 ∷ a ∷ b ∷ c ∷ d ∷ body)
+pdu_spelled : (a b c d : ℕ) (body : List ℕ) → IsOctets (a ∷ b ∷ c ∷ d ∷ []) → from_be_bytes w32 (a ∷ b ∷ c ∷ d ∷ []) ≡ length body → length body ≤ LONGEST_PDU → IsSpelled (1 ∷ 0 ∷ 0 ∷ 0 ∷ a ∷ b ∷ c ∷ d ∷ body)
 pdu_spelled a b c d body o e h =
     let octets : to_be_bytes w32 (length body) ≡ a ∷ b ∷ c ∷ d ∷ [] = ap (to_be_bytes w32) (sym e) ∙ length_octets a b c d o in
     (h, ap (λ (t : List ℕ). 1 ∷ 0 ∷ 0 ∷ 0 ∷ (t ++ body)) octets)
@@ -111,7 +112,7 @@ none_of_two false false x y e = absurd cc
 by_kind : (p k a b c d : ℕ) (y : List ℕ) → IsOctets (a ∷ b ∷ c ∷ d ∷ []) → IsOctets y → from_be_bytes w32 (a ∷ b ∷ c ∷ d ∷ []) ≤ length y → is_allowed k (from_be_bytes w32 (a ∷ b ∷ c ∷ d ∷ [])) ≡ true → bad_context p (k ∷ 0 ∷ 0 ∷ 0 ∷ a ∷ b ∷ c ∷ d ∷ y) ≡ None → (k ≡ 1) ⊎ ((k ≡ 2) ⊎ (k ≡ 3)) → IsSpelled (k ∷ 0 ∷ 0 ∷ 0 ∷ a ∷ b ∷ c ∷ d ∷ take (from_be_bytes w32 (a ∷ b ∷ c ∷ d ∷ [])) y)
 by_kind p k a b c d y o t long ok fine (inl is) =
     let n = from_be_bytes w32 (a ∷ b ∷ c ∷ d ∷ []) in
-    let small : n ≤ 1048576 = leb-true n 1048576 (subst (λ (j : ℕ). is_allowed j n ≡ true) is ok) in
+    let small : n ≤ LONGEST_PDU = leb-true n LONGEST_PDU (subst (λ (j : ℕ). is_allowed j n ≡ true) is ok) in
     let len : length (take n y) ≡ n = length-take-le n y long in
     subst (λ (j : ℕ). IsSpelled (j ∷ 0 ∷ 0 ∷ 0 ∷ a ∷ b ∷ c ∷ d ∷ take n y)) (sym is) (pdu_spelled a b c d (take n y) o (sym len) (omega arith))
 by_kind p k a b c d y o t long ok fine (inr (inl is)) =

@@ -2,7 +2,7 @@
 use Rattle.std.proofs.Common.{◌≡◌, ℕ, ◌+◌, ◌-◌, ◌≤◌, List, length, take, drop, Option, Some, None, Ok, Err, refl, sym, ap, subst, ◌∙◌, arith}
 use Rattle.std.proofs.lemmas.List.{length-drop, drop-drop}
 use Rattle.std.proofs.Math.Seq.{take-length}
-use Rattle.isp1_tml.specs.declared.fault.TmlFault.{TmlFault}
+use Rattle.isp1_tml.specs.declared.tml_fault.TmlFault.{TmlFault}
 use Rattle.isp1_tml.specs.Fault.{capped, fault_of}
 use Rattle.isp1_tml.specs.Stream.{whole_size, IsStream}
 use Rattle.isp1_tml.specs.Feeding.{HasFault}

@@ -1,5 +1,6 @@
 -- When a heartbeat is due and a peer is taken for dead.
 use Rattle.std.specs.Prelude.{ℕ, ◌-◌, ◌*◌, ◌≤◌, ◌≢◌}
+use Rattle.isp1_tml.specs.declared.beat.TheConstants.{PICOS_A_SECOND}
 
 -- what a connection agreed on, and the moments of the last octets both ways, in picoseconds
 pub record Pulse : Type 0 where
@@ -9,7 +10,7 @@ pub record Pulse : Type 0 where
   pub heard : ℕ
 
 abbrev pub picos : ℕ → ℕ
-picos seconds = seconds * 1000000000000
+picos seconds = seconds * PICOS_A_SECOND
 
 -- nothing was sent for the interval or longer; with interval 0 there are no heartbeats
 abbrev pub IsDue : Pulse → ℕ → Type 0

@@ -4,8 +4,9 @@ use Rattle.std.specs.Prelude.{ℕ, ◌+◌, ◌-◌, ◌^◌, List, [], ◌∷�
 use Rattle.std.specs.Option.{option_or, option_map}
 use Rattle.std.specs.List.{position_from, zip}
 use Rattle.std.specs.Int.{w32, from_be_bytes, is_in_range}
-use Rattle.isp1_tml.specs.declared.fault.TmlFault.{TmlFault}
-use Rattle.isp1_tml.specs.declared.fault.TmlFault.TheVariants.{BadType, NotZero, BadLength, TooLong, BadContext}
+use Rattle.isp1_tml.specs.declared.tml_fault.TmlFault.{TmlFault}
+use Rattle.isp1_tml.specs.declared.tml_fault.TmlFault.TheVariants.{BadType, NotZero, BadLength, TooLong, BadContext}
+use Rattle.isp1_tml.specs.declared.message.TheConstants.{CONTEXT_BODY, LONGEST_PDU}
 use Rattle.isp1_tml.specs.Message.{protocol}
 
 -- a place, which stands still at the greatest number of 64 bits
@@ -33,9 +34,9 @@ bad_type place (kind ∷ octets) = if is_in_range 1 3 kind then None else Some (
 abbrev pub not_zero : ℕ → List ℕ → Option TmlFault
 not_zero place octets = option_map (λ i. NotZero (capped (place + 1 + i))) (first_difference (drop 1 octets) (0 ∷ 0 ∷ 0 ∷ []))
 
--- a PDU has at most 1,048,576 octets, a context 12, a heartbeat none
+-- a PDU is no longer than the longest, a context has the octets of its body, a heartbeat none
 abbrev pub is_allowed : ℕ → ℕ → Bool
-is_allowed kind size = if kind == 1 then nat_le size 1048576 else if kind == 2 then size == 12 else size == 0
+is_allowed kind size = if kind == 1 then nat_le size LONGEST_PDU else if kind == 2 then size == CONTEXT_BODY else size == 0
 
 abbrev pub wrong_size : ℕ → ℕ → Option ℕ → Option TmlFault
 wrong_size place kind None = None

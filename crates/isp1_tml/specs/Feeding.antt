@@ -1,6 +1,7 @@
 -- What a feeder holds, what it gives next, and what it refuses.
 use Rattle.std.specs.Prelude.{◌≡◌, ℕ, ◌+◌, ◌-◌, ◌≤◌, List, [], ◌∷◌, ◌++◌, length, take, drop, Option, Some, None, Result, Ok, Err}
-use Rattle.isp1_tml.specs.declared.fault.TmlFault.{TmlFault}
+use Rattle.isp1_tml.specs.declared.octet_queue.TheConstants.{CAPACITY}
+use Rattle.isp1_tml.specs.declared.tml_fault.TmlFault.{TmlFault}
 use Rattle.isp1_tml.specs.Message.{Content, spelling, spellings}
 use Rattle.isp1_tml.specs.Fault.{capped}
 use Rattle.isp1_tml.specs.Stream.{IsStream}
@@ -21,7 +22,7 @@ abbrev pub held : Feeding → List ℕ
 held f = spellings f.messages ++ f.rest
 
 abbrev pub room_of : Feeding → ℕ
-room_of f = 1048584 - length (held f)
+room_of f = CAPACITY - length (held f)
 
 -- those, and as much of a piece as there is room for
 abbrev pub held_with : Feeding → List ℕ → List ℕ
@@ -67,5 +68,5 @@ feeding_of octets whole place fault = record { messages = (reading place octets)
 -- the parts fit together
 pub record IsSplit (octets : List ℕ) (whole place : ℕ) : Type 0 where
   pub within : whole ≤ length octets
-  pub size : length octets ≤ 1048584
+  pub size : length octets ≤ CAPACITY
   pub stream : IsStream place octets (reading place octets).messages (drop whole octets) None

@@ -1,6 +1,6 @@
 -- What the code's answers say, in the definitions' terms.
 use Rattle.std.specs.Prelude.{ℕ, List, Option, Some, None, Result, Ok, Err}
-use Rattle.isp1_tml.specs.declared.fault.TmlFault.{TmlFault}
+use Rattle.isp1_tml.specs.declared.tml_fault.TmlFault.{TmlFault}
 use Rattle.isp1_tml.specs.declared.message.Message.{Message}
 use Rattle.isp1_tml.specs.declared.message.Message.TheVariants.{Pdu, Context, Heartbeat}
 use Rattle.isp1_tml.specs.Message.{Content, pdu, context, heartbeat}

@@ -3,6 +3,6 @@ pub mod Fault
 pub mod Stream
 pub mod Given
 pub mod Reading
-pub mod Held
+pub mod OctetQueue
 pub mod Feeding
 pub mod Beat

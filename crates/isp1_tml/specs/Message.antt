@@ -2,6 +2,7 @@
 use Rattle.std.specs.Prelude.{ℕ, ◌≤◌, ◌<◌, ◌^◌, List, [], ◌∷◌, ◌++◌, length}
 use Rattle.std.specs.List.{flat_map}
 use Rattle.std.specs.Int.{w16, w32, to_be_bytes}
+use Rattle.isp1_tml.specs.declared.message.TheConstants.{CONTEXT_BODY, LONGEST_PDU}
 
 -- a PDU with its octets, a context with its interval in seconds and its dead factor, or a heartbeat
 pub data Content : Type 0 where
@@ -20,14 +21,14 @@ protocol = 0x49 ∷ 0x53 ∷ 0x50 ∷ 0x31 ∷ 0 ∷ 0 ∷ 0 ∷ 1 ∷ []
 -- the one spelling of a message
 abbrev pub spelling : Content → List ℕ
 spelling (pdu body) = header 1 (length body) ++ body
-spelling (context interval factor) = header 2 12 ++ protocol ++ to_be_bytes w16 interval ++ to_be_bytes w16 factor
+spelling (context interval factor) = header 2 CONTEXT_BODY ++ protocol ++ to_be_bytes w16 interval ++ to_be_bytes w16 factor
 spelling heartbeat = header 3 0
 
 abbrev pub spellings : List Content → List ℕ
 spellings messages = flat_map spelling messages
 
--- what can be a message: a body of at most 1,048,576 octets, and numbers of two octets
+-- what can be a message: a body no longer than the longest, and numbers of two octets
 abbrev pub IsMessage : Content → Type 0
-IsMessage (pdu body) = length body ≤ 1048576
+IsMessage (pdu body) = length body ≤ LONGEST_PDU
 IsMessage (context interval factor) = (interval < 2 ^ 16) × (factor < 2 ^ 16)
 IsMessage heartbeat = Unit {0}

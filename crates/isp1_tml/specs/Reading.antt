@@ -1,10 +1,10 @@
 -- The messages of a list of octets, worked out from left to right.
 use Rattle.std.specs.Prelude.{◌≡◌, ℕ, zero, suc, ◌+◌, List, [], ◌∷◌, length, take, drop, Option, Some, None, ◌==◌, if◌then◌else◌}
 use Rattle.std.specs.Int.{w16, from_be_bytes}
-use Rattle.isp1_tml.specs.declared.fault.TmlFault.{TmlFault}
+use Rattle.isp1_tml.specs.declared.tml_fault.TmlFault.{TmlFault}
 use Rattle.isp1_tml.specs.Message.{Content, pdu, context, heartbeat, spelling, IsMessage}
 use Rattle.isp1_tml.specs.Fault.{kind_of, fault_of}
-use Rattle.isp1_tml.specs.Stream.{whole_size}
+use Rattle.isp1_tml.specs.Stream.{whole_size, IsStream}
 
 -- the message that is spelled by these octets
 abbrev pub content_by : ℕ → List ℕ → Content
@@ -44,3 +44,7 @@ reading_within (suc n) place octets =
 
 abbrev pub reading : ℕ → List ℕ → Reading
 reading place octets = reading_within (length octets) place octets
+
+-- the octets are a stream, which is read so
+abbrev pub IsRead : ℕ → List ℕ → Reading → Type 0
+IsRead place octets r = IsStream place octets r.messages r.rest r.fault

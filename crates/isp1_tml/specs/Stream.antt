@@ -1,7 +1,7 @@
 -- A connection's octets are its messages, one after the other (CCSDS 913.1-B).
 use Rattle.std.specs.Prelude.{◌≡◌, ℕ, ◌+◌, ◌<◌, ◌≤◌, List, ◌++◌, length, Option, Some, None, nat_lt, if◌then◌else◌}
 use Rattle.std.specs.List.{AllByRecursion}
-use Rattle.isp1_tml.specs.declared.fault.TmlFault.{TmlFault}
+use Rattle.isp1_tml.specs.declared.tml_fault.TmlFault.{TmlFault}
 use Rattle.isp1_tml.specs.Message.{Content, IsMessage, header, spelling, spellings}
 use Rattle.isp1_tml.specs.Fault.{declared_length, fault_of}
 

@@ -8,7 +8,8 @@ const PICOS_A_SECOND: u128 = 1_000_000_000_000;
 
 /// The heartbeat of a connection: what its context agreed on, and when octets last went either way.
 ///
-/// A moment is in picoseconds since 1958-01-01. No time has passed from a later moment to an earlier one.
+/// A moment is in picoseconds since 1958-01-01. No time has passed from a later moment to an
+/// earlier one.
 #[derive(Clone, Copy, Debug)]
 pub struct Beat {
     interval: u16,
@@ -22,15 +23,30 @@ impl Model for Beat {
 
     ghost Value = { Pulse };
 
-    ghost view = { λ b. record { interval = b.interval; factor = b.factor; sent = b.sent; heard = b.heard } };
+    ghost view = { λ b. record {
+      interval = b.interval;
+      factor = b.factor;
+      sent = b.sent;
+      heard = b.heard;
+    } };
 
-    ghost inverse = { λ p. record { interval = p.interval; factor = p.factor; sent = p.sent; heard = p.heard } };
+    ghost inverse = { λ p. record {
+      interval = p.interval;
+      factor = p.factor;
+      sent = p.sent;
+      heard = p.heard;
+    } };
 }
 
 impl Beat {
     /// A beat whose connection sent and heard its last octets at `now`. The interval is in seconds.
     pub fn new(interval: u16, factor: u16, now: u128) -> Beat
-        ensures { result ≡ record { interval = interval; factor = factor; sent = now; heard = now } }
+        ensures { result ≡ record {
+          interval = interval;
+          factor = factor;
+          sent = now;
+          heard = now;
+        } }
     {
         Beat {
             interval,

@@ -5,9 +5,16 @@ ghost use Rattle.isp1_tml.specs.Fault.{kind_of};
 ghost use Rattle.isp1_tml.specs.Reading.{content, IsSpelled};
 ghost use Rattle.isp1_tml.specs.Given.{content_of, front_of};
 
-use crate::fault::{TmlFault, declared_length, fault_of};
+use crate::tml_fault::{TmlFault, declared_length, fault_of};
 
-const HEADER: usize = 8;
+/// The octets before a body.
+pub const HEADER: usize = 8;
+
+/// The most octets of a PDU.
+pub const LONGEST_PDU: u32 = 1_048_576;
+
+/// The octets of a context's body.
+pub const CONTEXT_BODY: u32 = 12;
 
 /// One message (CCSDS 913.1-B, transport mapping layer).
 #[derive(Clone, Copy, Debug, PartialEq, Eq)]
@@ -30,11 +37,12 @@ pub fn head(kind: u8, length: u32) -> [u8; 8]
     [kind, 0, 0, 0, a, b, c, d]
 }
 
-// How many octets the message in front has, or none where less than a whole message came; or why the octets,
-// with `place` before them, are refused.
+// How many octets the message in front has, or none where less than a whole message came; or why
+// the octets, with `place` before them, are refused.
 pub(crate) fn front_of(octets: &[u8], place: u64) -> Result<Option<usize>, TmlFault>
     ensures exact { result ≡ front_of place octets.now }
-    ensures spelled { IfOk result (λ o. IfSome o (λ size. (size ≤ length octets.now) × IsSpelled (take size octets.now))) }
+    ensures spelled { IfOk result (λ o. IfSome o (λ size.
+        (size ≤ length octets.now) × IsSpelled (take size octets.now))) }
 {
     if let Some(fault) = fault_of(octets, place) {
         return Err(fault);

@@ -25,8 +25,8 @@ impl Told {
     }
 }
 
-// A context with interval 30 and factor 5, a heartbeat, PDUs of 4, 0 and 17 octets, and a context with the
-// greatest numbers.
+// A context with interval 30 and factor 5, a heartbeat, PDUs of 4, 0 and 17 octets, and a context
+// with the greatest numbers.
 const STREAM: [u8; 96] = *b"\x02\0\0\0\0\0\0\x0cISP1\0\0\0\x01\0\x1e\0\x05\
 \x03\0\0\0\0\0\0\0\
 \x01\0\0\0\0\0\0\x04\x9f\x68\x01\x7f\
@@ -125,6 +125,100 @@ fn every_cut_gives_the_plain_readers_messages(rt: HostRuntime) -> Result<(), Fai
     ] {
         assert_eq!(rt; in_pieces(&rt, rt.alloc(), &STREAM, &sizes)?, whole);
     }
+    Ok(())
+}
+
+#[test]
+fn a_header_in_three_pieces_is_one_heartbeat(rt: HostRuntime) -> Result<(), Fail> {
+    let mut feeder = Feeder::new(rt.alloc()).ok().ok_or("no memory")?;
+    assert_eq!(rt; feeder.feed(b"\x03\0"), Ok(2));
+    assert!(rt; matches!(feeder.next_message(), Ok(None)));
+    assert_eq!(rt; feeder.feed(b"\0\0\0\0\0"), Ok(5));
+    assert!(rt; matches!(feeder.next_message(), Ok(None)));
+    assert_eq!(rt; feeder.feed(b"\0"), Ok(1));
+    assert!(rt; matches!(feeder.next_message(), Ok(Some(Message::Heartbeat))));
+    Ok(())
+}
+
+// The places are counted by hand.
+#[test]
+fn a_piece_is_refused_as_a_whole(rt: HostRuntime) -> Result<(), Fail> {
+    let table: [(&[u8], TmlFault); 6] = [
+        (b"\x02\0\0\0\0\0\0\x0b", TmlFault::BadLength { place: 4 }),
+        (b"\x01\0\x01\0", TmlFault::NotZero { place: 2 }),
+        (b"\x03\0\0\0\0\0\0\0\x04", TmlFault::BadType { place: 8 }),
+        (b"\x03\0\0\0\0\0\x01\0", TmlFault::BadLength { place: 4 }),
+        (
+            b"\x01\0\0\0\0\x10\0\x01",
+            TmlFault::TooLong { length: 1_048_577 },
+        ),
+        // An octet 00 too many before the version.
+        (
+            b"\x02\0\0\0\0\0\0\x0cISP1\0\0\0\0\x01\0\x1e\0\x05",
+            TmlFault::BadContext { place: 15 },
+        ),
+    ];
+    for (piece, fault) in table {
+        let mut feeder = Feeder::new(rt.alloc()).ok().ok_or("no memory")?;
+        assert_eq!(rt; feeder.feed(piece), Err(fault));
+        assert_eq!(rt; feeder.next_message().err(), Some(fault));
+    }
+    Ok(())
+}
+
+#[test]
+fn a_context_and_an_abort_are_given_whole(rt: HostRuntime) -> Result<(), Fail> {
+    let context = b"\x02\0\0\0\0\0\0\x0cISP1\0\0\0\x01\0\x1e\0\x05";
+    let abort = b"\x01\0\0\0\0\0\0\x04\x9f\x68\x01\x7f";
+    let mut feeder = Feeder::new(rt.alloc()).ok().ok_or("no memory")?;
+    assert_eq!(rt; feeder.feed(context), Ok(20));
+    let given = feeder.next_message();
+    assert!(rt;
+        matches!(
+            given,
+            Ok(Some(Message::Context {
+                interval: 30,
+                factor: 5
+            }))
+        )
+    );
+    assert_eq!(rt; feeder.feed(abort), Ok(12));
+    assert!(rt;
+        matches!(
+            feeder.next_message(),
+            Ok(Some(Message::Pdu(b"\x9f\x68\x01\x7f")))
+        )
+    );
+    Ok(())
+}
+
+#[test]
+fn faults_are_told_in_words(rt: HostRuntime) -> Result<(), Fail> {
+    for (fault, words) in [
+        (
+            TmlFault::BadType { place: 8 },
+            "no kind of message at octet 8",
+        ),
+        (TmlFault::NotZero { place: 2 }, "no zero at octet 2"),
+        (
+            TmlFault::BadLength { place: 4 },
+            "no length of its kind at octet 4",
+        ),
+        (
+            TmlFault::TooLong { length: 1_048_577 },
+            "a PDU of 1048577 octets",
+        ),
+        (
+            TmlFault::BadContext { place: 15 },
+            "no context of ISP1 at octet 15",
+        ),
+    ] {
+        assert_eq!(rt; format!(in rt.alloc(); "{fault}")?.as_str(), words);
+    }
+    assert_eq!(rt;
+        format!(in rt.alloc(); "{Memory}")?.as_str(),
+        "out of memory"
+    );
     Ok(())
 }
 

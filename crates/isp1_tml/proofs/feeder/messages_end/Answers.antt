@@ -1,6 +1,6 @@
 use Rattle.std.proofs.Common.{ℕ, Option, Result, Ok, sym, ap, ◌∙◌, arith}
 use Rattle.std.proofs.lemmas.Result.{err_from_is_err_and}
-use Rattle.isp1_tml.specs.declared.fault.TmlFault.{TmlFault}
+use Rattle.isp1_tml.specs.declared.tml_fault.TmlFault.{TmlFault}
 use Rattle.isp1_tml.proofs.Walk.{walk_step, walk_end, walk_fault}
 use Rattle.isp1_tml.proofs.feeder.messages_end.Goals as goal
 

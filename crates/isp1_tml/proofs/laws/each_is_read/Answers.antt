@@ -2,4 +2,4 @@ use Rattle.isp1_tml.proofs.Readings.{is_read}
 use Rattle.isp1_tml.proofs.laws.each_is_read.Goals as goal
 
 pub returns : goal.returns
-returns c p x o = (_, (_, (_, is_read p x o)))
+returns c = is_read

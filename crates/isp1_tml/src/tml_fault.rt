@@ -2,28 +2,43 @@
 ghost use Rattle.std.specs.Prelude.{◌≡◌, ◌+◌, ◌<◌, length, IfSome};
 ghost use Rattle.isp1_tml.specs.Fault.{capped, first_difference, bad_type, not_zero, bad_length, bad_context, declared_length, fault_of, is_allowed};
 
-const LONGEST_PDU: u32 = 1_048_576;
-
-const CONTEXT_BODY: u32 = 12;
+use crate::message::{CONTEXT_BODY, LONGEST_PDU};
+use std::error::Error;
+use std::fmt;
 
 const PROTOCOL: [u8; 8] = [b'I', b'S', b'P', b'1', 0, 0, 0, 1];
 
-/// Why a connection's octets are refused. A place counts the octets before it since the connection's start,
-/// and stands still at `u64::MAX`.
+/// Why a connection's octets are refused. A place counts the octets before it since the
+/// connection's start, and stands still at `u64::MAX`.
 #[derive(Clone, Copy, Debug, PartialEq, Eq)]
 pub enum TmlFault {
     /// A kind other than 1, 2 and 3.
     BadType { place: u64 },
     /// One of the three octets after the kind isn't 0; the place of the first such one.
     NotZero { place: u64 },
-    /// A context's length other than 12, or a heartbeat's other than 0; the place of the length's first octet.
+    /// A context's length other than 12, or a heartbeat's other than 0; the place of the length's
+    /// first octet.
     BadLength { place: u64 },
     /// A PDU of more than 1,048,576 octets.
     TooLong { length: u32 },
-    /// A context's body that doesn't begin with the protocol's name and version; the place of the first octet
-    /// that differs.
+    /// A context's body that doesn't begin with the protocol's name and version; the place of the
+    /// first octet that differs.
     BadContext { place: u64 },
 }
+
+impl fmt::Display for TmlFault {
+    fn fmt<W: fmt::Write>(&self, f: &mut fmt::Formatter<W>) -> fmt::Result {
+        match self {
+            TmlFault::BadType { place } => write!(f, "no kind of message at octet {place}"),
+            TmlFault::NotZero { place } => write!(f, "no zero at octet {place}"),
+            TmlFault::BadLength { place } => write!(f, "no length of its kind at octet {place}"),
+            TmlFault::TooLong { length } => write!(f, "a PDU of {length} octets"),
+            TmlFault::BadContext { place } => write!(f, "no context of ISP1 at octet {place}"),
+        }
+    }
+}
+
+impl Error for TmlFault {}
 
 // The place this many octets further.
 pub(crate) fn further(place: u64, octets: usize) -> u64

@@ -1,39 +1,36 @@
 // The octets that a feeder holds.
 ghost use Rattle.std.specs.Prelude.{◌≡◌, ◌+◌, ◌-◌, ◌≤◌, ◌++◌, [], take, drop, length, vec_len, vec_capacity, IfOk};
 
-use std::alloc::{AllocError, Global};
+use crate::Memory;
+use crate::message::{HEADER, LONGEST_PDU};
+use std::alloc::Global;
 use std::marker::Model;
 
-/// No memory was left.
-#[derive(Clone, Copy, Debug, PartialEq, Eq)]
-pub struct Memory;
-
-impl From<AllocError> for Memory {
-    fn from(_: AllocError) -> Memory {
-        Memory
-    }
-}
-
 /// The most octets that are held: those of the longest message.
-pub const CAPACITY: usize = 1_048_584;
+pub const CAPACITY: usize = HEADER + LONGEST_PDU as usize;
 
-// A queue of octets in memory that is reserved once. Octets that were given stay behind it until others need
-// their place, so that they can be lent.
+// A queue of octets in memory that is reserved once. Octets that were given stay behind it until
+// others need their place, so that they can be lent.
 #[derive(Drop)]
-pub(crate) struct Held {
+pub(crate) struct OctetQueue {
     octets: Vec<u8>,
     start: usize,
 }
 
-impl Model for Held {
+impl Model for OctetQueue {
     ghost use Rattle.std.specs.Prelude.{◌≤◌, take, drop, vec_len, vec_capacity};
-    ghost use Rattle.isp1_tml.specs.Held.{Queue};
+    ghost use Rattle.isp1_tml.specs.OctetQueue.{Queue};
+    ghost use Rattle.isp1_tml.specs.declared.octet_queue.TheConstants.{CAPACITY};
 
     ghost Value = { Queue };
 
-    ghost view = { λ a. record { given = take a.start a.octets.items; waiting = drop a.start a.octets.items } };
+    ghost view = { λ a. record {
+      given = take a.start a.octets.items;
+      waiting = drop a.start a.octets.items;
+    } };
 
-    ghost invariant = { λ a. (a.start ≤ vec_len a.octets) × (vec_len a.octets ≤ 1048584) × (1048584 ≤ vec_capacity a.octets) };
+    ghost invariant = { λ a. (a.start ≤ vec_len a.octets)
+        × (vec_len a.octets ≤ CAPACITY) × (CAPACITY ≤ vec_capacity a.octets) };
 }
 
 // Drops the first `start` octets, and moves the others to the front.
@@ -48,12 +45,12 @@ fn move_to_front(octets: &mut Vec<u8>, start: usize)
     octets.truncate(count);
 }
 
-impl Held {
-    pub fn new(alloc: Global) -> Result<Held, Memory>
+impl OctetQueue {
+    pub fn new(alloc: Global) -> Result<OctetQueue, Memory>
         ensures { IfOk result (λ h. h.waiting ≡ []) }
     {
         let octets = Vec::with_capacity(alloc, CAPACITY)?;
-        Ok(Held { octets, start: 0 })
+        Ok(OctetQueue { octets, start: 0 })
     }
 
     pub fn len(&self) -> usize
@@ -69,8 +66,8 @@ impl Held {
         &self.octets[self.start..]
     }
 
-    // Appends a piece. What waits is moved to the front where that costs no more than was given, or where the
-    // space behind it is too small.
+    // Appends a piece. What waits is moved to the front where that costs no more than was given, or
+    // where the space behind it is too small.
     pub fn put(&mut self, piece: &[u8])
         requires { length self.old.waiting + length piece.now ≤ CAPACITY }
         ensures { self.new.waiting ≡ self.old.waiting ++ piece.now }
