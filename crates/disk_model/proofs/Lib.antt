@@ -1,3 +1,4 @@
 pub mod Patched
 pub mod Replay
 pub mod Calls
+pub mod Runs

@@ -90,6 +90,6 @@ FailsToCut size old new =
     (new ≡ old) ⊎ ((length : ℕ) × (size ≤ length) × (new ≡ with_cut size (take length old.content) old))
 
 -- The content is an image, and the last good sync left no less than the least length.
-pub record IsHeld (pending : Pending) : Type 0 where
+pub record IsCoherent (pending : Pending) : Type 0 where
   pub synced : pending.least ≤ length pending.synced
   pub content : IsImage pending pending.content

@@ -1,22 +1,30 @@
 // A disk, what it may hold at any moment, and a disk in memory that stops and fails as it is told.
 //
-// An image of a disk is what may stand on it after a crash. `Disk` says, for each call, what is pending
-// after it, also where it fails, and which images there are at every moment since it began. A disk that
-// doesn't tell what is pending has no images to speak of, and only its size and its count of faults are
-// claimed. `laws` says what the definition of images means.
+// An image of a disk is what may stand on it after a crash. `Disk` says, for each call, what is
+// pending after it, also where it fails, and which images there are at every moment since it began.
+// A disk that doesn't tell what is pending has no images to speak of, and only its size, its count
+// of faults and what it tells of its calls are claimed. `laws` says what the definitions mean.
 //
-// `MemoryDisk` tells all of its octets. It is a double for tests and scripts: it counts its writes, cuts
-// and syncs, logs those that took effect, fails at those of a list, stops at one, and leaves what a pick
-// says. A call costs as much as the octets that it moves; a restart costs as much as all that was written
-// since the last one, and so much memory is kept. `FileDisk` is an adapter over a file, and tells nothing
-// of its octets.
+// `MemoryDisk` tells all of its octets. It is a double for tests and scripts: it counts its writes,
+// cuts and syncs, logs those that took effect, fails and stops as its owner steers it, and leaves
+// what a pick says. A call costs as much as the octets that it moves. A restart costs as much as
+// the disk holds and as was written since the one before; all that was ever written is kept in
+// memory. `FileDisk` is an adapter over a file, and tells nothing of its octets.
 #![tactic(auto)]
 
+mod call;
 mod disk;
-mod file;
+mod event;
+mod file_disk;
 pub mod laws;
 mod memory;
+mod memory_disk;
+mod orders;
 
+pub use call::Call;
 pub use disk::Disk;
-pub use file::FileDisk;
-pub use memory::{Call, MemoryDisk, Pick, Stop};
+pub use event::Event;
+pub use file_disk::FileDisk;
+pub use memory::Memory;
+pub use memory_disk::MemoryDisk;
+pub use orders::{Orders, Pick, Stop};

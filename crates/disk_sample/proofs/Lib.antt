@@ -1,2 +1,4 @@
 pub mod Writes
-pub mod Gates
+pub mod Files
+pub mod Recovery
+pub mod Adding

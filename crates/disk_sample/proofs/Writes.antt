@@ -1,7 +1,7 @@
 -- The images of a disk that is written and synced.
 use Rattle.std.proofs.Common.{◌≡◌, inl, inr, ℕ, List, [], length, Option, Some, None, option_map, IfSome, Result, Ok, Err, OnOk, OnErr, ap, subst, sym, ◌∙◌}
-use Rattle.octet_core.specs.declared.answers.Failed.{Failed}
-use Rattle.disk_model.specs.Images.{Pending, IsImage, IsHeld, FailsToWrite, with_range, after_write, after_sync}
+use Rattle.octet_core.specs.declared.failed.Failed.{Failed}
+use Rattle.disk_model.specs.Images.{Pending, IsImage, IsCoherent, FailsToWrite, with_range, after_write, after_sync}
 use Rattle.disk_model.specs.Moments.{IsImageOf, Becomes}
 use Rattle.disk_sample.specs.Gated.{written_and_synced}
 
@@ -39,7 +39,7 @@ during_write keeps (Err error) (Some told) (Some now) place octets written faile
 during_write keeps (Err error) (Some told) None place octets written failed image is = absurd failed
 during_write keeps (Err error) None mid place octets written failed image is = subst (λ (p : Option Pending). IsImageOf p image) failed is
 
-pub during_sync : LeavesOne → {T : Type 0} → (result : Result T Failed) (mid new : Option Pending) → IfSome mid IsHeld
+pub during_sync : LeavesOne → {T : Type 0} → (result : Result T Failed) (mid new : Option Pending) → IfSome mid IsCoherent
     → OnOk result (new ≡ option_map after_sync mid) → OnErr result (new ≡ mid)
     → (image : List ℕ) → IsImageOf new image → IsImageOf mid image
 during_sync leaves (Ok value) (Some told) new held synced failed image is =

@@ -1,39 +1,63 @@
--- Octets behind gates, and what a disk that holds them stands for.
-use Rattle.std.specs.Prelude.{ℕ, ◌*◌, ◌≡◌, ◌⊎◌, ◌==◌, if◌then◌else◌, Option, Some, None, IfSome, List, [], ◌∷◌, ◌++◌, length}
+-- Octets behind gates, and what a file of them stands for.
+use Rattle.std.specs.Prelude.{ℕ, ◌+◌, ◌*◌, ◌≡◌, ◌≢◌, ◌⊎◌, Bool, Option, Some, None, IfSome, IsSomeAnd, List, [], ◌∷◌, ◌++◌, length}
 use Rattle.disk_model.specs.Images.{Pending, all_synced, overwritten}
+use Rattle.disk_model.specs.Moments.{Elapses}
+use Rattle.disk_model.specs.declared.call.Call.{Call}
+use Rattle.disk_model.specs.declared.call.Call.TheVariants.{Write, Sync}
 
--- the octets up to the first gate that isn't open (A5): what follows it is free
-abbrev pub stands_for : List ℕ → List ℕ
-stands_for (gate ∷ octet ∷ rest) = if gate == 165 then octet ∷ stands_for rest else []
-stands_for rest = []
-
--- each octet behind an open gate
+-- each octet behind an open gate (A5)
 abbrev pub gated : List ℕ → List ℕ
 gated [] = []
 gated (octet ∷ octets) = 165 ∷ octet ∷ gated octets
 
--- each octet behind an open gate, and then a closed one
-abbrev pub stored : List ℕ → List ℕ
-stored octets = gated octets ++ 0 ∷ []
+-- A file stands for octets: each behind an open gate, and then a gate that isn't open. Anything may follow that one.
+pub record StandsFor (octets file : List ℕ) : Type 0 where
+  pub gate : ℕ
+  pub rest : List ℕ
+  pub shut : gate ≢ 165
+  pub is : file ≡ gated octets ++ gate ∷ rest
 
--- what a read of the disk stands for, or nothing where the disk doesn't tell
-abbrev pub kept_in : Option Pending → List ℕ
-kept_in None = []
-kept_in (Some told) = stands_for told.content
+-- a disk that tells holds a file that stands for these octets, all synced
+abbrev pub Keeps : Option Pending → List ℕ → Type 0
+Keeps pending octets = IsSomeAnd pending (λ told. (told ≡ all_synced told.content) × StandsFor octets told.content)
 
--- the disk holds its octets, then the closed gate at this place, and all of that is synced
+-- a disk that tells keeps octets, and the gate behind them stands at this place
 abbrev pub IsAtRest : Option Pending → ℕ → Type 0
-IsAtRest pending gate =
-    IfSome pending (λ told. (told ≡ all_synced (stored (stands_for told.content))) × (gate ≡ 2 * length (stands_for told.content)))
+IsAtRest pending gate = IfSome pending (λ told. (octets : List ℕ) × Keeps (Some told) octets × (gate ≡ 2 * length octets))
 
--- what a disk at rest becomes with one octet more
-abbrev pub with_octet : ℕ → Pending → Pending
-with_octet octet told = all_synced (stored (stands_for told.content ++ octet ∷ []))
+-- what follows the octets of a file that stands for nothing: no gate, or an open one at the end
+abbrev pub IsCut : List ℕ → Type 0
+IsCut rest = (rest ≡ []) ⊎ (rest ≡ 165 ∷ [])
+
+-- what follows octets: none, and a gate that isn't open, or an octet behind an open gate, and the rest
+abbrev pub IsBehind : List ℕ → Option ℕ → List ℕ → Type 0
+IsBehind file None rest = (gate : ℕ) × (more : List ℕ) × (gate ≢ 165) × (file ≡ gate ∷ more)
+IsBehind file (Some octet) rest = file ≡ 165 ∷ octet ∷ rest
+
+-- the octet at the front of a list, or none of an empty one
+abbrev pub IsFirst : List ℕ → Option ℕ → List ℕ → Type 0
+IsFirst file None rest = file ≡ []
+IsFirst file (Some octet) rest = file ≡ octet ∷ rest
+
+-- nothing but reads: what is pending stays, also where one fails
+pub record OnlyReads {D : Type 0} (pending : D → Option Pending) (moment : D → ℕ) (images_since : D → ℕ → List ℕ → Type 0) (old new : D) : Type 0 where
+  pub same : pending new ≡ pending old
+  pub time : Elapses (moment old) (moment new) (images_since old) (images_since new) (pending new)
+
+-- an image stands for the old octets, or for these and the new one
+abbrev pub IsOldOrNew : List ℕ → ℕ → List ℕ → Type 0
+IsOldOrNew octets octet image = StandsFor octets image ⊎ StandsFor (octets ++ octet ∷ []) image
+
+-- the counted calls that add an octet at a gate
+abbrev pub adding : ℕ → ℕ → List Call
+adding gate octet = Write (gate + 1) (octet ∷ 0 ∷ []) ∷ Sync ∷ Write gate (165 ∷ []) ∷ Sync ∷ []
 
 -- what octets become that were written and synced
 abbrev pub written_and_synced : ℕ → List ℕ → Pending → Pending
 written_and_synced place octets told = all_synced (overwritten told.content place octets)
 
--- an image stands for the old octets, or for these and the new one
-abbrev pub IsOldOrNew : List ℕ → ℕ → List ℕ → Type 0
-IsOldOrNew old octet image = (stands_for image ≡ old) ⊎ (stands_for image ≡ old ++ octet ∷ [])
+-- octets behind gates on a disk, as contracts see them: the gate behind them, and whether adding one has failed
+pub record GatesState (D : Type 0) : Type 0 where
+  pub disk : D
+  pub gate : ℕ
+  pub is_stale : Bool
