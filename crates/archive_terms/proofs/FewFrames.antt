@@ -1,9 +1,9 @@
 -- A few frames fill a buffer by their number alone.
-use Rattle.std.proofs.Common.{◌≡◌, ℕ, ◌+◌, ◌*◌, ◌<◌, ◌≤◌, Bool, true, false, cond, ◌&&◌, ◌||◌, nat_le, List, [], ◌∷◌, length, refl, ap, sym, ◌∙◌, arith, inl, inr}
+use Rattle.std.proofs.Common.{◌≡◌, ℕ, ◌+◌, ◌*◌, ◌<◌, ◌≤◌, Bool, true, false, cond, ◌||◌, nat_le, List, [], ◌∷◌, length, refl, ap, sym, ◌∙◌, arith, inl, inr}
 use Rattle.std.specs.List.{filter, list_all, list_any, sum_by, enumerate_from}
 use Rattle.std.proofs.lemmas.List.Sums.{sum_by-cons}
 use Rattle.std.proofs.lemmas.Bool.{and_parts, and_from, leb-true, le-leb, lt-leb, cases_lt, or_left}
-use Rattle.archive_terms.specs.Archive.{Entry, frame, loss_of_sync, production, seal, is_valid_frame, is_storable, may_precede, is_archive}
+use Rattle.archive_terms.specs.Archive.{Entry, frame, loss_of_sync, production, seal, is_valid_frame, is_storable, is_ordered, is_archive}
 use Rattle.archive_terms.specs.Selection.{Selection, admits, picked}
 use Rattle.archive_terms.specs.Delivery.{Item, archived, backlog, end_of_data, archived_items, frame_octets, is_notice_item, is_full, is_complete, is_short_frame}
 use Rattle.archive_terms.proofs.Picks.{picked-frames}
@@ -44,12 +44,6 @@ complete_by_number size items small short =
           ∙ sym (le-leb size (length items) full)
     ]
 
-storable : (a : List Entry) → is_archive a ≡ true → list_all is_storable a ≡ true
-storable [] archive = refl
-storable (x ∷ a) archive =
-    let outer : (is_storable x && list_all (may_precede x) a ≡ true) × (is_archive a ≡ true) = and_parts (is_storable x && list_all (may_precede x) a) (is_archive a) archive in
-    and_from (is_storable x) (list_all is_storable a) (and_parts (is_storable x) (list_all (may_precede x) a) outer.0).0 (storable a outer.1)
-
 admitted_short : (s : Selection) (n : ℕ) (a : List Entry) → list_all is_storable a ≡ true
     → list_all is_short_frame (archived_items (filter (λ x. admits s x.0 x.1) (enumerate_from n a))) ≡ true
 admitted_short s n [] all = refl
@@ -73,4 +67,4 @@ admitted_short s n (seal t ∷ a) all = admitted_short s (n + 1) a (and_parts (i
 
 pub picked_short : (a : List Entry) (s : Selection) → s.notices ≡ false → is_archive a ≡ true → list_all is_short_frame (archived_items (picked a s)) ≡ true
 picked_short a s none archive =
-    ap (λ xs. list_all is_short_frame (archived_items xs)) (picked-frames a s none) ∙ admitted_short s 0 a (storable a archive)
+    ap (λ xs. list_all is_short_frame (archived_items xs)) (picked-frames a s none) ∙ admitted_short s 0 a (and_parts (list_all is_storable a) (is_ordered a) archive).0

@@ -1,14 +1,14 @@
 -- Continuities add up.
-use Rattle.std.proofs.Common.{◌≡◌, ℕ, suc, ◌+◌, ◌-◌, ◌<◌, ◌≤◌, List, [], ◌∷◌, ◌++◌, length, take, drop, slice_index, map, pos, negsuc, Option, Some, refl, ap, sym, ◌∙◌, arith, subst}
+use Rattle.std.proofs.Common.{◌≡◌, ℕ, suc, ◌+◌, ◌-◌, ◌<◌, ◌≤◌, min, List, [], ◌∷◌, ◌++◌, length, take, drop, slice_index, map, pos, negsuc, Option, Some, refl, ap, sym, ◌∙◌, arith, subst}
 use Rattle.std.specs.List.{sum_by, sum, All, filter_map}
 use Rattle.std.specs.List.Sorted.{IsStrictlyIncreasing}
-use Rattle.std.proofs.lemmas.List.{length-take, drop_all, drop-take, drop-drop}
+use Rattle.std.proofs.lemmas.List.{length-take, length-append, drop_all, take_all, take-take, take-append-drop, drop-take, drop-drop}
 use Rattle.std.proofs.lemmas.List.Sums.{sum_by-cons, sum_by-append}
 use Rattle.std.proofs.Math.Seq.{take-add}
 use Rattle.std.specs.Option.{option_or}
 use Rattle.archive_terms.specs.Archive.{Entry, frame, loss_of_sync, production, seal}
 use Rattle.archive_terms.specs.Delivery.{Item, archived, backlog, end_of_data}
-use Rattle.archive_terms.specs.Continuity.{lost_of, lost_between, gap, gaps, frame_place, frame_places, last_frame, with_frame_before, continuity_of, continuities}
+use Rattle.archive_terms.specs.Continuity.{lost_of, lost_between, lost_up_to, gap, gaps, frame_place, frame_places, last_frame, with_frame_before, continuity_of, continuities}
 
 -- what was lost over a stretch of entries
 lost_over : (a : List Entry) (p q : ℕ) → p ≤ q
@@ -17,7 +17,7 @@ lost_over a p q rise =
     let end : q + 1 ≡ (p + 1) + (q - p) = omega arith in
     ap (λ n. sum_by lost_of (drop (p + 1) (take n a))) end ∙ ap (sum_by lost_of) (drop-take (p + 1) (q - p) a)
 
-lost-add : (a : List Entry) (p q r : ℕ) → p ≤ q → q ≤ r
+pub lost-add : (a : List Entry) (p q r : ℕ) → p ≤ q → q ≤ r
     → lost_between a p r ≡ lost_between a p q + lost_between a q r
 lost-add a p q r first second =
     let x : List Entry = drop (p + 1) a in
@@ -31,6 +31,24 @@ lost-add a p q r first second =
     ∙ sum_by-append lost_of (take (q - p) x) (take (r - q) (drop (q - p) x))
     ∙ ap (λ n. n + sum_by lost_of (take (r - q) (drop (q - p) x))) (sym (lost_over a p q first))
     ∙ ap (λ n. lost_between a p q + n) (sym back)
+
+-- the running sum grows by what was lost between two places
+pub lost_running : (a : List Entry) (p q : ℕ) → p ≤ q → lost_up_to a (p + 1) + lost_between a p q ≡ lost_up_to a (q + 1)
+lost_running a p q rise =
+    let front : take (p + 1) (take (q + 1) a) ≡ take (p + 1) a = take-take (p + 1) (q + 1) a (omega arith) in
+    ap (λ xs. sum_by lost_of xs + lost_between a p q) (sym front)
+    ∙ sym (sum_by-append lost_of (take (p + 1) (take (q + 1) a)) (drop (p + 1) (take (q + 1) a)))
+    ∙ ap (sum_by lost_of) (take-append-drop (p + 1) (take (q + 1) a))
+
+pub lost_one_more : (a : List Entry) (e : Entry) → lost_up_to (a ++ e ∷ []) (length a + 1) ≡ lost_up_to a (length a) + lost_of e
+lost_one_more a e =
+    let all : take (length a + 1) (a ++ e ∷ []) ≡ a ++ e ∷ [] = take_all (length a + 1) (a ++ e ∷ []) (omega (arith, length-append a (e ∷ []))) in
+    let front : take (length a) a ≡ a = take_all (length a) a (omega arith) in
+    omega (arith, ap (sum_by lost_of) all, ap (sum_by lost_of) front, sum_by-append lost_of a (e ∷ []), sum_by-cons lost_of e [])
+
+-- capped sums add up to a capped sum
+pub gap-add : (a : List Entry) (p q r : ℕ) → p ≤ q → q ≤ r → gap a p r ≡ min 16777215 (gap a p q + gap a q r)
+gap-add a p q r first second = omega (arith, lost-add a p q r first second)
 
 lost_nowhere : (a : List Entry) (p : ℕ) → lost_between a p p ≡ 0
 lost_nowhere a p =

@@ -1,6 +1,7 @@
 -- What a round adds to what a delivery has done.
-use Rattle.std.proofs.Common.{◌≡◌, ℕ, ◌+◌, ◌<◌, ◌≤◌, Bool, true, false, cond, not, ◌&&◌, ◌||◌, nat_lt, List, [], ◌∷◌, ◌++◌, length, take, drop, slice_get, get_or, Some, refl, ap, sym, ◌∙◌, arith, subst, inl, inr}
-use Rattle.std.specs.List.{list_any, list_all, filter_map, flat_map, All}
+use Rattle.std.proofs.Common.{◌≡◌, ℕ, ◌+◌, ◌<◌, ◌≤◌, Bool, true, false, cond, not, ◌||◌, nat_lt, List, [], ◌∷◌, ◌++◌, length, take, drop, slice_get, get_or, Option, Some, None, refl, ap, sym, ◌∙◌, arith, subst, inl, inr}
+use Rattle.std.specs.List.{list_any, list_all, filter_map, flat_map, All, cons_option}
+use Rattle.std.specs.Option.{IfSome}
 use Rattle.std.proofs.lemmas.List.{length-take-le, length-drop, append-nil, map-append, take_at, take-append-le}
 use Rattle.std.proofs.lemmas.List.Elements.{filter-append, filter_map-append, All-append}
 use Rattle.std.proofs.lemmas.List.Folds.{list_all-append}
@@ -8,8 +9,8 @@ use Rattle.std.proofs.lemmas.Grind.{flat_map-append}
 use Rattle.std.proofs.lemmas.Bool.{and_from, false≢true, true≢false, lt-ltb, cases_lt}
 use Rattle.std.proofs.Math.Seq.{take-add}
 use Rattle.archive_terms.specs.Archive.{Entry}
-use Rattle.archive_terms.specs.Delivery.{Mode, is_timely, Item, archived, end_of_data, archived_items, is_archived, is_complete, is_backlog, Terms, Delivery, buffer, is_discardable, released}
-use Rattle.archive_terms.specs.Rounds.{Answer, whole, stall, answered, fate, Outcome, nothing, handed, kept, discarded, handed_in, handed_items, handed_buffer, handed_buffers, settled_in, settled_items, without_backlog, begins_with_backlog, is_handed, is_discarded, is_untold, is_discarded_rightly, has_no_later_backlog}
+use Rattle.archive_terms.specs.Delivery.{Mode, is_timely, Item, archived, end_of_data, backlog, archived_items, is_archived, is_complete, is_backlog, Terms, Delivery, buffer, is_discardable, released}
+use Rattle.archive_terms.specs.Rounds.{Answer, whole, stall, fail, answered, fate, Outcome, kept, discarded, failed, handed_in, handed_items, handed_buffer, handed_buffers, settled_in, settled_items, without_backlog, begins_with_backlog, is_handed, is_discarded, is_untold, IsDiscardedRightly, has_no_later_backlog}
 use Rattle.archive_terms.proofs.Buffers.{InLimits, nothing_complete}
 use Rattle.archive_terms.proofs.States.{State, going, owing, telling, ending, over, is_discardable-parts}
 use Rattle.archive_terms.proofs.Lists.{without_backlog-archived, no_backlog, some_archived, slice_get-push, is_untold-push, or_false}
@@ -19,17 +20,16 @@ abbrev pub reached : List (ℕ × Entry) → ℕ → Bool → List Item
 reached entries n ended = archived_items (take n entries) ++ cond ended (end_of_data ∷ []) []
 
 abbrev pub OnHanded : Outcome → (List Item → Type 0) → Type 0
-OnHanded (handed items) P = P items
-OnHanded _ P = Unit {0}
+OnHanded o P = IfSome (handed_buffer o) P
 
 -- what was done by a delivery that has come to d
 pub record History (t : Terms) (entries : List (ℕ × Entry)) (done : List Outcome) (d : Delivery) : Type 0 where
   pub settled : without_backlog (settled_items done) ≡ reached entries d.settled d.ended
   pub all_handed : is_timely t.mode ≡ false → handed_items done ≡ reached entries d.settled d.ended
   pub limits : All (InLimits t.size) (handed_buffers done)
-  pub rightly : is_timely t.mode ≡ true → list_all is_discarded_rightly done ≡ true
+  pub rightly : is_timely t.mode ≡ true → All IsDiscardedRightly done
   pub owed : is_untold done ≡ d.owed
-  pub told : (i : ℕ) (items : List Item) → slice_get done i ≡ Some (handed items)
+  pub told : (i : ℕ) (o : Outcome) (items : List Item) → slice_get done i ≡ Some o → handed_buffer o ≡ Some items
       → begins_with_backlog items ≡ is_untold (take i done)
   pub told_once : list_all has_no_later_backlog (handed_buffers done) ≡ true
 
@@ -38,7 +38,7 @@ pub record Adds (t : Terms) (entries : List (ℕ × Entry)) (d : Delivery) (o : 
   pub settled : reached entries d.settled d.ended ++ without_backlog (settled_in o) ≡ reached entries d'.settled d'.ended
   pub all_handed : is_timely t.mode ≡ false
       → reached entries d.settled d.ended ++ handed_in o ≡ reached entries d'.settled d'.ended
-  pub rightly : is_timely t.mode ≡ true → is_discarded_rightly o ≡ true
+  pub rightly : is_timely t.mode ≡ true → IsDiscardedRightly o
   pub owed : cond (is_handed o) false (d.owed || is_discarded o) ≡ d'.owed
   pub on_handed : OnHanded o (λ items. InLimits t.size items × (begins_with_backlog items ≡ d.owed) × (has_no_later_backlog items ≡ true))
 
@@ -61,21 +61,20 @@ History-add t entries done d o d' h a = record {
       λ mode. flat_map-push handed_in done o ∙ ap (λ xs. xs ++ handed_in o) (h.all_handed mode)
       ∙ a.all_handed mode;
   limits =
-      subst (All (InLimits t.size)) (sym buffers) (All-append (InLimits t.size) (handed_buffers done) (new_buffers o) h.limits (new_limits o a.on_handed));
-  rightly = λ mode. list_all-append is_discarded_rightly done (o ∷ [])
-      ∙ and_from (list_all is_discarded_rightly done) (is_discarded_rightly o && true) (h.rightly mode) (and_from (is_discarded_rightly o) true (a.rightly mode) refl);
+      subst (All (InLimits t.size)) (sym buffers) (All-append (InLimits t.size) (handed_buffers done) (new_buffers o) h.limits (new_limits (handed_buffer o) a.on_handed));
+  rightly = λ mode. All-append IsDiscardedRightly done (o ∷ []) (h.rightly mode) (one_all IsDiscardedRightly o (a.rightly mode));
   owed = is_untold-push done o ∙ ap (λ b. cond (is_handed o) false (b || is_discarded o)) h.owed ∙ a.owed;
-  told = λ i items is. elim (slice_get-push done o (handed items) i is) [
-    | inl before ↦ h.told i items before.1
+  told = λ i x items is takes. elim (slice_get-push done o x i is) [
+    | inl before ↦ h.told i x items before.1 takes
         ∙ ap is_untold (sym (take-append-le i done (o ∷ []) (let l : i < length done = before.0 in omega arith)))
     | inr last ↦
-        (let fact : Fact items = subst (λ x. OnHanded x Fact) last.1 a.on_handed in fact.1)
+        (let fact : Fact items = subst (λ m. IfSome m Fact) (ap handed_buffer last.1 ∙ takes) a.on_handed in fact.1)
         ∙ sym h.owed ∙ ap is_untold (sym (take_at done (o ∷ []) i (sym last.0)))
   ];
   told_once =
       ap (list_all has_no_later_backlog) buffers
       ∙ list_all-append has_no_later_backlog (handed_buffers done) (new_buffers o)
-      ∙ and_from (list_all has_no_later_backlog (handed_buffers done)) (list_all has_no_later_backlog (new_buffers o)) h.told_once (new_once o a.on_handed);
+      ∙ and_from (list_all has_no_later_backlog (handed_buffers done)) (list_all has_no_later_backlog (new_buffers o)) h.told_once (new_once (handed_buffer o) a.on_handed);
 }
   where
     new_buffers : Outcome → List (List Item)
@@ -88,22 +87,18 @@ History-add t entries done d o d' h a = record {
     Fact =
         λ items. InLimits t.size items × (begins_with_backlog items ≡ d.owed) × (has_no_later_backlog items ≡ true)
 
-    new_limits : (o : Outcome) → OnHanded o Fact → All (InLimits t.size) (new_buffers o)
-    new_limits (handed items) fact = one_all (InLimits t.size) items fact.0
-    new_limits nothing fact = λ k d below. absurd (omega arith)
-    new_limits (kept items) fact = λ k d below. absurd (omega arith)
-    new_limits (discarded items) fact = λ k d below. absurd (omega arith)
+    new_limits : (m : Option (List Item)) → IfSome m Fact → All (InLimits t.size) (cons_option m [])
+    new_limits (Some items) fact = one_all (InLimits t.size) items fact.0
+    new_limits None fact = λ k d below. absurd (omega arith)
 
-    new_once : (o : Outcome) → OnHanded o Fact → list_all has_no_later_backlog (new_buffers o) ≡ true
-    new_once (handed items) fact = and_from (has_no_later_backlog items) true fact.2 refl
-    new_once nothing fact = refl
-    new_once (kept items) fact = refl
-    new_once (discarded items) fact = refl
+    new_once : (m : Option (List Item)) → IfSome m Fact → list_all has_no_later_backlog (cons_option m []) ≡ true
+    new_once (Some items) fact = and_from (has_no_later_backlog items) true fact.2 refl
+    new_once None fact = refl
 
 -- what a round that changes nothing adds
 pub adds_nothing : (t : Terms) (entries : List (ℕ × Entry)) (d : Delivery) (o : Outcome) → settled_in o ≡ []
     → handed_in o ≡ [] → is_handed o ≡ false → is_discarded o ≡ false
-    → (is_timely t.mode ≡ true → is_discarded_rightly o ≡ true)
+    → (is_timely t.mode ≡ true → IsDiscardedRightly o)
     → OnHanded o (λ items. InLimits t.size items × (begins_with_backlog items ≡ d.owed) × (has_no_later_backlog items ≡ true))
     → Adds t entries d o d
 adds_nothing t entries d o no_item none_handed not_handed not_discarded right on = record {
@@ -149,7 +144,7 @@ end_in_limits size some = record {
 }
 
 -- a buffer that isn't discarded has no picked entry
-none_archived : (t : Terms) (entries : List (ℕ × Entry)) (closed : Bool) (d : Delivery)
+pub none_archived : (t : Terms) (entries : List (ℕ × Entry)) (closed : Bool) (d : Delivery)
     → State t entries closed d → d.held ≡ 0 → list_any is_archived (buffer entries d) ≡ false
 none_archived t entries closed d (going n k fixed since fits limits) none =
     ap (λ k. list_any is_archived (archived_items (take k (drop n entries)))) none
@@ -161,7 +156,7 @@ none_archived t entries closed d (ending n k fixed since all held fix shut) none
 none_archived t entries closed d (over n k fixed since all held fix shut) none =
     ap (λ k. list_any is_archived (archived_items (take k (drop n entries)))) none
 
-some_held : (n k : ℕ) (entries : List (ℕ × Entry)) → n + k ≤ length entries → 0 < k
+pub some_held : (n k : ℕ) (entries : List (ℕ × Entry)) → n + k ≤ length entries → 0 < k
     → list_any is_archived (archived_items (take k (drop n entries))) ≡ true
 some_held n k entries fits some =
     some_archived (take k (drop n entries)) (omega (arith, length-take-le k (drop n entries) (omega (arith, length-drop n entries))))
@@ -171,13 +166,13 @@ adds_stalled : (t : Terms) (entries : List (ℕ × Entry)) (closed : Bool) (d : 
     → (discards ≡ false → is_timely t.mode ≡ true → d.held ≡ 0) → State t entries closed d
     → Adds t entries d (cond discards (discarded (buffer entries d)) (kept (buffer entries d))) (cond discards (record (released d) { owed = true }) d)
 adds_stalled t entries closed d false why else s =
-    adds_nothing t entries d (kept (buffer entries d)) refl refl refl refl (λ timely. ap not (none_archived t entries closed d s (else refl timely))) tt
+    adds_nothing t entries d (kept (buffer entries d)) refl refl refl refl (λ timely. sym (ap (λ b. cond b (Some (buffer entries d)) None) (none_archived t entries closed d s (else refl timely)))) tt
 adds_stalled t entries closed d true why else (going n k fixed since fits limits) = record {
   settled =
       ap (λ xs. reached entries n false ++ xs) (without_backlog-archived (take k (drop n entries)))
       ∙ reached-more n k entries;
   all_handed = λ mode. absurd (true≢false (sym (why refl).0 ∙ mode));
-  rightly = λ mode. some_held n k entries fits (why refl).1;
+  rightly = λ mode. sym (ap (λ b. cond b (Some (archived_items (take k (drop n entries)))) None) (some_held n k entries fits (why refl).1));
   owed = refl;
   on_handed = tt;
 }
@@ -186,7 +181,7 @@ adds_stalled t entries closed d true why else (telling n k fixed since fits limi
       ap (λ xs. reached entries n false ++ xs) (without_backlog-archived (take k (drop n entries)))
       ∙ reached-more n k entries;
   all_handed = λ mode. absurd (true≢false (sym timely ∙ mode));
-  rightly = λ mode. some_held n k entries fits (why refl).1;
+  rightly = λ mode. sym (ap (λ b. cond b (Some (backlog ∷ archived_items (take k (drop n entries)))) None) (some_held n k entries fits (why refl).1));
   owed = refl;
   on_handed = tt;
 }
@@ -210,6 +205,7 @@ pub adds_answered : (t : Terms) (entries : List (ℕ × Entry)) (closed : Bool) 
     → Adds t entries d (fate t answer d (buffer entries d)) (answered t answer d)
 adds_answered t entries closed stall d some is s =
     adds_stalled t entries closed d (is_discardable t.mode d) (is_discardable-parts t.mode d) (not_discardable t.mode d) s
+adds_answered t entries closed fail d some is s = adds_nothing t entries d (failed (buffer entries d)) refl refl refl refl (λ timely. refl) tt
 adds_answered t entries closed whole d some is (going n k fixed since fits limits) = record {
   settled =
       ap (λ xs. reached entries n false ++ xs) (without_backlog-archived (take k (drop n entries)))

@@ -12,3 +12,10 @@ pub mod Prefixes
 pub mod OfflineRounds
 pub mod Gaps
 pub mod FewFrames
+pub mod Told
+pub mod Links
+pub mod Counts
+pub mod Waiting
+pub mod Fills
+pub mod Agreement
+pub mod Agreeing

@@ -1,12 +1,13 @@
 -- An offline delivery whose front stands still and whose offers are taken hands over the cut buffers.
-use Rattle.std.proofs.Common.{◌≡◌, ℕ, suc, ◌+◌, ◌-◌, ◌<◌, ◌≤◌, Bool, true, false, cond, not, ◌&&◌, ◌||◌, nat_eq, nat_le, List, [], ◌∷◌, ◌++◌, map, length, take, drop, Some, None, refl, ap, sym, ◌∙◌, arith, inl, inr}
+use Rattle.std.proofs.Common.{◌≡◌, ℕ, suc, ◌+◌, ◌<◌, ◌≤◌, Bool, true, false, cond, ◌&&◌, ◌||◌, nat_eq, nat_lt, List, [], ◌∷◌, ◌++◌, map, length, take, drop, Some, None, refl, ap, sym, ◌∙◌, arith, inl, inr}
 use Rattle.std.specs.List.{list_any, filter, cons_option}
-use Rattle.std.proofs.lemmas.List.{length-drop, length-map, take_all, drop_all, drop-drop, drop-map, take-map, nil_from_length}
-use Rattle.std.proofs.lemmas.Bool.{and_parts, cases_lt, both_ways, true≢false, false≢true, eq-eqb, ne_eqb, and_left, and_from}
+use Rattle.std.specs.Option.{option_map_or}
+use Rattle.std.proofs.lemmas.List.{length-drop, length-take, length-map, take_all, drop_all, drop-drop, drop-map, take-map, nil_from_length}
+use Rattle.std.proofs.lemmas.Bool.{and_parts, cases_lt, both_ways, true≢false, false≢true, eq-eqb, ltb-true, lt-ltb, and_left, and_from}
 use Rattle.archive_terms.specs.Archive.{Entry}
 use Rattle.archive_terms.specs.Selection.{is_stop_closed}
-use Rattle.archive_terms.specs.Delivery.{is_online, Item, archived, end_of_data, archived_items, is_notification, is_notice_item, is_full, is_complete, buffer_length, cut, offline_buffers, Terms, Delivery, buffer, is_due, with_due_fixed, taken_whole, started}
-use Rattle.archive_terms.specs.Rounds.{whole, fate, nothing, picked_at, outcomes, handed_buffer, handed_buffers, free_round}
+use Rattle.archive_terms.specs.Delivery.{is_online, Item, archived, end_of_data, archived_items, is_notification, is_notice_item, is_late, limit_of, is_full, is_complete, buffer_length, cut, offline_buffers, Terms, Delivery, buffer, is_due, with_due_fixed, started}
+use Rattle.archive_terms.specs.Rounds.{whole, free, answered, fate, nothing, is_failed, picked_at, outcomes, handed_buffer, handed_buffers, free_round}
 use Rattle.archive_terms.proofs.Buffers.{room, room-le, takes_one, buffer_length-stops}
 use Rattle.archive_terms.proofs.States.{end_is_due}
 use Rattle.archive_terms.proofs.Histories.{end_alone}
@@ -68,33 +69,30 @@ due_is_complete : (t : Terms) (entries : List (ℕ × Entry)) (now n k since : �
 due_is_complete t entries now n k since off due =
     let held : List (ℕ × Entry) = take k (drop n entries) in
     let b : List Item = archived_items held in
-    let late : Bool = is_online t.mode && nat_le t.latency (now - since) in
+    let late : Bool = is_late (limit_of t) since now in
     let any : (list_any is_notification b || is_full t.size b || late || false) ≡ true =
-    (and_parts (not (true && nat_eq k 0)) _ due).1 in
+    (and_parts (nat_lt 0 (length b)) _ due).1 in
     ap (λ noted. is_full t.size b || noted) (sym (same_notices held))
-    ∙ full_or_noted (list_any is_notification b) (is_full t.size b) late any (and_left (is_online t.mode) (nat_le t.latency (now - since)) off)
+    ∙ full_or_noted (list_any is_notification b) (is_full t.size b) late any (ap (λ on. is_late (cond on (Some t.latency) None) since now) off)
 
 due_holds : (t : Terms) (entries : List (ℕ × Entry)) (closed : Bool) (now n k since : ℕ)
     → is_due t entries closed now (resting n k since false false) ≡ true → 0 < k
 due_holds t entries closed now n k since due =
-    elim (cases_lt 0 k) [
-      | inl some ↦ some
-      | inr none ↦
-          let zero_is : k ≡ 0 = omega arith in
-          let empty : not (true && nat_eq k 0) ≡ false = ap (λ b. not (true && b)) (eq-eqb k 0 zero_is) in
-          absurd (false≢true (sym empty ∙ (and_parts (not (true && nat_eq k 0)) _ due).0))
-    ]
+    let held : List (ℕ × Entry) = take k (drop n entries) in
+    let some : 0 < length (archived_items held) =
+    ltb-true 0 (length (archived_items held)) (and_parts (nat_lt 0 (length (archived_items held))) _ due).0 in
+    omega (arith, length-map held (λ x. archived x.0 x.1), length-take k (drop n entries))
 
 -- a held buffer that isn't due is neither complete nor the last before a closed stop
-not_due : (t : Terms) (entries : List (ℕ × Entry)) (closed : Bool) (now n k since : ℕ) → 0 < k
+not_due : (t : Terms) (entries : List (ℕ × Entry)) (closed : Bool) (now n k since : ℕ) → 0 < length (take k (drop n entries))
     → is_due t entries closed now (resting n k since false false) ≡ false
     → (is_complete t.size (archived_items (take k (drop n entries))) ≡ false) × ((closed && nat_eq (n + k) (length entries)) ≡ false)
 not_due t entries closed now n k since some due =
     let held : List (ℕ × Entry) = take k (drop n entries) in
     let b : List Item = archived_items held in
-    let late : Bool = is_online t.mode && nat_le t.latency (now - since) in
+    let late : Bool = is_late (limit_of t) since now in
     let last : Bool = closed && nat_eq (n + k) (length entries) in
-    let full : not (true && nat_eq k 0) ≡ true = ap (λ b. not (true && b)) (ne_eqb k 0 (λ e. omega arith)) in
+    let full : nat_lt 0 (length b) ≡ true = lt-ltb 0 (length b) (omega (arith, length-map held (λ x. archived x.0 x.1))) in
     let none : (list_any is_notification b || is_full t.size b || late || last) ≡ false =
     sym (ap (λ x. x && (list_any is_notification b || is_full t.size b || late || last)) full) ∙ due in
     let parts : ((is_full t.size b || list_any is_notification b) ≡ false) × (last ≡ false) =
@@ -186,7 +184,7 @@ nothing_left t entries closed now n since some within no_end due =
         → left t entries closed n ≡ []
     with_some closed held due =
         let parts : (is_complete t.size (archived_items (take k waiting)) ≡ false) × ((closed && nat_eq (n + k) (length entries)) ≡ false) =
-        not_due t entries closed now n k since held due in
+        not_due t entries closed now n k since (omega (arith, length-take k waiting, room-le t.size None waiting)) due in
         let all : length waiting ≤ k = elim (cases_lt k (length waiting)) [
           | inl less ↦ absurd (both_ways (is_complete t.size (archived_items (take k waiting))) parts.0 (complete_or_last t.size waiting less))
           | inr all ↦ all
@@ -200,8 +198,9 @@ handed_from t a front moments d = handed_buffers (outcomes t a (map (free_round 
 -- the same, where the first round's step has led to d
 abbrev handed_at : Terms → List Entry → ℕ → List ℕ → Delivery → List (List Item)
 handed_at t a front moments d =
-    cons_option (handed_buffer (cond (d.fixed && true) (fate t whole d (buffer (picked_at t a front) d)) nothing))
-    (handed_from t a front moments (cond (d.fixed && true) (taken_whole d) d))
+    let answer = cond d.fixed (Some whole) None in
+    cons_option (handed_buffer (option_map_or (λ x. fate t x d (buffer (picked_at t a front) d)) answer nothing))
+    (handed_buffers (cond (is_failed (free whole) answer) [] (outcomes t a (map (free_round front) moments) (option_map_or (λ x. answered t x d) answer d))))
 
 over_at : (t : Terms) (a : List Entry) (front : ℕ) (moments : List ℕ) (n k since : ℕ) (due : Bool)
     → due ≡ false
@@ -219,7 +218,7 @@ over_hands_nothing t a front (now ∷ moments) n k since all =
     let entries : List (ℕ × Entry) = picked_at t a front in
     let more : ℕ = held_from t entries n in
     let none : more ≡ 0 = omega (arith, room-le t.size None (drop n entries), length-drop n entries) in
-    over_at t a front moments n more _ _ (and_left (not (true && nat_eq more 0)) _ (ap (λ b. not (true && b)) (eq-eqb more 0 none)))
+    over_at t a front moments n more _ _ (and_left (nat_lt 0 (length (archived_items (take more (drop n entries))))) _ (ap (λ k. nat_lt 0 (length (archived_items (take k (drop n entries))))) none))
     (over_hands_nothing t a front moments n more _ all)
 
 take_none : {X : Type 0} → (n : ℕ) → take n (let none : List X = [] in none) ≡ []
@@ -258,7 +257,9 @@ end_at t a front now moments n k since true why else =
     let all : left t entries (closed_at t a front) n ≡ (end_of_data ∷ []) ∷ [] =
     ap (offline_buffers t.size (drop n entries)) w.1
     ∙ ap (λ xs. offline_buffers t.size xs true) (drop_all n entries (let e : n ≡ length entries = w.2 in omega arith)) in
-    ap (λ buffers. (end_of_data ∷ archived_items (take k (drop n entries))) ∷ buffers)
+    ap (λ b. handed_at t a front moments (record { settled = n; held = k; head = Some end_of_data; owed = false; fixed = b && true; since = since; ended = false }))
+    (lt-ltb 0 (length (end_of_data ∷ archived_items (take k (drop n entries)))) (omega arith))
+    ∙ ap (λ buffers. (end_of_data ∷ archived_items (take k (drop n entries))) ∷ buffers)
     (over_hands_nothing t a front moments (n + k) 0 since (let e : n ≡ length entries = w.2 in omega arith))
     ∙ ap (λ b. b ∷ []) (end_alone n k entries w.0)
     ∙ ap (λ buffers. (end_of_data ∷ []) ∷ buffers) (sym (take_none (length moments)))

@@ -7,8 +7,9 @@ use Rattle.std.proofs.lemmas.List.Folds.{list_all-append, list_any-append}
 use Rattle.std.proofs.lemmas.Bool.{and_parts, or_cases, leb-true, ltb-true, lt-ltb, lt-leb, or_left, and_from, or_from, and_right, not_from_true}
 use Rattle.std.proofs.Math.Seq.{take-append-add}
 use Rattle.std.specs.Option.{option_map_or}
-use Rattle.archive_terms.specs.Archive.{Entry, frame, loss_of_sync, production, seal, may_precede, is_storable, is_archive, closes, is_closed}
-use Rattle.archive_terms.specs.Selection.{Selection, fits, is_not_before, is_not_after, is_notice, is_started, admits, is_stop_closed, is_told, is_picked, picked}
+use Rattle.cds_time.specs.Moment.{moment_of}
+use Rattle.archive_terms.specs.Archive.{Entry, frame, loss_of_sync, production, seal, frame_time, seal_time, is_from, is_above, may_precede, is_storable, is_ordered, is_archive, closes, is_closed}
+use Rattle.archive_terms.specs.Selection.{Selection, fits, is_not_before, is_not_after, is_between, is_notice, is_started, admits, is_stop_closed, is_told, is_picked, picked}
 
 enumerate_from-append : {X : Type 0} → (n : ℕ) (xs ys : List X)
     → enumerate_from n (xs ++ ys) ≡ enumerate_from n xs ++ enumerate_from (n + length xs) ys
@@ -64,21 +65,32 @@ picked-prefix a b s =
     ap (take (length (picked a s))) (picked-append a b s)
     ∙ take_at (picked a s) (picked_behind a b s) (length (picked a s)) refl
 
--- an entry that isn't a frame, or one above the stop
+-- an entry that is no frame up to the stop
 abbrev pub is_past : ℕ → Entry → Bool
-is_past stop (frame f) = nat_lt stop f.time
-is_past stop _ = true
+is_past stop entry = option_map_or (λ t. nat_lt stop t) (frame_time entry) true
 
 past_behind : (stop : ℕ) (x y : Entry) → closes stop x ≡ true → may_precede x y ≡ true → is_past stop y ≡ true
-past_behind stop (frame a) (frame b) closed after =
-    lt-ltb stop b.time (omega (arith, ltb-true stop a.time closed, leb-true a.time b.time after))
-past_behind stop (seal t) (frame b) closed after =
-    lt-ltb stop b.time (omega (arith, leb-true stop t closed, ltb-true t b.time after))
-past_behind stop (loss_of_sync l) (frame b) closed after = cc
-past_behind stop (production p) (frame b) closed after = cc
-past_behind stop x (loss_of_sync l) closed after = refl
-past_behind stop x (production p) closed after = refl
-past_behind stop x (seal t) closed after = refl
+past_behind stop x y closed after =
+    let outer : ((is_from (frame_time x) (frame_time y) && is_above (seal_time x) (frame_time y)) ≡ true) × (is_from (seal_time x) (seal_time y) ≡ true) =
+    and_parts (is_from (frame_time x) (frame_time y) && is_above (seal_time x) (frame_time y)) (is_from (seal_time x) (seal_time y)) after in
+    let parts : (is_from (frame_time x) (frame_time y) ≡ true) × (is_above (seal_time x) (frame_time y) ≡ true) =
+    and_parts (is_from (frame_time x) (frame_time y)) (is_above (seal_time x) (frame_time y)) outer.0 in
+    elim (or_cases (option_map_or (λ t. nat_lt stop t) (frame_time x) false) (option_map_or (λ t. nat_le stop t) (seal_time x) false) closed) [
+      | inl by_frame ↦ above_frame (frame_time x) (frame_time y) by_frame parts.0
+      | inr by_seal ↦ above_seal (seal_time x) (frame_time y) by_seal parts.1
+    ]
+  where
+    above_frame : (t u : Option ℕ) → option_map_or (λ t. nat_lt stop t) t false ≡ true → is_from t u ≡ true
+        → option_map_or (λ u. nat_lt stop u) u true ≡ true
+    above_frame t None closed after = refl
+    above_frame None (Some u) closed after = cc
+    above_frame (Some t) (Some u) closed after = lt-ltb stop u (omega (arith, ltb-true stop t closed, leb-true t u after))
+
+    above_seal : (t u : Option ℕ) → option_map_or (λ t. nat_le stop t) t false ≡ true → is_above t u ≡ true
+        → option_map_or (λ u. nat_lt stop u) u true ≡ true
+    above_seal t None closed after = refl
+    above_seal None (Some u) closed after = cc
+    above_seal (Some t) (Some u) closed after = lt-ltb stop u (omega (arith, leb-true stop t closed, ltb-true t u after))
 
 all_past : (stop : ℕ) (x : Entry) (ys : List Entry) → closes stop x ≡ true
     → list_all (may_precede x) ys ≡ true → list_all (is_past stop) ys ≡ true
@@ -89,16 +101,14 @@ all_past stop x (y ∷ ys) closed after =
     and_from (is_past stop y) (list_all (is_past stop) ys) (past_behind stop x y closed parts.0) (all_past stop x ys closed parts.1)
 
 -- behind a list that closes a stop an archive has no frame up to it
-pub past_closed : (stop : ℕ) (a b : List Entry) → is_closed a stop ≡ true → is_archive (a ++ b) ≡ true
+past_closed : (stop : ℕ) (a b : List Entry) → is_closed a stop ≡ true → is_ordered (a ++ b) ≡ true
     → list_all (is_past stop) b ≡ true
-past_closed stop [] b closed archive = cc
-past_closed stop (x ∷ a) b closed archive =
-    let parts : (is_storable x && list_all (may_precede x) (a ++ b) ≡ true) × (is_archive (a ++ b) ≡ true) =
-    and_parts (is_storable x && list_all (may_precede x) (a ++ b)) (is_archive (a ++ b)) archive in
-    let order : list_all (may_precede x) (a ++ b) ≡ true =
-    (and_parts (is_storable x) (list_all (may_precede x) (a ++ b)) parts.0).1 in
+past_closed stop [] b closed ordered = cc
+past_closed stop (x ∷ a) b closed ordered =
+    let parts : (list_all (may_precede x) (a ++ b) ≡ true) × (is_ordered (a ++ b) ≡ true) =
+    and_parts (list_all (may_precede x) (a ++ b)) (is_ordered (a ++ b)) ordered in
     let behind : list_all (may_precede x) b ≡ true =
-    (and_parts (list_all (may_precede x) a) (list_all (may_precede x) b) (sym (list_all-append (may_precede x) a b) ∙ order)).1 in
+    (and_parts (list_all (may_precede x) a) (list_all (may_precede x) b) (sym (list_all-append (may_precede x) a b) ∙ parts.0)).1 in
     elim (or_cases (closes stop x) (is_closed a stop) closed) [
       | inl here ↦ all_past stop x b here behind
       | inr later ↦ past_closed stop a b later parts.1
@@ -126,10 +136,15 @@ not_picked_past s stop a b k x known closed behind past =
         ap (λ o. option_map_or (is_closed (take k (a ++ b))) o false) known
         ∙ ap (λ before. is_closed before stop) split ∙ is_closed-append stop a (take (k - length a) b) closed
 
+    not_between : (o t : Option ℕ) → o ≡ Some stop → option_map_or (λ u. nat_lt stop u) t true ≡ true
+        → option_map_or (λ u. is_not_before s.start u && is_not_after o u) t false ≡ false
+    not_between o None known past = refl
+    not_between o (Some u) known past =
+        and_right (is_not_before s.start u) (is_not_after o u) (ap (λ o. is_not_after o u) known ∙ lt-leb u stop (ltb-true stop u past))
+
     not_admitted : (x : Entry) → is_past stop x ≡ true → admits s k x ≡ false
     not_admitted (frame f) past =
-        and_right (nat_le s.first k && fits s.filter f && is_not_before s.start f.time) (is_not_after s.stop f.time)
-        (ap (λ o. is_not_after o f.time) known ∙ lt-leb f.time stop (ltb-true stop f.time past))
+        and_right (nat_le s.first k && fits s.filter f) (is_between s (moment_of f.ert)) (not_between s.stop (moment_of f.ert) known past)
     not_admitted (loss_of_sync l) past = refl
     not_admitted (production p) past = refl
     not_admitted (seal t) past = refl
@@ -139,7 +154,7 @@ pub nothing_behind : (a b : List Entry) (s : Selection) (stop : ℕ) → s.stop 
     → is_archive (a ++ b) ≡ true → picked_behind a b s ≡ []
 nothing_behind a b s stop known closed archive =
     filter_none (λ x. is_picked s (a ++ b) x.0 x.1) (is_past stop) (length a) (0 + length a) b (omega arith)
-    (past_closed stop a b closed archive) (λ k x late past. not_picked_past s stop a b k x known closed late past)
+    (past_closed stop a b closed (and_parts (list_all is_storable (a ++ b)) (is_ordered (a ++ b)) archive).1) (λ k x late past. not_picked_past s stop a b k x known closed late past)
 
 pub picked_is_final_lem : (a b : List Entry) (s : Selection) (stop : ℕ) → s.stop ≡ Some stop
     → is_closed a stop ≡ true
@@ -164,17 +179,22 @@ is_stop_closed-append s a b closed =
     let known : (stop : ℕ) × (s.stop ≡ Some stop) × (is_closed a stop ≡ true) = stop_known s a closed in
     ap (λ o. option_map_or (is_closed (a ++ b)) o false) known.1 ∙ is_closed-append known.0 a b known.2
 
+is_ordered-append_left : (a b : List Entry) → is_ordered (a ++ b) ≡ true → is_ordered a ≡ true
+is_ordered-append_left [] b ordered = refl
+is_ordered-append_left (x ∷ a) b ordered =
+    let parts : (list_all (may_precede x) (a ++ b) ≡ true) × (is_ordered (a ++ b) ≡ true) =
+    and_parts (list_all (may_precede x) (a ++ b)) (is_ordered (a ++ b)) ordered in
+    and_from (list_all (may_precede x) a) (is_ordered a)
+    (and_parts (list_all (may_precede x) a) (list_all (may_precede x) b) (sym (list_all-append (may_precede x) a b) ∙ parts.0)).0
+    (is_ordered-append_left a b parts.1)
+
 pub is_archive-append_left : (a b : List Entry) → is_archive (a ++ b) ≡ true → is_archive a ≡ true
-is_archive-append_left [] b archive = refl
-is_archive-append_left (x ∷ a) b archive =
-    let outer : (is_storable x && list_all (may_precede x) (a ++ b) ≡ true) × (is_archive (a ++ b) ≡ true) =
-    and_parts (is_storable x && list_all (may_precede x) (a ++ b)) (is_archive (a ++ b)) archive in
-    let inner : (is_storable x ≡ true) × (list_all (may_precede x) (a ++ b) ≡ true) =
-    and_parts (is_storable x) (list_all (may_precede x) (a ++ b)) outer.0 in
-    let front : list_all (may_precede x) a ≡ true =
-    (and_parts (list_all (may_precede x) a) (list_all (may_precede x) b) (sym (list_all-append (may_precede x) a b) ∙ inner.1)).0 in
-    and_from (is_storable x && list_all (may_precede x) a) (is_archive a)
-    (and_from (is_storable x) (list_all (may_precede x) a) inner.0 front) (is_archive-append_left a b outer.1)
+is_archive-append_left a b archive =
+    let parts : (list_all is_storable (a ++ b) ≡ true) × (is_ordered (a ++ b) ≡ true) =
+    and_parts (list_all is_storable (a ++ b)) (is_ordered (a ++ b)) archive in
+    and_from (list_all is_storable a) (is_ordered a)
+    (and_parts (list_all is_storable a) (list_all is_storable b) (sym (list_all-append is_storable a b) ∙ parts.0)).0
+    (is_ordered-append_left a b parts.1)
 
 -- without notices only admitted frames are picked
 pub picked-frames : (a : List Entry) (s : Selection) → s.notices ≡ false

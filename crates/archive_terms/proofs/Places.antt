@@ -1,6 +1,7 @@
 -- Places that rise.
-use Rattle.std.proofs.Common.{◌≡◌, ℕ, zero, suc, ◌+◌, ◌<◌, ◌≤◌, Bool, true, false, cond, List, [], ◌∷◌, ◌++◌, map, length, slice_index, arith, subst, zero-add}
-use Rattle.std.specs.List.{filter, enumerate_from}
+use Rattle.std.proofs.Common.{◌≡◌, ℕ, zero, suc, ◌+◌, ◌<◌, ◌≤◌, Bool, true, false, cond, nat_lt, List, [], ◌∷◌, ◌++◌, map, length, slice_index, arith, subst, zero-add, refl}
+use Rattle.std.specs.List.{filter, list_all, enumerate_from}
+use Rattle.std.proofs.lemmas.Bool.{and_from, lt-ltb}
 use Rattle.std.specs.List.Sorted.{IsStrictlyIncreasing}
 use Rattle.archive_terms.specs.Archive.{Entry, frame, loss_of_sync, production, seal}
 use Rattle.archive_terms.specs.Selection.{Selection, is_picked, picked}
@@ -32,6 +33,19 @@ rises_apart from to (place ∷ xs) ys rise =
     let rest : (mid : ℕ) × RisesTo (suc place) mid xs × RisesTo mid to ys =
     rises_apart (suc place) to xs ys rise.1 in
     (rest.0, (rise.0, rest.1), rest.2)
+
+pub rises_to_end : (from to : ℕ) (places : List ℕ) → RisesTo from to places → from ≤ to
+rises_to_end from to [] rise = rise
+rises_to_end from to (p ∷ places) rise =
+    let h : suc p ≤ to = rises_to_end (suc p) to places rise.1 in let k : from ≤ p = rise.0 in omega arith
+
+-- what rises to a place lies below it, and below each later one
+pub all_below : (from to bound : ℕ) (places : List ℕ) → RisesTo from to places → to ≤ bound
+    → list_all (λ place. nat_lt place bound) places ≡ true
+all_below from to bound [] rise within = refl
+all_below from to bound (p ∷ places) rise within =
+    and_from (nat_lt p bound) (list_all (λ place. nat_lt place bound) places)
+    (lt-ltb p bound (let h : suc p ≤ to = rises_to_end (suc p) to places rise.1 in omega arith)) (all_below (suc p) to bound places rise.1 within)
 
 abbrev pub places_of : List (ℕ × Entry) → List ℕ
 places_of entries = map (λ x. x.0) entries

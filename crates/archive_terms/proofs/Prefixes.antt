@@ -1,5 +1,5 @@
 -- What a prefix of all that a START is to hand over has in it.
-use Rattle.std.proofs.Common.{◌≡◌, ℕ, zero, suc, ◌+◌, ◌<◌, ◌≤◌, Bool, true, false, cond, List, [], ◌∷◌, ◌++◌, length, take, Some, refl, ap, sym, ◌∙◌, arith, inl, inr}
+use Rattle.std.proofs.Common.{◌≡◌, ℕ, zero, suc, ◌+◌, ◌<◌, ◌≤◌, Bool, true, false, cond, List, [], ◌∷◌, ◌++◌, length, take, Option, Some, None, refl, ap, sym, ◌∙◌, arith, inl, inr}
 use Rattle.std.specs.List.{list_any, filter}
 use Rattle.std.proofs.lemmas.List.{append-nil, append_assoc, map-append, length-take, take-append-le, take-map, take_all, length-append, length-map}
 use Rattle.std.proofs.lemmas.List.Folds.{list_any-append}
@@ -8,12 +8,13 @@ use Rattle.std.proofs.lemmas.Grind.{flat_map-append}
 use Rattle.std.proofs.Math.Seq.{take-append-add}
 use Rattle.archive_terms.specs.Archive.{Entry, is_archive, is_closed}
 use Rattle.archive_terms.specs.Selection.{Selection, picked, is_stop_closed}
-use Rattle.archive_terms.specs.Rounds.{to_hand_over, Outcome, nothing, handed, kept, discarded, handed_items, settled_items, without_backlog}
+use Rattle.archive_terms.specs.Rounds.{to_hand_over, Outcome, items_in, handed_buffer, handed_in, handed_items, settled_in, settled_items, without_backlog}
+use Rattle.std.specs.Option.{option_or}
 use Rattle.archive_terms.proofs.Picks.{picked_behind, picked-append, picked_is_final_lem, stop_known, is_stop_closed-append}
 use Rattle.archive_terms.proofs.Cuts.{join, join-cut_onto}
 use Rattle.archive_terms.specs.Delivery.{Item, archived, backlog, end_of_data, archived_items, entries_of, is_end_of_data, all_items, is_complete, cut, cut_onto, offline_buffers, Terms}
 
-no_end : (entries : List (ℕ × Entry)) → list_any is_end_of_data (archived_items entries) ≡ false
+pub no_end : (entries : List (ℕ × Entry)) → list_any is_end_of_data (archived_items entries) ≡ false
 no_end [] = refl
 no_end (x ∷ entries) = no_end entries
 
@@ -160,17 +161,16 @@ end_stays (end_of_data ∷ items) = refl
 -- what was handed over was settled
 settled_if_handed : (done : List Outcome) → list_any is_end_of_data (handed_items done) ≡ true → list_any is_end_of_data (settled_items done) ≡ true
 settled_if_handed [] ended = ended
-settled_if_handed (handed items ∷ done) ended =
-    list_any-append is_end_of_data items (settled_items done)
-    ∙ elim (or_cases (list_any is_end_of_data items) (list_any is_end_of_data (handed_items done)) (sym (list_any-append is_end_of_data items (handed_items done)) ∙ ended)) [
-      | inl here ↦ or_left (list_any is_end_of_data items) (list_any is_end_of_data (settled_items done)) here
-      | inr later ↦ or_right (list_any is_end_of_data items) (list_any is_end_of_data (settled_items done)) (settled_if_handed done later)
+settled_if_handed (o ∷ done) ended =
+    list_any-append is_end_of_data (settled_in o) (settled_items done)
+    ∙ elim (or_cases (list_any is_end_of_data (handed_in o)) (list_any is_end_of_data (handed_items done)) (sym (list_any-append is_end_of_data (handed_in o) (handed_items done)) ∙ ended)) [
+      | inl here ↦ or_left (list_any is_end_of_data (settled_in o)) (list_any is_end_of_data (settled_items done)) (of_buffer (handed_buffer o) o.dropped here)
+      | inr later ↦ or_right (list_any is_end_of_data (settled_in o)) (list_any is_end_of_data (settled_items done)) (settled_if_handed done later)
     ]
-settled_if_handed (discarded items ∷ done) ended =
-    list_any-append is_end_of_data items (settled_items done)
-    ∙ or_right (list_any is_end_of_data items) (list_any is_end_of_data (settled_items done)) (settled_if_handed done ended)
-settled_if_handed (nothing ∷ done) ended = settled_if_handed done ended
-settled_if_handed (kept items ∷ done) ended = settled_if_handed done ended
+  where
+    of_buffer : (m n : Option (List Item)) → list_any is_end_of_data (items_in m) ≡ true → list_any is_end_of_data (items_in (option_or m n)) ≡ true
+    of_buffer (Some items) n ended = ended
+    of_buffer None n ended = cc
 
 -- where end of data was handed over all was settled before, and the stop is closed
 pub all_settled : (entries : List (ℕ × Entry)) (closed : Bool) (done : List Outcome)

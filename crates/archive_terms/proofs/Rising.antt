@@ -1,22 +1,30 @@
 -- The frames that are handed over rise by their places.
-use Rattle.std.proofs.Common.{◌≡◌, ℕ, suc, ◌+◌, ◌≤◌, Bool, true, false, cond, List, [], ◌∷◌, ◌++◌, length, take, drop, refl, ap, sym, ◌∙◌, arith, subst}
+use Rattle.std.proofs.Common.{◌≡◌, ℕ, ◌+◌, ◌≤◌, Bool, true, false, cond, List, [], ◌∷◌, ◌++◌, length, take, drop, refl, ap, sym, ◌∙◌, arith, subst}
 use Rattle.std.proofs.lemmas.List.{append-nil, map-append, take-append-drop, drop-drop, drop-append-le, length-append}
 use Rattle.std.proofs.lemmas.List.Elements.{filter_map-append}
 use Rattle.archive_terms.specs.Archive.{Entry}
 use Rattle.archive_terms.specs.Selection.{Selection, is_picked}
 use Rattle.archive_terms.specs.Delivery.{Item, archived_items, Terms, Delivery, buffer, is_discardable, released}
-use Rattle.archive_terms.specs.Rounds.{Answer, whole, stall, answered, fate, Outcome, handed, kept, discarded, handed_in, handed_items}
+use Rattle.archive_terms.specs.Rounds.{Answer, whole, stall, fail, answered, fate, Outcome, handed, kept, discarded, failed, handed_in, handed_items}
 use Rattle.archive_terms.specs.Continuity.{frame_place, frame_places}
 use Rattle.archive_terms.proofs.Picks.{picked_behind}
 use Rattle.archive_terms.proofs.States.{State, going, owing, telling, ending, over}
 use Rattle.archive_terms.proofs.Histories.{flat_map-push}
-use Rattle.archive_terms.proofs.Places.{RisesTo, rises_from_less, rises-append, rises_apart, places_of, frames_rise, filter_rises}
+use Rattle.archive_terms.proofs.Places.{RisesTo, rises_to_end, rises_from_less, rises-append, rises_apart, places_of, frames_rise, filter_rises}
 
 -- the frames handed over lie below some place, and the entries that aren't settled from there on
 pub record Rising (entries : List (ℕ × Entry)) (end : ℕ) (done : List Outcome) (n : ℕ) : Type 0 where
   pub mid : ℕ
   pub below : RisesTo 0 mid (frame_places (handed_items done))
   pub above : RisesTo mid end (places_of (drop n entries))
+
+-- what is picked of new entries stands behind the old ones
+pub behind_rises : (a b : List Entry) (s : Selection) → RisesTo (length a) (length (a ++ b)) (places_of (picked_behind a b s))
+behind_rises a b s =
+    let end : 0 + length a + length b ≡ length (a ++ b) = omega (arith, length-append a b) in
+    subst (λ to. RisesTo (length a) to (places_of (picked_behind a b s))) end
+    (rises_from_less (length a) (0 + length a) _ (places_of (picked_behind a b s)) (omega arith)
+    (filter_rises (λ x. is_picked s (a ++ b) x.0 x.1) (0 + length a) b))
 
 pub Rising-grow : (a b : List Entry) (s : Selection) (entries : List (ℕ × Entry)) (done : List Outcome) (n : ℕ)
     → n ≤ length entries
@@ -27,15 +35,8 @@ Rising-grow a b s entries done n within r = record {
   above =
       subst (λ xs. RisesTo r.mid (length (a ++ b)) (places_of xs)) (sym (drop-append-le n entries (picked_behind a b s) within))
       (subst (RisesTo r.mid (length (a ++ b))) (sym (map-append (λ x. x.0) (drop n entries) (picked_behind a b s)))
-      (rises-append r.mid (length a) (length (a ++ b)) (places_of (drop n entries)) (places_of (picked_behind a b s)) r.above behind));
+      (rises-append r.mid (length a) (length (a ++ b)) (places_of (drop n entries)) (places_of (picked_behind a b s)) r.above (behind_rises a b s)));
 }
-  where
-    behind : RisesTo (length a) (length (a ++ b)) (places_of (picked_behind a b s))
-    behind =
-        let end : 0 + length a + length b ≡ length (a ++ b) = omega (arith, length-append a b) in
-        subst (λ to. RisesTo (length a) to (places_of (picked_behind a b s))) end
-        (rises_from_less (length a) (0 + length a) _ (places_of (picked_behind a b s)) (omega arith)
-        (filter_rises (λ x. is_picked s (a ++ b) x.0 x.1) (0 + length a) b))
 
 -- the next k entries lie between two places
 next_rise : (entries : List (ℕ × Entry)) (from end n k : ℕ) → RisesTo from end (places_of (drop n entries))
@@ -47,11 +48,6 @@ next_rise entries from end n k rise =
     let apart : (mid : ℕ) × RisesTo from mid (places_of (take k x)) × RisesTo mid end (places_of (drop k x)) =
     rises_apart from end (places_of (take k x)) (places_of (drop k x)) (subst (RisesTo from end) split rise) in
     (apart.0, apart.1, subst (λ xs. RisesTo apart.0 end (places_of xs)) (drop-drop k n entries) apart.2)
-
-rises_to_end : (from to : ℕ) (places : List ℕ) → RisesTo from to places → from ≤ to
-rises_to_end from to [] rise = rise
-rises_to_end from to (p ∷ places) rise =
-    let h : suc p ≤ to = rises_to_end (suc p) to places rise.1 in let k : from ≤ p = rise.0 in omega arith
 
 handed_push : (done : List Outcome) (o : Outcome)
     → frame_places (handed_items (done ++ o ∷ [])) ≡ frame_places (handed_items done) ++ frame_places (handed_in o)
@@ -100,6 +96,7 @@ pub Rising-answered : (t : Terms) (entries : List (ℕ × Entry)) (closed : Bool
     → Rising entries end (done ++ fate t answer d (buffer entries d) ∷ []) (answered t answer d).settled
 Rising-answered t entries closed end stall done d s r =
     rising_stalled entries end done d (buffer entries d) (is_discardable t.mode d) r
+Rising-answered t entries closed end fail done d s r = Rising-same entries end done (failed (buffer entries d)) d.settled refl r
 Rising-answered t entries closed end whole done d s r =
     rising_on entries end done (handed (buffer entries d)) d.settled d.held r
     (λ mid rise. subst (RisesTo r.mid mid) (sym (head_aside t entries closed d s)) (frames_rise r.mid mid (take d.held (drop d.settled entries)) rise))

@@ -1,18 +1,18 @@
 -- A delivery over a list of rounds: what it has come to and done.
-use Rattle.std.proofs.Common.{◌≡◌, ℕ, ◌<◌, ◌≤◌, Bool, true, false, cond, not, List, [], ◌∷◌, ◌++◌, length, take, drop, get_or, Some, refl, ap, sym, ◌∙◌, arith, subst}
-use Rattle.std.specs.List.{All}
+use Rattle.std.proofs.Common.{◌≡◌, ℕ, ◌<◌, ◌≤◌, Bool, true, false, cond, nat_lt, List, [], ◌∷◌, ◌++◌, length, take, drop, get_or, Option, Some, None, refl, ap, sym, ◌∙◌, arith, subst}
+use Rattle.std.specs.List.{All, list_all}
+use Rattle.std.specs.Option.{option_map_or}
 use Rattle.std.proofs.lemmas.List.{append-nil, append_assoc, take-take, take-append-drop, take-append-le, take_all, take_at, map-append}
-use Rattle.std.proofs.lemmas.Bool.{and_parts}
 use Rattle.archive_terms.specs.Archive.{Entry, is_archive, is_closed}
 use Rattle.archive_terms.specs.Selection.{Selection, picked, is_stop_closed}
 use Rattle.std.specs.List.Sorted.{IsStrictlyIncreasing}
 use Rattle.archive_terms.specs.Continuity.{frame_places}
 use Rattle.archive_terms.specs.Delivery.{is_timely, Item, archived, end_of_data, archived_items, all_items, IsBuffer, Terms, Delivery, started, buffer, stepped, filled, with_end, with_due_fixed}
-use Rattle.archive_terms.specs.Rounds.{Answer, answered, fate, Round, Outcome, nothing, at_round, is_offered, after_round, outcome, after_rounds, outcomes, handed_items, handed_buffers, settled_items, TimelyShape, without_backlog, FrontsRise, last_front, to_hand_over}
+use Rattle.archive_terms.specs.Rounds.{Answer, answered, fate, Round, Outcome, nothing, picked_at, takes_step, at_round, answer_on, answer_at, after_round, outcome, ends_run, after_rounds, outcomes, handed_items, handed_buffers, settled_items, TimelyShape, without_backlog, FrontsRise, last_front, to_hand_over}
 use Rattle.archive_terms.proofs.Picks.{picked_behind, picked-append, nothing_behind, stop_known, is_stop_closed-append, is_archive-append_left}
 use Rattle.archive_terms.proofs.Buffers.{InLimits, InLimits-length}
 use Rattle.archive_terms.proofs.States.{State, going, owing, telling, ending, over, State-grow, State-stepped, State-answered}
-use Rattle.archive_terms.proofs.Places.{picked_rises, increasing_from_rises}
+use Rattle.archive_terms.proofs.Places.{picked_rises, increasing_from_rises, rises_to_end, all_below}
 use Rattle.archive_terms.proofs.Rising.{Rising, Rising-grow, Rising-same, Rising-answered}
 use Rattle.archive_terms.proofs.Histories.{History, History-add, reached, adds_nothing, adds_answered}
 
@@ -90,47 +90,67 @@ Run-stepped t a now done d some run = record {
         History-same t (picked a t.selection) (picked a t.selection) done d next refl refl run.history
 
 -- an offer, where there is one, and its answer
-Run-offered : (t : Terms) (a : List Entry) (answer : Answer) (done : List Outcome) (d : Delivery) (offered : Bool)
-    → 0 < t.size → (offered ≡ true → d.fixed ≡ true) → Run t a done d
-    → Run t a (done ++ cond offered (fate t answer d (buffer (picked a t.selection) d)) nothing ∷ []) (cond offered (answered t answer d) d)
-Run-offered t a answer done d false some fix run = record {
+Run-offered : (t : Terms) (a : List Entry) (done : List Outcome) (d : Delivery) (answer : Option Answer)
+    → 0 < t.size → ((x : Answer) → answer ≡ Some x → d.fixed ≡ true) → Run t a done d
+    → Run t a (done ++ option_map_or (λ x. fate t x d (buffer (picked a t.selection) d)) answer nothing ∷ []) (option_map_or (λ x. answered t x d) answer d)
+Run-offered t a done d None some fix run = record {
   state = run.state;
   history = History-add t (picked a t.selection) done d nothing d run.history
       (adds_nothing t (picked a t.selection) d nothing refl refl refl refl (λ mode. refl) tt);
   rising = Rising-same (picked a t.selection) (length a) done nothing d.settled refl run.rising;
 }
-Run-offered t a answer done d true some fix run = record {
+Run-offered t a done d (Some answer) some fix run = record {
   state =
-      State-answered t (picked a t.selection) (is_stop_closed t.selection a) answer d (fix refl) run.state;
+      State-answered t (picked a t.selection) (is_stop_closed t.selection a) answer d (fix answer refl) run.state;
   history =
       History-add t (picked a t.selection) done d (fate t answer d (buffer (picked a t.selection) d)) (answered t answer d) run.history
-      (adds_answered t (picked a t.selection) (is_stop_closed t.selection a) answer d some (fix refl) run.state);
+      (adds_answered t (picked a t.selection) (is_stop_closed t.selection a) answer d some (fix answer refl) run.state);
   rising =
       Rising-answered t (picked a t.selection) (is_stop_closed t.selection a) (length a) answer done d run.state run.rising;
 }
 
+-- only a fixed buffer is offered
+offered_fixed : (fixed : Bool) (on : Option Answer) (x : Answer) → cond fixed on None ≡ Some x → fixed ≡ true
+offered_fixed true on x is = refl
+offered_fixed false on x is = cc
+
 -- a longer front is a longer archive
-front_grows : (a : List Entry) (f g : ℕ) → f ≤ g → take f a ++ drop f (take g a) ≡ take g a
+pub front_grows : (a : List Entry) (f g : ℕ) → f ≤ g → take f a ++ drop f (take g a) ≡ take g a
 front_grows a f g rise =
     ap (λ xs. xs ++ drop f (take g a)) (sym (take-take f g a rise)) ∙ take-append-drop f (take g a)
 
-is_archive-take : (a : List Entry) (n : ℕ) → is_archive a ≡ true → is_archive (take n a) ≡ true
+pub is_archive-take : (a : List Entry) (n : ℕ) → is_archive a ≡ true → is_archive (take n a) ≡ true
 is_archive-take a n archive =
     is_archive-append_left (take n a) (drop n a) (ap is_archive (take-append-drop n a) ∙ archive)
+
+-- the same with a later front
+pub Run-further : (t : Terms) (entries : List Entry) (f g : ℕ) (done : List Outcome) (d : Delivery) → is_archive entries ≡ true → f ≤ g
+    → Run t (take f entries) done d → Run t (take g entries) done d
+Run-further t entries f g done d archive rise run =
+    let to : take f entries ++ drop f (take g entries) ≡ take g entries = front_grows entries f g rise in
+    subst (λ a. Run t a done d) to
+    (Run-grow t (take f entries) (drop f (take g entries)) done d (ap is_archive to ∙ is_archive-take entries g archive) run)
 
 Run-round : (t : Terms) (entries : List Entry) (f : ℕ) (r : Round) (done : List Outcome) (d : Delivery)
     → 0 < t.size → is_archive entries ≡ true → f ≤ r.front
     → Run t (take f entries) done d
     → Run t (take r.front entries) (done ++ outcome t entries r d ∷ []) (after_round t entries r d)
 Run-round t entries f r done d some archive rise run =
-    let to : take f entries ++ drop f (take r.front entries) ≡ take r.front entries =
-    front_grows entries f r.front rise in
-    let grown : Run t (take r.front entries) done d =
-    subst (λ a. Run t a done d) to
-    (Run-grow t (take f entries) (drop f (take r.front entries)) done d (ap is_archive to ∙ is_archive-take entries r.front archive) run) in
+    let grown : Run t (take r.front entries) done d = Run-further t entries f r.front done d archive rise run in
     let next : Delivery = at_round t entries r d in
-    Run-offered t (take r.front entries) r.answer done next (is_offered r next) some (λ offered. (and_parts next.fixed (not r.waits) offered).0)
-    (Run-stepped t (take r.front entries) r.now done d some grown)
+    Run-offered t (take r.front entries) done next (answer_at r next) some (λ x is. offered_fixed next.fixed (answer_on r.link) x is)
+    (on_step (takes_step r.link) grown)
+  where
+    on_step : (b : Bool) → Run t (take r.front entries) done d
+        → Run t (take r.front entries) done (cond b (stepped t (picked_at t entries r.front) (is_stop_closed t.selection (take r.front entries)) r.now d) d)
+    on_step true grown = Run-stepped t (take r.front entries) r.now done d some grown
+    on_step false grown = grown
+
+front_to_last : (f : ℕ) (rounds : List Round) → FrontsRise f rounds → f ≤ last_front f rounds
+front_to_last f [] rise = omega arith
+front_to_last f (r ∷ rounds) rise =
+    let later : r.front ≤ last_front r.front rounds = front_to_last r.front rounds rise.1 in
+    let here : f ≤ r.front = rise.0 in omega arith
 
 Run-rounds : (t : Terms) (entries : List Entry) (f : ℕ) (rounds : List Round) (done : List Outcome) (d : Delivery)
     → 0 < t.size → is_archive entries ≡ true → FrontsRise f rounds
@@ -139,10 +159,20 @@ Run-rounds : (t : Terms) (entries : List Entry) (f : ℕ) (rounds : List Round) 
 Run-rounds t entries f [] done d some archive rise run =
     subst (λ xs. Run t (take f entries) xs d) (sym (append-nil done)) run
 Run-rounds t entries f (r ∷ rounds) done d some archive rise run =
-    subst (λ xs. Run t (take (last_front r.front rounds) entries) xs (after_rounds t entries rounds (after_round t entries r d)))
-    (append_assoc done (outcome t entries r d ∷ []) (outcomes t entries rounds (after_round t entries r d)))
-    (Run-rounds t entries r.front rounds (done ++ outcome t entries r d ∷ []) (after_round t entries r d) some archive rise.1
-    (Run-round t entries f r done d some archive rise.0 run))
+    let o : Outcome = outcome t entries r d in
+    let next : Delivery = after_round t entries r d in
+    let first : Run t (take r.front entries) (done ++ o ∷ []) next = Run-round t entries f r done d some archive rise.0 run in
+    on_end (ends_run t entries r d)
+    (Run-further t entries r.front (last_front r.front rounds) (done ++ o ∷ []) next archive (front_to_last r.front rounds rise.1) first)
+    (subst (λ xs. Run t (take (last_front r.front rounds) entries) xs (after_rounds t entries rounds next)) (append_assoc done (o ∷ []) (outcomes t entries rounds next))
+    (Run-rounds t entries r.front rounds (done ++ o ∷ []) next some archive rise.1 first))
+  where
+    on_end : (b : Bool) → Run t (take (last_front r.front rounds) entries) (done ++ outcome t entries r d ∷ []) (after_round t entries r d)
+        → Run t (take (last_front r.front rounds) entries) (done ++ outcome t entries r d ∷ outcomes t entries rounds (after_round t entries r d)) (after_rounds t entries rounds (after_round t entries r d))
+        → Run t (take (last_front r.front rounds) entries) (done ++ outcome t entries r d ∷ cond b [] (outcomes t entries rounds (after_round t entries r d)))
+        (cond b (after_round t entries r d) (after_rounds t entries rounds (after_round t entries r d)))
+    on_end true ended further = ended
+    on_end false ended further = further
 
 -- nothing was done at START
 Run-started : (t : Terms) (a : List Entry) → Run t a [] started
@@ -152,9 +182,9 @@ Run-started t a = record {
     settled = refl;
     all_handed = λ mode. refl;
     limits = λ k d below. absurd (omega arith);
-    rightly = λ mode. refl;
+    rightly = λ mode k d below. absurd (omega arith);
     owed = refl;
-    told = λ i items is. cc;
+    told = λ i o items is takes. cc;
     told_once = refl;
   };
   rising = record { mid = 0; below = omega arith; above = picked_rises a t.selection };
@@ -259,3 +289,13 @@ frames_in_run t entries rounds some archive rise =
     let rising : Rising (picked (take (last_front 0 rounds) entries) t.selection) (length (take (last_front 0 rounds) entries)) (outcomes t entries rounds started) (after_rounds t entries rounds started).settled =
     (Run-all t entries rounds some archive rise).rising in
     increasing_from_rises 0 rising.mid _ rising.below
+
+-- the frames that a run handed over stand before its last front
+pub frames_within : (t : Terms) (entries : List Entry) (rounds : List Round) → 0 < t.size
+    → is_archive entries ≡ true → FrontsRise 0 rounds
+    → list_all (λ place. nat_lt place (length (take (last_front 0 rounds) entries))) (frame_places (handed_items (outcomes t entries rounds started))) ≡ true
+frames_within t entries rounds some archive rise =
+    let a : List Entry = take (last_front 0 rounds) entries in
+    let rising : Rising (picked a t.selection) (length a) (outcomes t entries rounds started) (after_rounds t entries rounds started).settled =
+    (Run-all t entries rounds some archive rise).rising in
+    all_below 0 rising.mid (length a) _ rising.below (rises_to_end rising.mid (length a) _ rising.above)

@@ -1,10 +1,10 @@
 -- The states that a delivery comes through, and that a step and an answer lead from state to state.
-use Rattle.std.proofs.Common.{◌≡◌, ℕ, ◌+◌, ◌<◌, ◌≤◌, Bool, true, false, cond, not, ◌&&◌, nat_eq, nat_lt, List, [], ◌∷◌, ◌++◌, length, take, drop, Some, None, refl, ap, sym, ◌∙◌, arith, subst}
+use Rattle.std.proofs.Common.{◌≡◌, ℕ, ◌+◌, ◌<◌, ◌≤◌, Bool, true, false, cond, ◌&&◌, nat_eq, nat_lt, List, [], ◌∷◌, ◌++◌, length, take, drop, Some, None, refl, ap, sym, ◌∙◌, arith, subst}
 use Rattle.std.proofs.lemmas.List.{length-append, length-drop, drop-append-le, take-append-le, append-nil}
-use Rattle.std.proofs.lemmas.Bool.{and_parts, false≢true, true≢false, eqb-true, eq-eqb, ltb-true, and_left}
+use Rattle.std.proofs.lemmas.Bool.{and_parts, false≢true, true≢false, eqb-true, ltb-true, lt-ltb, and_left}
 use Rattle.archive_terms.specs.Archive.{Entry}
 use Rattle.archive_terms.specs.Delivery.{Mode, is_timely, backlog, end_of_data, archived_items, Terms, Delivery, is_due, with_due_fixed, stepped, released, is_discardable}
-use Rattle.archive_terms.specs.Rounds.{Answer, whole, stall, answered}
+use Rattle.archive_terms.specs.Rounds.{Answer, whole, stall, fail, answered}
 use Rattle.archive_terms.proofs.Buffers.{InLimits, room, room-le, room-limits}
 
 -- a delivery of these picked entries, with `closed` for a known and closed stop
@@ -29,7 +29,7 @@ pub data State (t : Terms) (entries : List (ℕ × Entry)) (closed : Bool) : Del
       → State t entries closed (record { settled = n; held = k; head = None; owed = false; fixed = fixed; since = since; ended = true })
 
 -- the same picked entries are held of a longer list
-held_of_more : (n k : ℕ) (entries more : List (ℕ × Entry)) → n + k ≤ length entries
+pub held_of_more : (n k : ℕ) (entries more : List (ℕ × Entry)) → n + k ≤ length entries
     → take k (drop n (entries ++ more)) ≡ take k (drop n entries)
 held_of_more n k entries more fits =
     ap (take k) (drop-append-le n entries more (omega arith))
@@ -63,7 +63,8 @@ going_on t entries closed now n k since fixed true why fits limits =
     let w : (k ≡ 0) × (closed ≡ true) × (n ≡ length entries) = why refl in
     ending n k
     (is_due t entries closed now (record { settled = n; held = k; head = Some end_of_data; owed = false; fixed = fixed; since = since; ended = false }))
-    since w.2 w.0 refl w.1
+    since w.2 w.0
+    (ap (λ b. b && true) (lt-ltb 0 (length (end_of_data ∷ archived_items (take k (drop n entries)))) (omega arith))) w.1
 going_on t entries closed now n k since fixed false why fits limits =
     going n k
     (is_due t entries closed now (record { settled = n; held = k; head = None; owed = false; fixed = fixed; since = since; ended = false }))
@@ -105,7 +106,8 @@ State-stepped t entries closed now d some (over n k true since all none is shut)
 State-stepped t entries closed now d some (over n k false since all none is shut) =
     let more : ℕ = room t.size None (drop n entries) in
     let none_more : more ≡ 0 = omega (arith, room-le t.size None (drop n entries), length-drop n entries) in
-    over n more _ _ all none_more (and_left (not (true && nat_eq more 0)) _ (ap (λ b. not (true && b)) (eq-eqb more 0 none_more))) shut
+    over n more _ _ all none_more
+    (and_left (nat_lt 0 (length (archived_items (take more (drop n entries))))) _ (ap (λ k. nat_lt 0 (length (archived_items (take k (drop n entries))))) none_more)) shut
 
 -- a stalled buffer, which is discarded where `discards` holds
 stalled_on : (t : Terms) (entries : List (ℕ × Entry)) (closed : Bool) (d : Delivery) (discards : Bool)
@@ -139,6 +141,7 @@ pub State-answered : (t : Terms) (entries : List (ℕ × Entry)) (closed : Bool)
     → State t entries closed d → State t entries closed (answered t answer d)
 State-answered t entries closed stall d is s =
     stalled_on t entries closed d (is_discardable t.mode d) (is_discardable-parts t.mode d) s
+State-answered t entries closed fail d is s = s
 State-answered t entries closed whole d is (going n k fixed since fits limits) =
     going (n + k) 0 false since (omega arith) (nothing_in_limits t.size)
 State-answered t entries closed whole d is (owing n since fits timely) = absurd (false≢true is)

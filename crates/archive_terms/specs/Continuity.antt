@@ -1,5 +1,5 @@
 -- The data link continuity of the frames that are handed over (CCSDS 911.1-B, RAF-TRANSFER-DATA, data-link-continuity).
-use Rattle.std.specs.Prelude.{ℕ, ◌+◌, min, ℤ, pos, negsuc, Option, Some, None, List, [], ◌∷◌, take, drop}
+use Rattle.std.specs.Prelude.{ℕ, ◌+◌, min, ℤ, pos, negsuc, Option, Some, None, List, [], ◌∷◌, map, take, drop}
 use Rattle.std.specs.List.{sum_by, filter_map}
 use Rattle.std.specs.Option.{option_map, option_or}
 use Rattle.archive_terms.specs.Archive.{Entry, frame}
@@ -13,7 +13,11 @@ lost_of _ = 0
 abbrev pub lost_between : List Entry → ℕ → ℕ → ℕ
 lost_between entries before place = sum_by lost_of (drop (before + 1) (take (place + 1) entries))
 
--- at most 16,777,215
+-- what was lost before a place: the running sum
+abbrev pub lost_up_to : List Entry → ℕ → ℕ
+lost_up_to entries place = sum_by lost_of (take place entries)
+
+-- the sum between two places as it is told: at most 16,777,215
 abbrev pub gap : List Entry → ℕ → ℕ → ℕ
 gap entries before place = min 16777215 (lost_between entries before place)
 
@@ -48,6 +52,16 @@ continuity_of entries x = option_map (continuity entries x.0) (frame_place x.1)
 -- the continuities of the frames among the items that a START hands over, in order
 abbrev pub continuities : List Entry → List Item → List ℤ
 continuities entries items = filter_map (continuity_of entries) (with_frame_before None items)
+
+-- items as they are told, each with its continuity, behind a frame that was handed over last
+abbrev pub told_items : List Entry → Option ℕ → List Item → List (Item × Option ℤ)
+told_items entries before items = map (λ x. (x.1, continuity_of entries x)) (with_frame_before before items)
+
+-- buffers that are handed over one after another, as they are told
+abbrev pub told_buffers : List Entry → Option ℕ → List (List Item) → List (List (Item × Option ℤ))
+told_buffers entries before [] = []
+told_buffers entries before (buffer ∷ buffers) =
+    told_items entries before buffer ∷ told_buffers entries (last_frame before buffer) buffers
 
 -- the continuities of frames that follow a frame, by their places
 abbrev pub gaps : List Entry → ℕ → List ℕ → List ℕ

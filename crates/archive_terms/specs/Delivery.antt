@@ -4,7 +4,7 @@ use Rattle.std.specs.Prelude.{◌≡◌, ℕ, ◌+◌, ◌-◌, ◌<◌, ◌≤�
 use Rattle.std.specs.List.{list_any, filter, filter_map, enumerate_from, sum_by, prefix_len}
 use Rattle.std.specs.Option.{option_map_or, option_to_list}
 use Rattle.archive_terms.specs.Archive.{Entry, frame}
-use Rattle.archive_terms.specs.Selection.{Selection, is_notice}
+use Rattle.archive_terms.specs.Selection.{Filter, Selection, is_notice}
 
 -- the modes of a service instance (CCSDS 911.1-B, delivery-mode)
 pub data Mode : Type 0 where
@@ -26,6 +26,17 @@ abbrev pub first_position : Mode → Option ℕ → ℕ → ℕ
 first_position timely start front = front
 first_position mode None front = front
 first_position mode (Some _) front = 0
+
+-- the selection that a START makes, with its start and stop time where known, of an archive that had so many entries when it
+-- was taken: online modes alone tell notices
+abbrev pub selection_of : Mode → Filter → Option ℕ → Option ℕ → ℕ → Selection
+selection_of mode filter start stop front = record {
+  filter = filter;
+  start = start;
+  stop = stop;
+  first = first_position mode start front;
+  notices = is_online mode;
+}
 
 -- an item of a transfer buffer: a picked entry with its place, which is a frame, a loss of synchronisation or a
 -- production change; the notice that data was discarded due to excessive backlog; the notice of end of data
@@ -71,9 +82,38 @@ abbrev pub frame_octets : Item → ℕ
 frame_octets (archived _ (frame f)) = length f.octets
 frame_octets _ = 0
 
+-- what a buffer holds, in numbers: how many items, how many octets of frames, whether a notification is among them, and when
+-- the first one was put
+pub record Contents : Type 0 where
+  pub count : ℕ
+  pub octets : ℕ
+  pub notified : Bool
+  pub since : ℕ
+
 -- a buffer is full with `size` items, or with 524,288 or more octets of frames (the octets are this product's own)
+abbrev pub is_full_of : ℕ → ℕ → ℕ → Bool
+is_full_of size count octets = nat_le size count || nat_le 524288 octets
+
+-- whether a latency limit, where there is one, has passed
+abbrev pub is_late : Option ℕ → ℕ → ℕ → Bool
+is_late limit since now = option_map_or (λ latency. nat_le latency (now - since)) limit false
+
+-- a buffer that holds anything is due where it holds a notification, is full, has waited for the latency limit, or is the last
+-- one before a closed stop
+abbrev pub is_due_of : ℕ → Option ℕ → ℕ → Bool → Contents → Bool
+is_due_of size limit now last c =
+    nat_lt 0 c.count && (c.notified || is_full_of size c.count c.octets || is_late limit c.since now || last)
+
+abbrev pub contents : ℕ → List Item → Contents
+contents since items = record {
+  count = length items;
+  octets = sum_by frame_octets items;
+  notified = list_any is_notification items;
+  since = since;
+}
+
 abbrev pub is_full : ℕ → List Item → Bool
-is_full size items = nat_le size (length items) || nat_le 524288 (sum_by frame_octets items)
+is_full size items = is_full_of size (length items) (sum_by frame_octets items)
 
 -- a buffer takes no further item once it is full or holds a loss or a production change
 abbrev pub is_complete : ℕ → List Item → Bool
@@ -138,6 +178,10 @@ pub record Delivery : Type 0 where
   pub since : ℕ
   pub ended : Bool
 
+-- the latency limit counts for online modes alone
+abbrev pub limit_of : Terms → Option ℕ
+limit_of t = if is_online t.mode then Some t.latency else None
+
 -- the delivery at START
 abbrev pub started : Delivery
 started = record { settled = 0; held = 0; head = None; owed = false; fixed = false; since = 0; ended = false }
@@ -174,15 +218,10 @@ with_end entries closed d =
           if not d.ended && is_empty d && closed && d.settled == length entries then Some end_of_data else d.head;
     }
 
--- a held buffer is due where it holds a notification, is full, has waited for the latency limit in an online mode, or is
--- the last one before a closed stop
+-- whether the held buffer is due
 abbrev pub is_due : Terms → List (ℕ × Entry) → Bool → ℕ → Delivery → Bool
 is_due t entries closed now d =
-    not (is_empty d)
-    && (list_any is_notification (buffer entries d)
-    || is_full t.size (buffer entries d)
-    || (is_online t.mode && nat_le t.latency (now - d.since))
-    || (closed && d.settled + d.held == length entries))
+    is_due_of t.size (limit_of t) now (closed && d.settled + d.held == length entries) (contents d.since (buffer entries d))
 
 abbrev pub with_due_fixed : Terms → List (ℕ × Entry) → Bool → ℕ → Delivery → Delivery
 with_due_fixed t entries closed now d = record d { fixed = is_due t entries closed now d }

@@ -2,7 +2,8 @@
 use Rattle.std.specs.Prelude.{ℕ, ◌+◌, ◌*◌, ◌/◌, ◌%◌, Bool, true, false, not, ◌&&◌, ◌||◌, ◌==◌, nat_le, if◌then◌else◌, Option, Some, None, List, ◌∷◌, take}
 use Rattle.std.specs.List.{filter, list_any, enumerate_from}
 use Rattle.std.specs.Option.{option_map_or}
-use Rattle.archive_terms.specs.Archive.{Frame, Entry, frame, loss_of_sync, production, is_closed}
+use Rattle.cds_time.specs.Moment.{moment_of}
+use Rattle.archive_terms.specs.Archive.{Frame, Entry, frame, loss_of_sync, production, frame_time, is_closed}
 
 -- a master channel as a whole, or one of its virtual channels
 pub data Channel : Type 0 where
@@ -67,10 +68,13 @@ is_not_before start time = option_map_or (λ t. nat_le t time) start true
 abbrev pub is_not_after : Option ℕ → ℕ → Bool
 is_not_after stop time = option_map_or (λ t. nat_le time t) stop true
 
+-- whether a time names a moment that lies between start and stop
+abbrev pub is_between : Selection → Option ℕ → Bool
+is_between s time = option_map_or (λ t. is_not_before s.start t && is_not_after s.stop t) time false
+
 -- whether the entry at a place is a frame that the selection admits
 abbrev pub admits : Selection → ℕ → Entry → Bool
-admits s place (frame f) =
-    nat_le s.first place && fits s.filter f && is_not_before s.start f.time && is_not_after s.stop f.time
+admits s place (frame f) = nat_le s.first place && fits s.filter f && is_between s (moment_of f.ert)
 admits s place _ = false
 
 -- whether the stop time is known and closed
@@ -78,8 +82,7 @@ abbrev pub is_stop_closed : Selection → List Entry → Bool
 is_stop_closed s entries = option_map_or (is_closed entries) s.stop false
 
 abbrev pub is_frame_from : ℕ → Entry → Bool
-is_frame_from time (frame f) = nat_le time f.time
-is_frame_from time _ = false
+is_frame_from time entry = option_map_or (λ t. nat_le time t) (frame_time entry) false
 
 -- whether the start time is undefined, or a frame at or above it stands among the entries
 abbrev pub is_started : Selection → List Entry → Bool
