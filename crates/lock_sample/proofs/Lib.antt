@@ -1,1 +1,5 @@
-pub mod Postings
+pub mod Legal
+pub mod Tellings
+pub mod Serving
+pub mod Desks
+pub mod Teams

@@ -1,64 +1,107 @@
-// An account, and what one thread does with it.
-ghost use Rattle.std.specs.Prelude.{◌≡◌, Some, None, MatchBool};
-ghost use Rattle.lock_sample.specs.Ledger.{posted};
+// The account, and what one thread does with it.
+ghost use Rattle.std.specs.Prelude.{◌≡◌, IfOk};
+ghost use Rattle.lock_sample.specs.Ledger.{opened, posted, after, reply_to};
 
-use turn_lock::{Event, StandsFor};
+use crate::booking::Booking;
+use crate::memory::Memory;
+use crate::order::{Order, Posting, Reply};
+use octet_core::Octets;
+use std::alloc::Global;
+use std::marker::Model;
+use turn_lock::StandsFor;
 
-#[derive(Clone, Copy)]
-pub enum Posting {
-    Deposit(u64),
-    Withdrawal(u64),
+/// What an account is opened with: a balance, and room for so many notes.
+#[derive(Clone, Copy, Debug, PartialEq, Eq)]
+pub struct Opening {
+    pub balance: u64,
+    pub room: usize,
 }
 
-/// The balance at the start is the origin.
-impl Event for Posting {
-    type Origin = u64;
-}
-
+/// A balance, and the notes of all orders that were booked.
 #[derive(Drop)]
 pub struct Account {
-    pub opening: u64,
-    pub balance: u64,
+    opening: Opening,
+    balance: u64,
+    latest: u64,
+    notes: Vec<Octets>,
 }
 
-impl StandsFor<Posting> for Account {
-    ghost use Rattle.std.specs.Prelude.{◌≡◌, Some};
-    ghost use Rattle.lock_sample.specs.Ledger.{replayed};
+impl Model for Account {
+    ghost use Rattle.std.specs.Prelude.{◌≤◌, vec_len, vec_capacity};
+    ghost use Rattle.lock_sample.specs.State.{State};
+
+    ghost Value = { State };
+
+    ghost view = { λ a. record {
+      opening = a.opening;
+      balance = a.balance;
+      latest = a.latest;
+      notes = a.notes.items;
+    } };
+
+    ghost invariant = { λ a. (vec_len a.notes ≤ a.opening.room)
+        × (a.opening.room ≤ vec_capacity a.notes) };
+}
+
+impl StandsFor<Booking> for Account {
+    ghost use Rattle.lock_sample.specs.Ledger.{StandsAs};
 
     ghost origin = { λ a. a.opening };
 
-    ghost stands = { λ a h. replayed a.opening h ≡ Some a.balance };
+    ghost stands = { StandsAs };
 }
 
 impl Account {
-    pub fn new(opening: u64) -> Account
-        ensures { (result.opening ≡ opening) × (result.balance ≡ opening) }
+    pub fn new(alloc: Global, opening: Opening) -> Result<Account, Memory>
+        ensures { IfOk result (λ a. a ≡ opened opening) }
     {
-        Account {
+        Ok(Account {
             opening,
-            balance: opening,
-        }
+            balance: opening.balance,
+            latest: 0,
+            notes: Vec::with_capacity(alloc, opening.room)?,
+        })
     }
 
-    /// Makes the posting, unless the balance would fall below 0 or rise above 2^64 - 1.
-    pub fn post(&mut self, posting: Posting) -> bool
-        ensures opening { self.new.opening ≡ self.old.opening }
-        ensures balance { MatchBool result (posted self.old.balance posting ≡ Some self.new.balance) ((posted self.old.balance posting ≡ None) × (self.new.balance ≡ self.old.balance)) }
+    pub fn balance(&self) -> u64
+        ensures { result ≡ self.now.balance }
     {
-        match posting {
-            Posting::Deposit(amount) => {
-                if amount > u64::MAX - self.balance {
-                    return false;
-                }
-                self.balance += amount;
-            }
-            Posting::Withdrawal(amount) => {
-                if amount > self.balance {
-                    return false;
-                }
-                self.balance -= amount;
-            }
+        self.balance
+    }
+
+    /// The notes of the orders that were booked, the first one first.
+    pub fn notes(&self) -> &[Octets]
+        ensures { result.now ≡ self.now.notes }
+    {
+        self.notes.as_slice()
+    }
+
+    /// Books the order, or hands it back. It takes no memory.
+    pub fn answer(&mut self, reading: u64, order: Order) -> Reply
+        ensures account { self.new ≡ after self.old reading order }
+        ensures reply { result ≡ reply_to self.old order }
+    {
+        if reading > self.latest {
+            self.latest = reading;
         }
-        true
+        if self.notes.len() == self.opening.room {
+            return Reply::Refused { order };
+        }
+        let Some(balance) = balance_after(self.balance, order.posting) else {
+            return Reply::Refused { order };
+        };
+        self.balance = balance;
+        self.notes.push_reserved(order.note);
+        Reply::Booked { balance }
+    }
+}
+
+/// The balance after a posting, if it can be made.
+fn balance_after(balance: u64, posting: Posting) -> Option<u64>
+    ensures { result ≡ posted balance posting }
+{
+    match posting {
+        Posting::Deposit(amount) => balance.checked_add(amount),
+        Posting::Withdrawal(amount) => balance.checked_sub(amount),
     }
 }

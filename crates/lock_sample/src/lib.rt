@@ -1,16 +1,33 @@
-// A caller of the lock in small: an account on which two threads make postings.
+// A caller of the lock in small: an account at which desks with clerks of their own have orders booked.
 //
-// It shows that the clauses of `turn_lock` are enough to speak of all that threads did: once both
-// were joined and the lock was closed, the balance is what one thread gets that makes the postings
-// of the history one after the other, and the own postings of the two threads make up the history,
-// each standing in it once.
+// An order owns octets, which the account takes in under the lock, and nobody keeps the reply. So
+// what happened in a turn is named by snapshots without octets (`Call`), which determine the event.
+// Each clerk has a thread, a pass and a desk; they are started by halves, and where a thread can't be
+// started its caller does the work. Once all passes were joined the lock is closed, and what one
+// thread gets that books the history's orders one after the other is what they got together: each
+// event of the history is one clerk's, with the order and the reading that its desk gave and the
+// reply that its desk was told.
 #![tactic(auto)]
 
 mod account;
-mod workers;
+mod booking;
+mod call;
+mod desk;
+mod memory;
+mod order;
+mod run;
+mod seat;
+mod serve;
 
-pub use account::{Account, Posting};
-pub use workers::{Order, post_by_two};
+pub use account::{Account, Opening};
+pub use booking::Booking;
+pub use call::{Call, visit};
+pub use desk::{Clock, Counter, Desk, Post};
+pub use memory::Memory;
+pub use order::{Order, Posting, Reply};
+pub use run::run_desks;
+pub use seat::Seat;
+pub use serve::serve_posts;
 
 #[cfg(test)]
 mod tests;

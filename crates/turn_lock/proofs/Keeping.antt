@@ -14,7 +14,7 @@ use Rattle.atomic_table.proofs.Lists.{at_set, at_snoc, at_longer, set_else}
 use Rattle.turn_lock.specs.declared.view.View.{View}
 use Rattle.turn_lock.specs.Own.{counts, mark, times, total, AllStand, MakeUp}
 use Rattle.turn_lock.specs.Rule.{own_lists, pending, is_ticket, with_added, fresh_view, spent_view, IsOf, Fits, IsHome, IsOut, Kept}
-use Rattle.turn_lock.specs.Steps.{entering, holding, seeing, adding, resting, giving, given, Draws, Takes, Looks, Sees, Adds, Ends, Learns, Closes}
+use Rattle.turn_lock.specs.Steps.{entering, finding, holding, seeing, adding, resting, giving, given, Draws, Takes, Looks, Sees, Adds, Ends, Learns, Closes}
 use Rattle.turn_lock.proofs.Prefixes.{prefix_self, prefix_trans}
 use Rattle.turn_lock.proofs.Owned.{one_more, all_on, stand_last, times_last, times_few}
 use Rattle.turn_lock.proofs.Sums.{sum_set, one_of, two_of, sum_none, sum_only, here_set}
@@ -87,12 +87,12 @@ module _ {T E O : Type 0} (origin : T → O) (stands : T → List E → Type 0) 
   moved : (s : S) (r : Rule s) (id : ℕ) (v w : V) (ticket serving : ℕ) (log : List E) (homes : Homes) → get_elem? s.views id ≡ some v → r.ticket ≤ ticket
       → (serving + counts w.ticket) + r.ticket ≡ (r.serving + counts v.ticket) + ticket
       → ((n : ℕ) → (is_ticket n w.ticket ≤ is_ticket n v.ticket) ⊎ ((r.ticket ≤ n) × (n < ticket)))
-      → w.entered + r.ticket ≡ v.entered + ticket → (length log + pending w) + r.ticket ≤ (length r.log + pending v) + ticket → w.left + ticket ≤ v.left + r.ticket
+      → w.entered + r.ticket ≡ v.entered + ticket → (length log + pending w) + r.ticket ≤ (length r.log + pending v) + ticket → w.left + ticket ≤ v.left + r.ticket → w.found ≤ ticket
       → ((k : ℕ) → times k (own_lists w) + counts (slice_get r.log k) ≡ times k (own_lists v) + counts (slice_get log k))
       → Fits first turns serving log homes w → ((j : ℕ) (u : V) → j ≢ id → get_elem? s.views j ≡ some u → Fits first turns serving log homes u)
       → IsHome origin stands first log homes ⊎ IsOut homes (set s.views id w)
       → Rule record { words = ticket ∷ serving ∷ length log ∷ []; homes = homes; views = set s.views id w }
-  moved s r id v w ticket serving log homes at more waiting tickets entered few left places mine others slot = record {
+  moved s r id v w ticket serving log homes at more waiting tickets entered few left heard places mine others slot = record {
     ticket = ticket;
     serving = serving;
     log = log;
@@ -103,6 +103,7 @@ module _ {T E O : Type 0} (origin : T → O) (stands : T → List E → Type 0) 
     undrawn = λ n l. ⊎_elim (λ (t : is_ticket n w.ticket ≤ is_ticket n v.ticket). omega (arith, sum_set (λ (u : V). is_ticket n u.ticket) s.views id v w at, r.undrawn n (omega arith)))
         (λ (t : (r.ticket ≤ n) × (n < ticket)). absurd (omega arith)) (tickets n);
     entered = omega (arith, sum_set (λ (u : V). u.entered) s.views id v w at, r.entered);
+    heard = λ j u e. ⊎_elim (λ (t : (j ≡ id) × (w ≡ u)). subst (λ (x : V). x.found ≤ ticket) t.1 heard) (λ (t : (j ≢ id) × (get_elem? s.views j ≡ some u)). omega (arith, r.heard j u t.1, more)) (at_set s.views id j w u e);
     once_each = λ k. omega (arith, sum_set (λ (u : V). times k (own_lists u)) s.views id v w at, r.once_each k, places k);
     few = omega (arith, sum_set pending s.views id v w at, r.few);
     bounded = omega (arith, sum_set (λ (u : V). u.left) s.views id v w at, r.bounded);
@@ -139,6 +140,10 @@ module _ {T E O : Type 0} (origin : T → O) (stands : T → List E → Type 0) 
   one_view serving log homes v fit zero u e = subst (Fits first turns serving log homes) (some-injective v u e) fit
   one_view serving log homes v fit (suc j) u e = absurd (some-ne-none u (sym e))
 
+  one_heard : (v : V) (n : ℕ) → v.found ≤ n → (j : ℕ) (u : V) → get_elem? (v ∷ []) j ≡ some u → u.found ≤ n
+  one_heard v n few zero u e = subst (λ (x : V). x.found ≤ n) (some-injective v u e) few
+  one_heard v n few (suc j) u e = absurd (some-ne-none u (sym e))
+
   -- a new table, whose value stands for no events
   pub starts : (slots : List (Option T)) (x : T) → slots ≡ Some x ∷ [] → origin x ≡ first → stands x [] → Rule (opening (0 ∷ 0 ∷ 0 ∷ []) slots (fresh_view first turns (turns + 1)))
   starts slots x full mine st =
@@ -153,6 +158,7 @@ module _ {T E O : Type 0} (origin : T → O) (stands : T → List E → Type 0) 
         once = λ n. omega (arith, sum_by-cons (λ (u : V). is_ticket n u.ticket) v []);
         undrawn = λ n l. omega (arith, sum_by-cons (λ (u : V). is_ticket n u.ticket) v []);
         entered = omega (arith, sum_by-cons (λ (u : V). u.entered) v []);
+        heard = λ j u e. one_heard v 0 (omega arith) j u e;
         once_each = λ k. omega (arith, sum_by-cons (λ (u : V). times k (own_lists u)) v []);
         few = omega (arith, sum_by-cons pending v []);
         bounded = omega (arith, sum_by-cons (λ (u : V). u.left) v []);
@@ -186,7 +192,7 @@ module _ {T E O : Type 0} (origin : T → O) (stands : T → List E → Type 0) 
         tt,
         subst (λ (ws : List ℕ). Rule record { words = set ws 0 ((get_or ws 0 0 + 1) % 2 ^ 64); homes = s.homes; views = set s.views id w }) (sym r.words)
             (subst (λ (n : ℕ). Rule record { words = n ∷ r.serving ∷ length r.log ∷ []; homes = s.homes; views = set s.views id w }) (sym up)
-            (moved s r id v w (r.ticket + 1) r.serving r.log s.homes at (omega arith) (omega arith) (λ n. drawn_now r.ticket found v.ticket n here) (omega arith) (omega arith) (omega arith) (λ k. refl)
+            (moved s r id v w (r.ticket + 1) r.serving r.log s.homes at (omega arith) (omega arith) (λ n. drawn_now r.ticket found v.ticket n here) (omega arith) (omega arith) (omega arith) (omega (arith, r.heard id v at)) (λ k. refl)
             (record {
               of = of_same v w refl some_view v.origin fit.of;
               counted = omega arith;
@@ -210,12 +216,12 @@ module _ {T E O : Type 0} (origin : T → O) (stands : T → List E → Type 0) 
   taken : (s : S) (r : Rule s) (id : ℕ) (v w : V) (ticket : ℕ) → get_elem? s.views id ≡ some v → r.ticket ≤ ticket
       → (r.serving + counts w.ticket) + r.ticket ≡ (r.serving + counts v.ticket) + ticket
       → ((n : ℕ) → (is_ticket n w.ticket ≤ is_ticket n v.ticket) ⊎ ((r.ticket ≤ n) × (n < ticket)))
-      → w.entered + r.ticket ≡ v.entered + ticket → pending w + r.ticket ≤ pending v + ticket → w.left + ticket ≤ v.left + r.ticket → own_lists w ≡ own_lists v
+      → w.entered + r.ticket ≡ v.entered + ticket → pending w + r.ticket ≤ pending v + ticket → w.left + ticket ≤ v.left + r.ticket → w.found ≤ ticket → own_lists w ≡ own_lists v
       → IsOf first turns w w.origin → counts w.ticket ≤ w.entered → w.ticket ≡ Some r.serving → w.kept ≡ Some r.log → w.added ≡ None → IsPrefix w.seen r.log → IsPrefix w.beginning w.seen → AllStand r.log (own_lists w) → total (own_lists w) + pending w ≤ w.entered
       → Rule record { words = ticket ∷ r.serving ∷ length r.log ∷ []; homes = none ∷ []; views = set s.views id w }
-  taken s r id v w ticket at more waiting tickets entered few left lists of counted served value nothing prefix begins own some_own =
+  taken s r id v w ticket at more waiting tickets entered few left heard lists of counted served value nothing prefix begins own some_own =
       let none_added : counts w.added ≡ 0 = ap counts nothing in
-      moved s r id v w ticket r.serving r.log (none ∷ []) at more waiting tickets entered (omega (arith, few)) left (λ k. ap (λ ls. times k ls + counts (slice_get r.log k)) lists)
+      moved s r id v w ticket r.serving r.log (none ∷ []) at more waiting tickets entered (omega (arith, few)) left heard (λ k. ap (λ ls. times k ls + counts (slice_get r.log k)) lists)
       (record { of = of; counted = counted; holding = λ h k. (served, refl, some_same w.kept r.log h value k ∙ ap (with_added h) (sym nothing)); early = omega arith; prefix = prefix; begins = begins; own = own; some_own = some_own })
       (λ j u _ e. emptied s r u (r.each_view j u e))
       (inr (id, w, r.log, refl, here_set s.views id v w at, value))
@@ -250,7 +256,7 @@ module _ {T E O : Type 0} (origin : T → O) (stands : T → List E → Type 0) 
         ap (λ (hs : Homes). get_elem? hs 0) home.1,
         subst (λ (ws : List ℕ). Rule record { words = set ws 1 (get_or ws 1 0); homes = set s.homes 0 none; views = set s.views id w }) (sym r.words)
             (subst (λ (hs : Homes). Rule record { words = r.ticket ∷ r.serving ∷ length r.log ∷ []; homes = set hs 0 none; views = set s.views id w }) (sym home.1)
-            (taken s r id v w r.ticket at (omega arith) (omega arith) (λ k. inl (omega arith)) (omega arith) (omega arith) (omega arith) refl (of_same v w refl some_view v.origin fit.of) fit.counted served refl refl fit.prefix fit.begins fit.own (omega (arith, fit.some_own)))),
+            (taken s r id v w r.ticket at (omega arith) (omega arith) (λ k. inl (omega arith)) (omega arith) (omega arith) (omega arith) (r.heard id v at) refl (of_same v w refl some_view v.origin fit.of) fit.counted served refl refl fit.prefix fit.begins fit.own (omega (arith, fit.some_own)))),
         λ k e. match_true (found == k) _ _ (eq-eqb found k (hit ∙ some_same v.ticket n k ticket e)) (home.0, r.log, refl, has_origin v (origin home.0) v.origin some_view fit.of home.2, home.3, fit.prefix),
       ))
       (λ (miss : found ≢ n). (
@@ -258,7 +264,7 @@ module _ {T E O : Type 0} (origin : T → O) (stands : T → List E → Type 0) 
         keeps,
         tt,
         subst (λ (ws : List ℕ). Rule record { words = set ws 1 (get_or ws 1 0); homes = s.homes; views = set s.views id v }) (sym r.words)
-            (moved s r id v v r.ticket r.serving r.log s.homes at (omega arith) (omega arith) (λ k. inl (omega arith)) (omega arith) (omega arith) (omega arith) (λ k. refl) fit (λ j u _ e. r.each_view j u e)
+            (moved s r id v v r.ticket r.serving r.log s.homes at (omega arith) (omega arith) (λ k. inl (omega arith)) (omega arith) (omega arith) (omega arith) (omega (arith, r.heard id v at)) (λ k. refl) fit (λ j u _ e. r.each_view j u e)
             (slot_stays r.log s.homes s.views id v v at refl r.slot)),
         λ k e. match_false (found == k) _ _ (ne_eqb found k (λ same. miss (same ∙ sym (some_same v.ticket n k ticket e)))) refl,
       ))
@@ -290,7 +296,7 @@ module _ {T E O : Type 0} (origin : T → O) (stands : T → List E → Type 0) 
             (subst (λ (cs : List (ℕ × Option T)). Rule record { words = r.ticket ∷ ((r.serving + 1) % 2 ^ 64) ∷ length r.log ∷ []; homes = put_back s.homes cs; views = set s.views id w }) (sym carries)
             (subst (λ (hs : Homes). Rule record { words = r.ticket ∷ ((r.serving + 1) % 2 ^ 64) ∷ length r.log ∷ []; homes = set hs 0 (some (Some x)); views = set s.views id w }) (sym place.1)
             (subst (λ (n : ℕ). Rule record { words = r.ticket ∷ n ∷ length r.log ∷ []; homes = some (Some x) ∷ []; views = set s.views id w }) (sym up)
-            (moved s r id v w r.ticket (r.serving + 1) r.log (some (Some x) ∷ []) at (omega arith) (omega arith) (λ n. inl (omega arith)) (omega arith) (omega arith) (omega arith) (λ k. refl)
+            (moved s r id v w r.ticket (r.serving + 1) r.log (some (Some x) ∷ []) at (omega arith) (omega arith) (λ n. inl (omega arith)) (omega arith) (omega arith) (omega arith) (omega (arith, r.heard id v at)) (λ k. refl)
             (record { of = of_same v w refl some_view v.origin fit.of; counted = omega arith; holding = λ k e. absurd (not_both w.kept k refl e); early = omega arith; prefix = fit.prefix; begins = fit.begins; own = fit.own; some_own = omega (arith, fit.some_own) })
             (λ j u other there. let known : Fits first turns r.serving r.log s.homes u = r.each_view j u there in
             record { of = known.of; counted = known.counted; holding = λ k e. absurd (other (one_seat s r id j v u r.serving at there served (known.holding k e).0)); early = known.early; prefix = known.prefix; begins = known.begins; own = known.own; some_own = known.some_own })
@@ -322,7 +328,7 @@ module _ {T E O : Type 0} (origin : T → O) (stands : T → List E → Type 0) 
         tt,
         subst (λ (ws : List ℕ). Rule record { words = set ws 2 ((get_or ws 2 0 + 1) % 2 ^ 64); homes = s.homes; views = set s.views id w }) (sym r.words)
             (subst (λ (n : ℕ). Rule record { words = r.ticket ∷ r.serving ∷ n ∷ []; homes = s.homes; views = set s.views id w }) (sym up)
-            (moved s r id v w r.ticket r.serving log s.homes at (omega arith) (omega arith) (λ n. inl (omega arith)) (omega arith) (omega arith) (omega arith) (λ k. omega (arith, one_more r.log e k, times_last k v.own (mark r.log e)))
+            (moved s r id v w r.ticket r.serving log s.homes at (omega arith) (omega arith) (λ n. inl (omega arith)) (omega arith) (omega arith) (omega arith) (omega (arith, r.heard id v at)) (λ k. omega (arith, one_more r.log e k, times_last k v.own (mark r.log e)))
             (record {
               of = of_same v w refl some_view v.origin fit.of;
               counted = fit.counted;
@@ -354,7 +360,7 @@ module _ {T E O : Type 0} (origin : T → O) (stands : T → List E → Type 0) 
         keeps,
         tt,
         subst (λ (ws : List ℕ). Rule record { words = set ws 2 (get_or ws 2 0); homes = s.homes; views = set s.views id w }) (sym r.words)
-            (moved s r id v w r.ticket r.serving r.log s.homes at (omega arith) (omega arith) (λ k. inl (omega arith)) (omega arith) (omega arith) (omega arith) (λ k. refl)
+            (moved s r id v w r.ticket r.serving r.log s.homes at (omega arith) (omega arith) (λ k. inl (omega arith)) (omega arith) (omega arith) (omega arith) (omega (arith, r.heard id v at)) (λ k. refl)
             (record { of = of_same v w refl some_view v.origin fit.of; counted = fit.counted; holding = fit.holding; early = fit.early; prefix = prefix_self r.log; begins = prefix_trans v.beginning v.seen r.log fit.begins fit.prefix; own = fit.own; some_own = fit.some_own })
             (λ j u _ e. r.each_view j u e)
             (slot_stays r.log s.homes s.views id v w at refl r.slot)),
@@ -378,7 +384,7 @@ module _ {T E O : Type 0} (origin : T → O) (stands : T → List E → Type 0) 
         keeps,
         tt,
         subst (λ (ws : List ℕ). Rule record { words = set ws 0 (get_or ws 0 0); homes = s.homes; views = set s.views id v }) (sym r.words)
-            (moved s r id v v r.ticket r.serving r.log s.homes at (omega arith) (omega arith) (λ k. inl (omega arith)) (omega arith) (omega arith) (omega arith) (λ k. refl) fit (λ j u _ e. r.each_view j u e)
+            (moved s r id v v r.ticket r.serving r.log s.homes at (omega arith) (omega arith) (λ k. inl (omega arith)) (omega arith) (omega arith) (omega arith) (omega (arith, r.heard id v at)) (λ k. refl) fit (λ j u _ e. r.each_view j u e)
             (slot_stays r.log s.homes s.views id v v at refl r.slot)),
         (refl, all_turns v (v.left + v.entered) some_view v.origin fit.of (omega (arith, few_turns s r id v at, one_of (λ (u : V). u.entered) s.views id v at, r.entered)), fit.begins),
       )
@@ -402,6 +408,9 @@ module _ {T E O : Type 0} (origin : T → O) (stands : T → List E → Type 0) 
         once = λ k. omega (arith, split_sum (λ (u : V). is_ticket k u.ticket) s.views id v left right at, r.once k);
         undrawn = λ k l. omega (arith, split_sum (λ (u : V). is_ticket k u.ticket) s.views id v left right at, r.undrawn k l);
         entered = omega (arith, split_sum (λ (u : V). u.entered) s.views id v left right at, r.entered);
+        heard = λ j u e. ⊎_elim
+            (λ (here : get_elem? (set s.views id left) j ≡ some u). ⊎_elim (λ (t : (j ≡ id) × (left ≡ u)). subst (λ (x : V). x.found ≤ r.ticket) t.1 (r.heard id v at)) (λ (t : (j ≢ id) × (get_elem? s.views j ≡ some u)). r.heard j u t.1) (at_set s.views id j left u here))
+            (λ (new : right ≡ u). subst (λ (x : V). x.found ≤ r.ticket) new (r.heard id v at)) (at_snoc (set s.views id left) right u j e);
         once_each = λ k. omega (arith, split_sum (λ (u : V). times k (own_lists u)) s.views id v left right at, r.once_each k);
         few = omega (arith, split_sum pending s.views id v left right at, r.few);
         bounded = omega (arith, split_sum (λ (u : V). u.left) s.views id v left right at, r.bounded);
@@ -425,13 +434,13 @@ module _ {T E O : Type 0} (origin : T → O) (stands : T → List E → Type 0) 
   join_sum f views id other v w both_views at there = omega (arith, sum_set f views id v both_views at, sum_set f (set views id both_views) other w spent_view there)
 
   pub joins : (id other : ℕ) (v w u : V) (o : O) → v.origin ≡ Some o → v.ticket ≡ None → w.ticket ≡ None → v.kept ≡ None → w.kept ≡ None
-      → u.origin ≡ v.origin → u.turns ≡ v.turns → u.ticket ≡ None → u.kept ≡ None → u.added ≡ v.added → u.left ≡ v.left + w.left → u.entered ≡ v.entered + w.entered
+      → u.origin ≡ v.origin → u.turns ≡ v.turns → u.ticket ≡ None → u.kept ≡ None → u.added ≡ v.added → u.left ≡ v.left + w.left → u.entered ≡ v.entered + w.entered → u.found ≡ v.found
       → ((l : List E) → IsPrefix v.seen l → IsPrefix w.seen l → IsPrefix u.seen l)
       → ((l : List E) → IsPrefix v.seen l → IsPrefix w.seen l → IsPrefix v.beginning v.seen → IsPrefix u.beginning u.seen)
       → ((l : List E) → AllStand l (own_lists v) → AllStand l (own_lists w) → AllStand l (own_lists u))
       → ((k : ℕ) → times k (own_lists u) ≡ times k (own_lists v) + times k (own_lists w)) → total (own_lists u) ≤ total (own_lists v) + total (own_lists w)
       → Joins Rule id v other w u spent_view
-  joins id other v w u o is v_ticket w_ticket v_value w_value u_origin u_turns u_ticket u_value u_added u_left u_entered u_seen u_begins u_own u_times u_total s r at apart there =
+  joins id other v w u o is v_ticket w_ticket v_value w_value u_origin u_turns u_ticket u_value u_added u_left u_entered u_found u_seen u_begins u_own u_times u_total s r at apart there =
       let fit : Fits first turns r.serving r.log s.homes v = r.each_view id v at in
       let some_view : v ≢ spent_view = λ e. let d : Some o ≡ None = sym is ∙ ap (λ (x : V). x.origin) e in absurd (cc d) in
       let views : List V = set (set s.views id u) other spent_view in
@@ -454,6 +463,10 @@ module _ {T E O : Type 0} (origin : T → O) (stands : T → List E → Type 0) 
         once = λ k. omega (arith, tickets k, r.once k, none_of k v v_ticket, none_of k w w_ticket, none_of k u u_ticket);
         undrawn = λ k l. omega (arith, tickets k, r.undrawn k l, none_of k v v_ticket, none_of k w w_ticket, none_of k u u_ticket);
         entered = omega (arith, join_sum (λ (x : V). x.entered) s.views id other v w u at there, r.entered);
+        heard = λ j x e. ⊎_elim (λ (t : (j ≡ other) × (spent_view ≡ x)). subst (λ (y : V). y.found ≤ r.ticket) t.1 (omega arith))
+            (λ (t : (j ≢ other) × (get_elem? (set s.views id u) j ≡ some x)). ⊎_elim (λ (h : (j ≡ id) × (u ≡ x)). subst (λ (y : V). y.found ≤ r.ticket) h.1 (omega (arith, u_found, r.heard id v at)))
+            (λ (h : (j ≢ id) × (get_elem? s.views j ≡ some x)). r.heard j x h.1) (at_set s.views id j u x t.1))
+            (at_set (set s.views id u) other j spent_view x e);
         once_each = λ k. omega (arith, join_sum (λ (x : V). times k (own_lists x)) s.views id other v w u at there, r.once_each k, u_times k);
         few = omega (arith, join_sum pending s.views id other v w u at there, r.few, no_v, no_w, no_u);
         bounded = omega (arith, join_sum (λ (x : V). x.left) s.views id other v w u at there, r.bounded);
@@ -500,7 +513,7 @@ module _ {T E O : Type 0} (origin : T → O) (stands : T → List E → Type 0) 
       let none_of = none_drawn s r id v at no_ticket (all ∙ sym hit ∙ here) in
       let still : r.serving ≡ r.ticket = omega (arith, r.waiting, sum_none (λ (x : V). counts x.ticket) s.views none_of) in
       let home = home_at_end s r none_of r.slot in
-      let w : V = holding (entering v found) r.log in
+      let w : V = holding (entering (finding v found) found) r.log in
       let next : either (r.ticket == old) new r.ticket ≡ r.ticket + 1 = ap (λ (b : Bool). either b new r.ticket) (eq-eqb r.ticket old (sym here ∙ hit)) ∙ (up ∙ ap (λ (k : ℕ). k + 1) (sym hit ∙ here)) in (
         w,
         takes 0 (Some home.0),
@@ -508,19 +521,21 @@ module _ {T E O : Type 0} (origin : T → O) (stands : T → List E → Type 0) 
         subst (λ (ws : List ℕ). Rule record { words = set ws 0 (either (get_or ws 0 0 == old) new (get_or ws 0 0)); homes = set s.homes 0 none; views = set s.views id w }) (sym r.words)
             (subst (λ (hs : Homes). Rule record { words = either (r.ticket == old) new r.ticket ∷ r.serving ∷ length r.log ∷ []; homes = set hs 0 none; views = set s.views id w }) (sym home.1)
             (subst (λ (k : ℕ). Rule record { words = k ∷ r.serving ∷ length r.log ∷ []; homes = none ∷ []; views = set s.views id w }) (sym next)
-            (taken s r id v w (r.ticket + 1) at (omega arith) (omega arith) (λ n. drawn_now r.ticket found v.ticket n here) (omega arith) (omega arith) (omega arith) refl (of_same v w refl some_view v.origin fit.of) (omega arith)
+            (taken s r id v w (r.ticket + 1) at (omega arith) (omega arith) (λ n. drawn_now r.ticket found v.ticket n here) (omega arith) (omega arith) (omega arith) (omega (arith, here)) refl (of_same v w refl some_view v.origin fit.of) (omega arith)
             (ap Some (here ∙ sym still)) refl refl fit.prefix fit.begins fit.own (omega (arith, fit.some_own))))),
         match_true (found == old) _ _ (eq-eqb found old hit) ((home.0, r.log, refl, has_origin v (origin home.0) v.origin some_view fit.of home.2, home.3, fit.prefix), all_mine s r id v at (all ∙ sym hit ∙ here)),
       ))
       (λ (miss : found ≢ old).
       let next : either (r.ticket == old) new r.ticket ≡ r.ticket = ap (λ (b : Bool). either b new r.ticket) (ne_eqb r.ticket old (λ e. miss (here ∙ e))) in
+      let w : V = finding v found in
       let few : v.entered ≤ found = omega (arith, one_of (λ (u : V). u.entered) s.views id v at, r.entered) in (
-        v,
+        w,
         keeps,
         tt,
-        subst (λ (ws : List ℕ). Rule record { words = set ws 0 (either (get_or ws 0 0 == old) new (get_or ws 0 0)); homes = s.homes; views = set s.views id v }) (sym r.words)
-            (subst (λ (k : ℕ). Rule record { words = k ∷ r.serving ∷ length r.log ∷ []; homes = s.homes; views = set s.views id v }) (sym next)
-            (moved s r id v v r.ticket r.serving r.log s.homes at (omega arith) (omega arith) (λ k. inl (omega arith)) (omega arith) (omega arith) (omega arith) (λ k. refl) fit (λ j u _ e. r.each_view j u e)
-            (slot_stays r.log s.homes s.views id v v at refl r.slot))),
+        subst (λ (ws : List ℕ). Rule record { words = set ws 0 (either (get_or ws 0 0 == old) new (get_or ws 0 0)); homes = s.homes; views = set s.views id w }) (sym r.words)
+            (subst (λ (k : ℕ). Rule record { words = k ∷ r.serving ∷ length r.log ∷ []; homes = s.homes; views = set s.views id w }) (sym next)
+            (moved s r id v w r.ticket r.serving r.log s.homes at (omega arith) (omega arith) (λ k. inl (omega arith)) (omega arith) (omega arith) (omega arith) (omega (arith, here)) (λ k. refl)
+            (record { of = of_same v w refl some_view v.origin fit.of; counted = fit.counted; holding = fit.holding; early = fit.early; prefix = fit.prefix; begins = fit.begins; own = fit.own; some_own = fit.some_own })
+            (λ j u _ e. r.each_view j u e) (slot_stays r.log s.homes s.views id v w at refl r.slot))),
         match_false (found == old) _ _ (ne_eqb found old miss) (refl, omega arith, all_turns v (v.left + found) some_view v.origin fit.of (omega (arith, few_turns s r id v at))),
       ))

@@ -3,3 +3,4 @@ pub mod Prefixes
 pub mod Owned
 pub mod Keeping
 pub mod Guards
+mod Weights

@@ -22,10 +22,10 @@ module _ {E : Type 0} where
   get_last [] e = refl
   get_last (x ∷ h) e = get_last h e
 
-  not_place : (k : ℕ) (m : Mark E) → m.place ≢ k → is_place k m ≡ 0
+  pub not_place : (k : ℕ) (m : Mark E) → m.place ≢ k → is_place k m ≡ 0
   not_place k m other = ap (λ (b : Bool). if b then 1 else 0) (ne_eqb m.place k other)
 
-  has_place : (k : ℕ) (m : Mark E) → m.place ≡ k → is_place k m ≡ 1
+  pub has_place : (k : ℕ) (m : Mark E) → m.place ≡ k → is_place k m ≡ 1
   has_place k m same = ap (λ (b : Bool). if b then 1 else 0) (eq-eqb m.place k same)
 
   shifted : (h : List E) (x e : E) (k : ℕ) → is_place (suc k) (mark (x ∷ h) e) ≡ is_place k (mark h e)
@@ -54,6 +54,10 @@ module _ {E : Type 0} where
   pub all_beside : (h : List E) (xs ys : List (List (Mark E))) → AllStand h xs → AllStand h ys → AllStand h (xs ++ ys)
   all_beside h [] ys s t = t
   all_beside h (x ∷ xs) ys s t = (s.0, all_beside h xs ys s.1 t)
+
+  pub all_apart : (h : List E) (xs ys : List (List (Mark E))) → AllStand h (xs ++ ys) → AllStand h xs × AllStand h ys
+  all_apart h [] ys s = (tt, s)
+  all_apart h (x ∷ xs) ys s = let rest = all_apart h xs ys s.1 in ((s.0, rest.0), rest.1)
 
   pub times_last : (k : ℕ) (ms : List (Mark E)) (m : Mark E) → times_in k (ms ++ m ∷ []) ≡ times_in k ms + is_place k m
   times_last k [] m = omega arith

@@ -19,7 +19,7 @@ module _ {A : Type 0} where
   longer_prefix xs ys zs p q = either_prefix (nat_lt (length xs) (length ys)) xs ys zs p q
 
   -- of two lists that begin one list, the shorter begins the longer
-  prefix_within : (xs ys zs : List A) → IsPrefix xs zs → IsPrefix ys zs → length xs ≤ length ys → IsPrefix xs ys
+  pub prefix_within : (xs ys zs : List A) → IsPrefix xs zs → IsPrefix ys zs → length xs ≤ length ys → IsPrefix xs ys
   prefix_within [] ys zs p q l = (ys, refl)
   prefix_within (x ∷ xs) [] zs p q l = absurd (omega arith)
   prefix_within (x ∷ xs) (y ∷ ys) [] p q l = absurd (cc (p.1))

@@ -14,7 +14,7 @@ pub record Lock (O : Type 0) : Type 0 where
   pub origin : O
   pub turns : ℕ
 
--- the lock of a pass; how many turns it has left, and how many were entered by it and by those joined into it; how many turns `close` found, or 0;
+-- the lock of a pass; how many turns it has left, and how many were entered by it and by those joined into it; how many turns had been entered by any pass when `close` looked last, or 0;
 -- all that it has seen of the history; the events that it added, each with its place in the history; those of each pass that was joined into it
 pub record Known (E O : Type 0) : Type 0 where
   pub lock : Option (Lock O)
@@ -47,7 +47,7 @@ module _ {E O : Type 0} where
 
   -- what is known of a seat, by its table and its view
   abbrev pub known_of : TableId → View E O → Standing → Known E O
-  known_of table v standing = record { lock = lock_of table v; standing = standing; left = v.left; entered = v.entered; found = 0; seen = v.seen; own = v.own; joined = v.joined }
+  known_of table v standing = record { lock = lock_of table v; standing = standing; left = v.left; entered = v.entered; found = v.found; seen = v.seen; own = v.own; joined = v.joined }
 
   -- the own events of a pass, whose seat is in the turn while one is open
   abbrev pub own_of : Standing → View E O → List (Mark E)

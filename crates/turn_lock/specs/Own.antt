@@ -1,4 +1,5 @@
 -- The events of a history that passes have as their own, each with its place. This product's own.
+use Rattle.std.specs.List.{sum_by}
 use Rattle.std.specs.Prelude.{◌≡◌, ◌==◌, ℕ, ◌+◌, ◌≤◌, List, [], ◌∷◌, ◌++◌, length, slice_get, if◌then◌else◌, Option, Some, None}
 use Rattle.turn_lock.specs.declared.view.Mark.{Mark}
 
@@ -35,6 +36,11 @@ module _ {E : Type 0} where
   abbrev pub total : List (List (Mark E)) → ℕ
   total [] = 0
   total (ms ∷ lists) = length ms + total lists
+
+  -- what the events of all lists weigh
+  abbrev pub weight_of : (E → ℕ) → List (List (Mark E)) → ℕ
+  weight_of f [] = 0
+  weight_of f (ms ∷ lists) = sum_by (λ m. f m.event) ms + weight_of f lists
 
   -- the events stand in the history at their places, which rise from n on
   abbrev pub StandFrom : List E → ℕ → List (Mark E) → Type 0

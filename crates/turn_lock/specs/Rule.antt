@@ -22,10 +22,10 @@ with_added h None = h
 module _ {E O : Type 0} where
   -- a view of a lock with this origin and so many turns in all, which has `left` of them and has done nothing yet
   abbrev pub fresh_view : O → ℕ → ℕ → View E O
-  fresh_view o turns left = record { origin = Some o; turns = turns; left = left; entered = 0; ticket = None; kept = None; added = None; seen = []; beginning = []; own = []; joined = []; noted_own = []; noted_joined = [] }
+  fresh_view o turns left = record { origin = Some o; turns = turns; left = left; entered = 0; found = 0; ticket = None; kept = None; added = None; seen = []; beginning = []; own = []; joined = []; noted_own = []; noted_joined = [] }
 
   abbrev pub spent_view : View E O
-  spent_view = record { origin = None; turns = 0; left = 0; entered = 0; ticket = None; kept = None; added = None; seen = []; beginning = []; own = []; joined = []; noted_own = []; noted_joined = [] }
+  spent_view = record { origin = None; turns = 0; left = 0; entered = 0; found = 0; ticket = None; kept = None; added = None; seen = []; beginning = []; own = []; joined = []; noted_own = []; noted_joined = [] }
 
   -- a view has the origin and the turns of the lock, or is spent
   abbrev pub IsOf : O → ℕ → View E O → Option O → Type 0
@@ -80,6 +80,8 @@ module _ {E O : Type 0} where
     pub undrawn : (n : ℕ) → ticket ≤ n → sum_by (λ v. is_ticket n v.ticket) s.views ≡ 0
     -- the turns entered add up to ticket
     pub entered : sum_by (λ v. v.entered) s.views ≡ ticket
+    -- who read the ticket word read no more than it is now
+    pub heard : (seat : ℕ) (v : View E O) → get_elem? s.views seat ≡ some v → v.found ≤ ticket
     -- each place of the history, and no other, is an own place of exactly one view
     pub once_each : (k : ℕ) → sum_by (λ v. times k (own_lists v)) s.views ≡ counts (slice_get log k)
     -- each turn adds one event at most

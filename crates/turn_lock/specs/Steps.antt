@@ -25,6 +25,10 @@ module _ {E O : Type 0} where
   abbrev pub entering : View E O → ℕ → View E O
   entering v n = record v { left = v.left - 1; entered = v.entered + 1; ticket = Some n }
 
+  -- the ticket word was n
+  abbrev pub finding : View E O → ℕ → View E O
+  finding v n = record v { found = n }
+
   -- the turn has the value, which stood for h
   abbrev pub holding : View E O → List E → View E O
   holding v h = record v { kept = Some h; added = None }
@@ -94,6 +98,6 @@ module _ {T E O : Type 0} where
   abbrev pub Learns : Step (Option T) → Sat T E O → ℕ → Sat T E O → Type 0
   Learns st m found m' = (m' ≡ m) × (m.0.left + m.0.entered ≤ m.0.turns + 1) × IsPrefix m.0.beginning m.0.seen
 
-  -- the last turn was entered and the value taken, as all turns so far were the seat's, so that its own lists make up the history; or there were more
+  -- the ticket word was read, and stays in mind. The last turn was entered and the value taken, as all turns so far were the seat's, so that its own lists make up the history; or there were more
   abbrev pub Closes : (T → O) → (T → List E → Type 0) → Step (Option T) → Sat T E O → ℕ → Sat T E O → Type 0
-  Closes origin stands st m found m' = MatchBool (found == st.first) (Takes origin stands (entering m.0 found) m m' × MakeUp (given_back m'.0) (own_lists m.0)) ((m' ≡ m) × (m.0.entered < found) × (m.0.left + found ≤ m.0.turns + 1))
+  Closes origin stands st m found m' = MatchBool (found == st.first) (Takes origin stands (entering (finding m.0 found) found) m m' × MakeUp (given_back m'.0) (own_lists m.0)) ((m' ≡ (finding m.0 found, m.1)) × (m.0.entered < found) × (m.0.left + found ≤ m.0.turns + 1))

@@ -22,16 +22,19 @@
 
 mod event;
 mod guard;
+pub mod laws;
+mod lock_fault;
 mod pass;
 mod steps;
 mod turn;
 mod turns;
 mod view;
 
-pub use event::{Event, StandsFor};
+pub use event::{HistoryEvent, Names, StandsFor};
+pub use lock_fault::LockFault;
 pub use pass::{Pass, Standing};
 pub use turn::Turn;
-pub use turns::{LockFault, Turns};
+pub use turns::Turns;
 
 #[cfg(test)]
 mod tests;

@@ -3,7 +3,7 @@ ghost use Rattle.std.specs.Prelude.{◌≡◌, ◌+◌, ◌-◌, ◌^◌, ◌<�
 ghost use Rattle.turn_lock.specs.Known.{view_of, known_of, stubbed};
 ghost use Rattle.turn_lock.specs.declared.pass.Standing.TheVariants.{Ready, InTurn, Closed};
 
-use crate::event::Event;
+use crate::event::HistoryEvent;
 use crate::view::View;
 use atomic_table::Badge;
 use std::marker::Model;
@@ -21,27 +21,26 @@ pub enum Standing {
 
 /// Turns of one lock. A thread enters them one after the other.
 #[derive(Drop)]
-pub struct Pass<E: Event> {
+pub struct Pass<E: HistoryEvent> {
     left: u64,
     entered: u64,
-    found: u64,
     standing: Standing,
     badge: Badge<View<E>>,
 }
 
-impl<E: Event> Model for Pass<E> {
+impl<E: HistoryEvent> Model for Pass<E> {
     ghost use Rattle.std.specs.Prelude.{◌≡◌, ◌+◌, ◌^◌, ◌≤◌};
     ghost use Rattle.turn_lock.specs.declared.pass.Standing.TheVariants.{Ready};
     ghost use Rattle.turn_lock.specs.Known.{Known, lock_of, view_of, own_of, joined_of, IsReady};
 
     ghost Value = { Known E E.Origin };
 
-    ghost view = { λ p. record { lock = lock_of p.badge.table_id (view_of p.badge.views); standing = p.standing; left = p.left; entered = p.entered; found = p.found; seen = (view_of p.badge.views).seen; own = own_of p.standing (view_of p.badge.views); joined = joined_of p.standing (view_of p.badge.views) } };
+    ghost view = { λ p. record { lock = lock_of p.badge.table_id (view_of p.badge.views); standing = p.standing; left = p.left; entered = p.entered; found = (view_of p.badge.views).found; seen = (view_of p.badge.views).seen; own = own_of p.standing (view_of p.badge.views); joined = joined_of p.standing (view_of p.badge.views) } };
 
     ghost invariant = { λ p. (p.standing ≡ Ready → IsReady p.badge p.left p.entered) × (p.left + p.entered ≤ 2 ^ 62 + 1) };
 }
 
-impl<E: Event> Pass<E> {
+impl<E: HistoryEvent> Pass<E> {
     /// How many turns it has left.
     pub fn left(&self) -> u64
         ensures { result ≡ self.now.left }
@@ -56,16 +55,15 @@ impl<E: Event> Pass<E> {
     }
 
     /// A pass over a badge with no open turn.
-    pub(crate) fn over(badge: Badge<View<E>>, left: u64, entered: u64, found: u64) -> Pass<E>
+    pub(crate) fn over(badge: Badge<View<E>>, left: u64, entered: u64) -> Pass<E>
         requires view { (badge.views ≡ view_of badge.views ∷ []) × ((view_of badge.views).left ≡ left) × ((view_of badge.views).entered ≡ entered) }
         requires rests { ((view_of badge.views).ticket ≡ None) × ((view_of badge.views).kept ≡ None) }
         requires small { left + entered ≤ 2 ^ 62 + 1 }
-        ensures { result ≡ record (known_of badge.table_id (view_of badge.views) Ready) { found = found } }
+        ensures { result ≡ known_of badge.table_id (view_of badge.views) Ready }
     {
         Pass {
             left,
             entered,
-            found,
             standing: Standing::Ready,
             badge,
         }
@@ -75,11 +73,10 @@ impl<E: Event> Pass<E> {
     pub(crate) fn take(&mut self) -> Badge<View<E>>
         requires { self.old.standing ≡ Ready }
         ensures view { (result.views ≡ view_of result.views ∷ []) × ((view_of result.views).ticket ≡ None) × ((view_of result.views).kept ≡ None) }
-        ensures known { record self.old { found = 0 } ≡ known_of result.table_id (view_of result.views) Ready }
+        ensures known { self.old ≡ known_of result.table_id (view_of result.views) Ready }
         ensures pass { self.new ≡ record self.old { lock = None; standing = InTurn; found = 0; seen = []; own = []; joined = [] } }
         ensures small { self.old.left + self.old.entered ≤ 2 ^ 62 + 1 }
     {
-        self.found = 0;
         self.standing = Standing::InTurn;
         mem::replace(&mut self.badge, Badge::blank())
     }
@@ -87,7 +84,7 @@ impl<E: Event> Pass<E> {
     /// A turn is entered. The stub keeps the lock in mind.
     pub(crate) fn begin(&mut self, stub: Badge<View<E>>)
         requires { (self.old.standing ≡ InTurn) × (0 < self.old.left) }
-        ensures { self.new ≡ record (stubbed stub.table_id (view_of stub.views) InTurn) { left = self.old.left - 1; entered = self.old.entered + 1; found = self.old.found } }
+        ensures { self.new ≡ record (stubbed stub.table_id (view_of stub.views) InTurn) { left = self.old.left - 1; entered = self.old.entered + 1 } }
     {
         self.badge = stub;
         self.left -= 1;
@@ -97,7 +94,7 @@ impl<E: Event> Pass<E> {
     /// Takes the badge back, after the turn.
     pub(crate) fn rest(&mut self, badge: Badge<View<E>>)
         requires view { (badge.views ≡ view_of badge.views ∷ []) × ((view_of badge.views).ticket ≡ None) × ((view_of badge.views).kept ≡ None) }
-        requires pass { (self.old.standing ≡ InTurn) × (self.old.found ≡ 0) }
+        requires pass { self.old.standing ≡ InTurn }
         requires turns { (self.old.left ≡ (view_of badge.views).left) × (self.old.entered ≡ (view_of badge.views).entered) }
         ensures { self.new ≡ known_of badge.table_id (view_of badge.views) Ready }
     {
@@ -108,10 +105,9 @@ impl<E: Event> Pass<E> {
     /// The lock was closed, and all turns were entered by the pass.
     pub(crate) fn close(&mut self, stub: Badge<View<E>>)
         requires { self.old.standing ≡ InTurn }
-        ensures { self.new ≡ record (stubbed stub.table_id (view_of stub.views) Closed) { left = self.old.left; entered = self.old.entered; found = self.old.entered } }
+        ensures { self.new ≡ record (stubbed stub.table_id (view_of stub.views) Closed) { left = self.old.left; entered = self.old.entered } }
     {
         self.badge = stub;
-        self.found = self.entered;
         self.standing = Standing::Closed;
     }
 }

@@ -1,5 +1,5 @@
 // What each step on the table tells.
-use crate::event::{Event, StandsFor};
+use crate::event::{HistoryEvent, StandsFor};
 use crate::view::View;
 use atomic_table::{Join, Play, Split};
 use std::marker::{Brand, PhantomData};
@@ -7,7 +7,7 @@ use std::marker::{Brand, PhantomData};
 /// Draws a ticket.
 pub(crate) struct Draw;
 
-impl<T, E: Event> Play<Option<T>, View<E>> for Draw {
+impl<T, E: HistoryEvent> Play<Option<T>, View<E>> for Draw {
     ghost use Rattle.turn_lock.specs.Steps.{Draws};
 
     ghost then = { Draws };
@@ -16,7 +16,7 @@ impl<T, E: Event> Play<Option<T>, View<E>> for Draw {
 /// Reads which ticket is served, and takes the value where it is its own.
 pub(crate) struct Look;
 
-impl<T: StandsFor<E>, E: Event> Play<Option<T>, View<E>> for Look {
+impl<T: StandsFor<E>, E: HistoryEvent> Play<Option<T>, View<E>> for Look {
     ghost use Rattle.turn_lock.specs.Steps.{Looks};
 
     ghost then = { Looks T.origin T.stands };
@@ -25,7 +25,7 @@ impl<T: StandsFor<E>, E: Event> Play<Option<T>, View<E>> for Look {
 /// Reads how long the history is, and sees it.
 pub(crate) struct See;
 
-impl<T, E: Event> Play<Option<T>, View<E>> for See {
+impl<T, E: HistoryEvent> Play<Option<T>, View<E>> for See {
     ghost use Rattle.turn_lock.specs.Steps.{Sees};
 
     ghost then = { Sees };
@@ -49,7 +49,7 @@ pub(crate) struct Add<N> {
     of: PhantomData<N>,
 }
 
-impl<T, E: Event, N: Naming<E>> Play<Option<T>, View<E>> for Add<N> {
+impl<T, E: HistoryEvent, N: Naming<E>> Play<Option<T>, View<E>> for Add<N> {
     ghost use Rattle.turn_lock.specs.Steps.{Adds};
 
     ghost then = { Adds N.event };
@@ -58,7 +58,7 @@ impl<T, E: Event, N: Naming<E>> Play<Option<T>, View<E>> for Add<N> {
 /// Gives the value back, and serves the next ticket.
 pub(crate) struct End;
 
-impl<T, E: Event> Play<Option<T>, View<E>> for End {
+impl<T, E: HistoryEvent> Play<Option<T>, View<E>> for End {
     ghost use Rattle.turn_lock.specs.Steps.{Ends};
 
     ghost then = { Ends };
@@ -67,7 +67,7 @@ impl<T, E: Event> Play<Option<T>, View<E>> for End {
 /// Learns that there are not too many turns, and that the shorter of two lists that were joined begins the longer.
 pub(crate) struct Learn;
 
-impl<T, E: Event> Play<Option<T>, View<E>> for Learn {
+impl<T, E: HistoryEvent> Play<Option<T>, View<E>> for Learn {
     ghost use Rattle.turn_lock.specs.Steps.{Learns};
 
     ghost then = { Learns };
@@ -76,7 +76,7 @@ impl<T, E: Event> Play<Option<T>, View<E>> for Learn {
 /// Enters the last turn, if all turns were entered by the seat.
 pub(crate) struct Close;
 
-impl<T: StandsFor<E>, E: Event> Play<Option<T>, View<E>> for Close {
+impl<T: StandsFor<E>, E: HistoryEvent> Play<Option<T>, View<E>> for Close {
     ghost use Rattle.turn_lock.specs.Steps.{Closes};
 
     ghost then = { Closes T.origin T.stands };
@@ -98,7 +98,7 @@ pub(crate) struct Give<N: Share> {
     of: PhantomData<N>,
 }
 
-impl<E: Event, N: Share> Split<View<E>> for Give<N> {
+impl<E: HistoryEvent, N: Share> Split<View<E>> for Give<N> {
     ghost use Rattle.turn_lock.specs.Steps.{giving, given};
 
     ghost left = { λ v. giving v N.turns };
@@ -109,7 +109,7 @@ impl<E: Event, N: Share> Split<View<E>> for Give<N> {
 /// Makes a seat that keeps the lock in mind.
 pub(crate) struct Stub;
 
-impl<E: Event> Split<View<E>> for Stub {
+impl<E: HistoryEvent> Split<View<E>> for Stub {
     ghost use Rattle.turn_lock.specs.Steps.{given};
 
     ghost left = { λ v. v };
@@ -120,7 +120,7 @@ impl<E: Event> Split<View<E>> for Stub {
 /// Takes in the turns of another seat, and what it knows.
 pub(crate) struct Unite;
 
-impl<E: Event> Join<View<E>> for Unite {
+impl<E: HistoryEvent> Join<View<E>> for Unite {
     ghost use Rattle.turn_lock.specs.Rule.{spent_view};
     ghost use Rattle.turn_lock.specs.Steps.{both};
 
@@ -132,7 +132,7 @@ impl<E: Event> Join<View<E>> for Unite {
 /// Takes in the turn that closes the lock.
 pub(crate) struct Lend;
 
-impl<E: Event> Join<View<E>> for Lend {
+impl<E: HistoryEvent> Join<View<E>> for Lend {
     ghost use Rattle.turn_lock.specs.Rule.{spent_view};
     ghost use Rattle.turn_lock.specs.Steps.{lent};
 

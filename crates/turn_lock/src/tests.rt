@@ -14,7 +14,7 @@ struct Line {
     by: u32,
 }
 
-impl Event for Line {
+impl HistoryEvent for Line {
     type Origin = u32;
 }
 
@@ -67,6 +67,15 @@ fn moves_between_a_lock_and_its_user(rt: HostRuntime) -> Result<(), Fail> {
     Ok(())
 }
 
+#[test]
+fn tells_why_it_was_refused(rt: HostRuntime) -> Result<(), Fail> {
+    let fault = LockFault::from(AllocError);
+    assert_eq!(rt; fault, LockFault::Memory);
+    let text = format!(in rt.alloc(); "{fault}")?;
+    assert!(rt; text.as_str() == "out of memory");
+    Ok(())
+}
+
 /// Ends a turn in which the line was written.
 fn commit_line(lock: &Turns<Log, Line>, pass: &mut Pass<Line>, turn: Turn<Log, Line>, by: u32)
     ghost line: { Line }
@@ -102,6 +111,34 @@ fn write_line<R: Wait>(
             Err(e)
         }
     }
+}
+
+/// Who wrote a line, which names it.
+#[derive(Drop)]
+struct Author {
+    name: u32,
+}
+
+impl Names<Line> for Author {
+    ghost named = { λ author. record { by = author.name } };
+}
+
+#[test]
+fn names_a_line_by_its_author(rt: HostRuntime) -> Result<(), Fail> {
+    let (lock, mut pass): (Turns<Log, Line>, Pass<Line>) = Turns::new(
+        rt.alloc(),
+        empty_log(&rt, 7),
+        1,
+    )?;
+    let author = Author { name: 4 };
+    let mut turn = lock.enter(&rt, &mut pass);
+    turn.value_mut().push(author.name)?;
+    lock.commit_by(&mut pass, turn, &author);
+    let Ok((log, _)) = lock.close(pass) else {
+        panic!(rt; "no other pass was made")
+    };
+    assert!(rt; log.lines.as_slice() == [4].as_slice());
+    Ok(())
 }
 
 /// Writes lines until the pass has no turn left.
@@ -165,6 +202,36 @@ fn two_threads_make_a_hundred_turns_each(rt: HostRuntime) -> Result<(), Fail> {
         log.lines.as_slice().iter().filter(|by| **by == 1).count(),
         100
     );
+    Ok(())
+}
+
+#[test]
+fn closes_beside_a_pass_that_entered_no_turn(rt: HostRuntime) -> Result<(), Fail> {
+    let (lock, mut pass): (Turns<Log, Line>, Pass<Line>) = Turns::new(
+        rt.alloc(),
+        empty_log(&rt, 7),
+        3,
+    )?;
+    let unused = lock.split(&mut pass, 2)?;
+    write_line(&rt, &lock, &mut pass, 1)?;
+    let Ok((log, _)) = lock.close(pass) else {
+        panic!(rt; "the other pass entered no turn")
+    };
+    assert!(rt; log.lines.len() == 1 && unused.left() == 2);
+    Ok(())
+}
+
+#[test]
+fn closes_an_unused_lock(rt: HostRuntime) -> Result<(), Fail> {
+    let (lock, pass): (Turns<Log, Line>, Pass<Line>) = Turns::new(
+        rt.alloc(),
+        empty_log(&rt, 7),
+        1,
+    )?;
+    let Ok((log, pass)) = lock.close(pass) else {
+        panic!(rt; "no turn was entered")
+    };
+    assert!(rt; log.lines.is_empty() && pass.left() == 1);
     Ok(())
 }
 

@@ -4,7 +4,7 @@ ghost use types.Logic.{sem};
 ghost use Rattle.std.specs.Borrow.{Lends};
 ghost use Rattle.turn_lock.specs.contracts.turn.Turn.{the_row};
 
-use crate::event::{Event, StandsFor};
+use crate::event::{HistoryEvent, StandsFor};
 use crate::view::View;
 use atomic_table::Seat;
 use std::marker::Model;
@@ -13,12 +13,12 @@ use std::marker::Model;
 ///
 /// A turn that is dropped takes the value with it, and every later turn waits for ever.
 #[derive(Drop)]
-pub struct Turn<T: StandsFor<E>, E: Event> {
+pub struct Turn<T: StandsFor<E>, E: HistoryEvent> {
     pub(crate) seat: Seat<Option<T>, View<E>>,
     pub(crate) value: T,
 }
 
-impl<T: StandsFor<E>, E: Event> Model for Turn<T, E> {
+impl<T: StandsFor<E>, E: HistoryEvent> Model for Turn<T, E> {
     ghost use Rattle.std.specs.Prelude.{◌≡◌, [], ◌∷◌, IsSome, None};
     ghost use Rattle.turn_lock.specs.declared.pass.Standing.TheVariants.{InTurn};
     ghost use Rattle.turn_lock.specs.Known.{Held, known_of};
@@ -31,7 +31,7 @@ impl<T: StandsFor<E>, E: Event> Model for Turn<T, E> {
     ghost invariant = { λ t. (t.seat.me.1 ≡ (0, None) ∷ []) × IsSome t.seat.me.0.kept × (t.seat.me.0.added ≡ None) };
 }
 
-impl<T: StandsFor<E>, E: Event> Turn<T, E> {
+impl<T: StandsFor<E>, E: HistoryEvent> Turn<T, E> {
     pub fn value(&self) -> &T
         ensures { result.now ≡ self.now.value }
     {

@@ -4,11 +4,12 @@ ghost use mathlib.Core.List.{IsPrefix};
 ghost use Rattle.turn_lock.specs.Known.{lock_of, known_of};
 ghost use Rattle.turn_lock.specs.Own.{mark, own_with, AllStand, MakeUp};
 ghost use Rattle.turn_lock.specs.Rule.{own_lists, with_added};
-ghost use Rattle.turn_lock.specs.Steps.{entering, Takes, HasTaken, seeing, adding, resting, giving, given, given_back, both, lent, longer, list_of};
+ghost use Rattle.turn_lock.specs.Steps.{entering, finding, Takes, HasTaken, seeing, adding, resting, giving, given, given_back, both, lent, longer, list_of};
 ghost use Rattle.turn_lock.specs.declared.pass.Standing.TheVariants.{Ready, InTurn, Closed};
 
-use crate::event::{Event, StandsFor};
+use crate::event::{HistoryEvent, Names, StandsFor};
 use crate::guard::Guard;
+use crate::lock_fault::LockFault;
 use crate::pass::Pass;
 use crate::steps::{
     Add, Close, Draw, End, Give, Learn, Lend, Look, Naming, See, Share, Stub, Unite,
@@ -34,24 +35,18 @@ const COUNT: usize = 2;
 /// How often a thread looks again before it sleeps.
 const SPINS: u32 = 100;
 
-/// Why a call of the lock was refused.
-#[derive(Drop, Debug)]
-pub enum LockFault {
-    Memory,
-}
-
 type Words<T, E> = Shared<Option<T>, View<E>, Start<T>, Law>;
 
 type Place<T, E> = Seat<Option<T>, View<E>>;
 
 /// A lock over a value. Threads share it by reference where the value may go from one to another.
 #[derive(Drop)]
-pub struct Turns<T: StandsFor<E>, E: Event> {
+pub struct Turns<T: StandsFor<E>, E: HistoryEvent> {
     table: Table<Option<T>, View<E>, Start<T>, Law, Global>,
     keeper: Guard<View<E>>,
 }
 
-impl<T: StandsFor<E>, E: Event> Model for Turns<T, E> {
+impl<T: StandsFor<E>, E: HistoryEvent> Model for Turns<T, E> {
     ghost use Rattle.std.specs.Prelude.{◌≡◌, ◌^◌, ◌≤◌, [], ◌∷◌};
     ghost use Rattle.turn_lock.specs.Known.{Lock, IsKeeper};
 
@@ -63,7 +58,7 @@ impl<T: StandsFor<E>, E: Event> Model for Turns<T, E> {
 }
 
 /// Draws a ticket for a turn.
-fn draw<T: StandsFor<E>, E: Event>(shared: &Words<T, E>, seat: &mut Place<T, E>) -> u64
+fn draw<T: StandsFor<E>, E: HistoryEvent>(shared: &Words<T, E>, seat: &mut Place<T, E>) -> u64
     requires table { (seat.old.table_id ≡ shared.now.table_id) × (shared.now.table_id.words ≡ 3) × (shared.now.key.turns ≤ 2 ^ 62) }
     requires ready { (seat.old.me.0.ticket ≡ None) × (seat.old.me.0.kept ≡ None) × (0 < seat.old.me.0.left) }
     ensures seat { (seat.new.table_id ≡ seat.old.table_id) × (seat.new.id ≡ seat.old.id) }
@@ -73,7 +68,7 @@ fn draw<T: StandsFor<E>, E: Event>(shared: &Words<T, E>, seat: &mut Place<T, E>)
 }
 
 /// Spins for a short time, and says whether another ticket is served by then.
-fn has_moved<T: StandsFor<E>, E: Event>(shared: &Words<T, E>, serving: u64) -> bool
+fn has_moved<T: StandsFor<E>, E: HistoryEvent>(shared: &Words<T, E>, serving: u64) -> bool
     requires { shared.now.table_id.words ≡ 3 }
 {
     for _ in 0..SPINS {
@@ -86,7 +81,11 @@ fn has_moved<T: StandsFor<E>, E: Event>(shared: &Words<T, E>, serving: u64) -> b
 }
 
 /// Reads which ticket is served, and takes the value where it is the seat's.
-fn look<T: StandsFor<E>, E: Event>(shared: &Words<T, E>, seat: &mut Place<T, E>, ticket: u64) -> u64
+fn look<T: StandsFor<E>, E: HistoryEvent>(
+    shared: &Words<T, E>,
+    seat: &mut Place<T, E>,
+    ticket: u64,
+) -> u64
     requires table { (seat.old.table_id ≡ shared.now.table_id) × (shared.now.table_id.words ≡ 3) }
     requires waits { (seat.old.me.0.ticket ≡ Some ticket) × (seat.old.me.0.kept ≡ None) }
     ensures seat { (seat.new.table_id ≡ seat.old.table_id) × (seat.new.id ≡ seat.old.id) }
@@ -97,7 +96,7 @@ fn look<T: StandsFor<E>, E: Event>(shared: &Words<T, E>, seat: &mut Place<T, E>,
 }
 
 /// Waits for the ticket of the seat, and takes the value.
-fn wait_for<T: StandsFor<E>, E: Event, R: Wait>(
+fn wait_for<T: StandsFor<E>, E: HistoryEvent, R: Wait>(
     rt: &R,
     shared: &Words<T, E>,
     seat: &mut Place<T, E>,
@@ -121,7 +120,7 @@ fn wait_for<T: StandsFor<E>, E: Event, R: Wait>(
 }
 
 /// Draws a ticket, waits for it, and takes the value out of the slot.
-fn take_turn<T: StandsFor<E>, E: Event, R: Wait>(
+fn take_turn<T: StandsFor<E>, E: HistoryEvent, R: Wait>(
     rt: &R,
     shared: &Words<T, E>,
     seat: &mut Place<T, E>,
@@ -137,7 +136,7 @@ fn take_turn<T: StandsFor<E>, E: Event, R: Wait>(
 }
 
 /// Cuts turns off a seat, for a new one.
-fn cut<N: Share, T: StandsFor<E>, E: Event>(
+fn cut<N: Share, T: StandsFor<E>, E: HistoryEvent>(
     shared: &Words<T, E>,
     seat: &mut Place<T, E>,
     turns: u64,
@@ -152,7 +151,10 @@ fn cut<N: Share, T: StandsFor<E>, E: Event>(
 }
 
 /// A seat that has no turns, and keeps the lock in mind.
-fn stub<T: StandsFor<E>, E: Event>(shared: &Words<T, E>, seat: &mut Place<T, E>) -> Badge<View<E>>
+fn stub<T: StandsFor<E>, E: HistoryEvent>(
+    shared: &Words<T, E>,
+    seat: &mut Place<T, E>,
+) -> Badge<View<E>>
     requires table { (seat.old.table_id ≡ shared.now.table_id) × (shared.now.table_id.words ≡ 3) }
     requires ready { IsSome seat.old.me.0.origin }
     ensures seat { (seat.new.table_id ≡ seat.old.table_id) × (seat.new.id ≡ seat.old.id) × (seat.new.me ≡ seat.old.me) }
@@ -162,7 +164,7 @@ fn stub<T: StandsFor<E>, E: Event>(shared: &Words<T, E>, seat: &mut Place<T, E>)
 }
 
 /// Takes in another seat.
-fn unite<T: StandsFor<E>, E: Event>(
+fn unite<T: StandsFor<E>, E: HistoryEvent>(
     shared: &Words<T, E>,
     seat: &mut Place<T, E>,
     other: Place<T, E>,
@@ -180,7 +182,7 @@ fn unite<T: StandsFor<E>, E: Event>(
 }
 
 /// Takes in the turn that closes the lock.
-fn borrow_last<T: StandsFor<E>, E: Event>(
+fn borrow_last<T: StandsFor<E>, E: HistoryEvent>(
     shared: &Words<T, E>,
     seat: &mut Place<T, E>,
     keeper: Place<T, E>,
@@ -195,7 +197,7 @@ fn borrow_last<T: StandsFor<E>, E: Event>(
 }
 
 /// Enters the last turn and takes the value, if all turns so far were entered by the seat. Says how many there were.
-fn take_last<T: StandsFor<E>, E: Event>(
+fn take_last<T: StandsFor<E>, E: HistoryEvent>(
     shared: &Words<T, E>,
     seat: &mut Place<T, E>,
     entered: u64,
@@ -204,14 +206,14 @@ fn take_last<T: StandsFor<E>, E: Event>(
     requires ready { (seat.old.me.0.ticket ≡ None) × (seat.old.me.0.kept ≡ None) × IsSome seat.old.me.0.origin }
     requires turns { (0 < seat.old.me.0.left) × (seat.old.me.0.entered ≡ entered) × (entered < 2 ^ 63) }
     ensures seat { (seat.new.table_id ≡ seat.old.table_id) × (seat.new.id ≡ seat.old.id) }
-    ensures takes { result ≡ entered → Takes T.origin T.stands (entering seat.old.me.0 result) seat.old.me seat.new.me × MakeUp (given_back seat.new.me.0) (own_lists seat.old.me.0) }
-    ensures stays { result ≢ entered → (seat.new.me ≡ seat.old.me) × (entered < result) × (seat.old.me.0.left + result ≤ seat.old.me.0.turns + 1) }
+    ensures takes { result ≡ entered → Takes T.origin T.stands (entering (finding seat.old.me.0 result) result) seat.old.me seat.new.me × MakeUp (given_back seat.new.me.0) (own_lists seat.old.me.0) }
+    ensures stays { result ≢ entered → (seat.new.me ≡ (finding seat.old.me.0 result, seat.old.me.1)) × (entered < result) × (seat.old.me.0.left + result ≤ seat.old.me.0.turns + 1) }
 {
     shared.compare_exchange::<Close>(seat, TICKET, entered, entered + 1)
 }
 
 /// Sees the history.
-fn see<T: StandsFor<E>, E: Event>(shared: &Words<T, E>, seat: &mut Place<T, E>)
+fn see<T: StandsFor<E>, E: HistoryEvent>(shared: &Words<T, E>, seat: &mut Place<T, E>)
     requires table { (seat.old.table_id ≡ shared.now.table_id) × (shared.now.table_id.words ≡ 3) }
     requires holds { IsSome seat.old.me.0.origin × IsSome seat.old.me.0.kept }
     ensures seat { (seat.new.table_id ≡ seat.old.table_id) × (seat.new.id ≡ seat.old.id) }
@@ -223,7 +225,7 @@ fn see<T: StandsFor<E>, E: Event>(shared: &Words<T, E>, seat: &mut Place<T, E>)
 }
 
 /// Adds an event to the history.
-fn add<N: Naming<E>, T: StandsFor<E>, E: Event>(shared: &Words<T, E>, seat: &mut Place<T, E>)
+fn add<N: Naming<E>, T: StandsFor<E>, E: HistoryEvent>(shared: &Words<T, E>, seat: &mut Place<T, E>)
     requires table { (seat.old.table_id ≡ shared.now.table_id) × (shared.now.table_id.words ≡ 3) × (shared.now.key.turns ≤ 2 ^ 62) }
     requires holds { IsSome seat.old.me.0.kept × (seat.old.me.0.added ≡ None) }
     requires event { IsSome N.event }
@@ -235,7 +237,11 @@ fn add<N: Naming<E>, T: StandsFor<E>, E: Event>(shared: &Words<T, E>, seat: &mut
 }
 
 /// Gives the value back, serves the next ticket, and wakes those who wait for it.
-fn end_turn<T: StandsFor<E>, E: Event>(shared: &Words<T, E>, seat: &mut Place<T, E>, value: T)
+fn end_turn<T: StandsFor<E>, E: HistoryEvent>(
+    shared: &Words<T, E>,
+    seat: &mut Place<T, E>,
+    value: T,
+)
     requires table { (seat.old.table_id ≡ shared.now.table_id) × (shared.now.table_id.words ≡ 3) × (shared.now.key.turns ≤ 2 ^ 62) }
     requires holds { (seat.old.me.1 ≡ (0, None) ∷ []) × IsSome seat.old.me.0.kept }
     requires value { (seat.old.me.0.origin ≡ Some (T.origin value)) × T.stands value (given_back seat.old.me.0) }
@@ -250,13 +256,13 @@ fn end_turn<T: StandsFor<E>, E: Event>(shared: &Words<T, E>, seat: &mut Place<T,
     }
 }
 
-impl<T: StandsFor<E>, E: Event> Turns<T, E> {
+impl<T: StandsFor<E>, E: HistoryEvent> Turns<T, E> {
     /// Opens a turn. It waits until all turns that were entered before have ended.
     pub fn enter<R: Wait>(&self, rt: &R, pass: &mut Pass<E>) -> Turn<T, E>
         requires lock { pass.old.lock ≡ Some self.now }
         requires ready { pass.old.standing ≡ Ready }
         requires left { 0 < pass.old.left }
-        ensures pass { pass.new ≡ record pass.old { standing = InTurn; left = pass.old.left - 1; entered = pass.old.entered + 1; found = 0 } }
+        ensures pass { pass.new ≡ record pass.old { standing = InTurn; left = pass.old.left - 1; entered = pass.old.entered + 1 } }
         ensures turn { result.pass ≡ pass.new }
         ensures origin { T.origin result.value ≡ self.now.origin }
         ensures value { T.stands result.value result.list }
@@ -279,6 +285,31 @@ impl<T: StandsFor<E>, E: Event> Turns<T, E> {
         ensures own { AllStand pass.new.seen (pass.new.own ∷ pass.new.joined) }
     {
         self.commit_named::<Brand>(pass, turn);
+    }
+
+    /// Ends a turn that added the event that a value names, as `commit` does.
+    pub fn commit_by<N: Names<E>>(&self, pass: &mut Pass<E>, turn: Turn<T, E>, by: &N)
+        requires lock { pass.old.lock ≡ Some self.now }
+        requires turn { turn.pass ≡ pass.old }
+        requires origin { T.origin turn.value ≡ self.now.origin }
+        requires value { T.stands turn.value (turn.list ++ N.named by.now ∷ []) }
+        ensures pass { pass.new ≡ record pass.old { standing = Ready; seen = turn.list ++ N.named by.now ∷ []; own = pass.old.own ++ mark turn.list (N.named by.now) ∷ [] } }
+        ensures own { AllStand pass.new.seen (pass.new.own ∷ pass.new.joined) }
+    {
+        self.commit_as(pass, turn, by);
+    }
+
+    fn commit_as<N: Names<E>>(&self, pass: &mut Pass<E>, turn: Turn<T, E>, _by: &N)
+        ghost event: { E }
+        requires named { event ≡ N.named _by.now }
+        requires lock { pass.old.lock ≡ Some self.now }
+        requires turn { turn.pass ≡ pass.old }
+        requires origin { T.origin turn.value ≡ self.now.origin }
+        requires value { T.stands turn.value (turn.list ++ event ∷ []) }
+        ensures pass { pass.new ≡ record pass.old { standing = Ready; seen = turn.list ++ event ∷ []; own = pass.old.own ++ mark turn.list event ∷ [] } }
+        ensures own { AllStand pass.new.seen (pass.new.own ∷ pass.new.joined) }
+    {
+        self.commit(pass, turn);
     }
 
     fn commit_named<N: Naming<E>>(&self, pass: &mut Pass<E>, turn: Turn<T, E>)
@@ -316,21 +347,21 @@ impl<T: StandsFor<E>, E: Event> Turns<T, E> {
         requires lock { pass.old.lock ≡ Some self.now }
         requires ready { pass.old.standing ≡ Ready }
         requires turns { turns ≤ pass.old.left }
-        ensures pass { pass.new ≡ record pass.old { left = pass.old.left - turns; found = 0 } }
+        ensures pass { pass.new ≡ record pass.old { left = pass.old.left - turns } }
         ensures ok { IsOkAnd result (λ r. (r.lock ≡ Some self.now) × (r.standing ≡ Ready) × (r.left ≡ turns) × (r.entered ≡ 0)) }
-        ensures seen { IsOkAnd result (λ r. (r.seen ≡ pass.old.seen) × (r.own ≡ []) × (r.joined ≡ [])) }
+        ensures seen { IsOkAnd result (λ r. (r.seen ≡ pass.old.seen) × (r.found ≡ pass.old.found) × (r.own ≡ []) × (r.joined ≡ [])) }
     {
         let mut seat = pass.take().into_seat::<Option<T>>();
         let other = cut::<Brand, T, E>(&self.table.shared, &mut seat, turns);
-        *pass = Pass::over(seat.into_badge(), pass.left() - turns, pass.entered(), 0);
-        Ok(Pass::over(other.into_badge(), turns, 0, 0))
+        *pass = Pass::over(seat.into_badge(), pass.left() - turns, pass.entered());
+        Ok(Pass::over(other.into_badge(), turns, 0))
     }
 
     /// Gives the turns of the other pass, those left and those entered, to this one.
     pub fn join(&self, pass: &mut Pass<E>, mut other: Pass<E>)
         requires lock { (pass.old.lock ≡ Some self.now) × (other.lock ≡ Some self.now) }
         requires ready { (pass.old.standing ≡ Ready) × (other.standing ≡ Ready) }
-        ensures both { pass.new ≡ record pass.old { left = pass.old.left + other.left; entered = pass.old.entered + other.entered; found = 0; seen = longer pass.old.seen other.seen; joined = pass.old.joined ++ other.own ∷ other.joined } }
+        ensures both { pass.new ≡ record pass.old { left = pass.old.left + other.left; entered = pass.old.entered + other.entered; seen = longer pass.old.seen other.seen; joined = pass.old.joined ++ other.own ∷ other.joined } }
         ensures begins { IsPrefix pass.old.seen pass.new.seen × IsPrefix other.seen pass.new.seen }
     {
         let mut seat = pass.take().into_seat::<Option<T>>();
@@ -338,38 +369,37 @@ impl<T: StandsFor<E>, E: Event> Turns<T, E> {
         unite(&self.table.shared, &mut seat, given);
         let left = pass.left() + other.left();
         let entered = pass.entered() + other.entered();
-        *pass = Pass::over(seat.into_badge(), left, entered, 0);
+        *pass = Pass::over(seat.into_badge(), left, entered);
     }
 }
 
-impl<T: StandsFor<E> + Drop, E: Event> Turns<T, E> {
+impl<T: StandsFor<E> + Drop, E: HistoryEvent> Turns<T, E> {
     /// A lock over the value, and the pass that has all its turns, at most 2^62.
     pub fn new(alloc: Global, value: T, turns: u64) -> Result<(Turns<T, E>, Pass<E>), LockFault>
         requires turns { (1 ≤ turns) × (turns ≤ 2 ^ 62) }
         requires empty { T.stands value [] }
         ensures lock { IfOk result (λ r. (r.0.origin ≡ T.origin value) × (r.0.turns ≡ turns)) }
         ensures pass { IfOk result (λ r. (r.1.lock ≡ Some r.0) × (r.1.standing ≡ Ready) × (r.1.left ≡ turns) × (r.1.entered ≡ 0)) }
-        ensures fresh { IfOk result (λ r. (r.1.seen ≡ []) × (r.1.own ≡ []) × (r.1.joined ≡ [])) }
+        ensures fresh { IfOk result (λ r. (r.1.found ≡ 0) × (r.1.seen ≡ []) × (r.1.own ≡ []) × (r.1.joined ≡ [])) }
     {
         let about = Start {
             value: Snapshot::of(&value),
             turns,
         };
-        let Ok(mut slots) = Vec::with_capacity(alloc, 1) else {
-            return Err(LockFault::Memory);
-        };
+        let mut slots = Vec::with_capacity(alloc, 1)?;
         slots.push_reserved(Some(value));
         let Ok((table, mut seat)) = Table::new(alloc, &[0, 0, 0], slots, &about) else {
             return Err(LockFault::Memory);
         };
         let keeper = cut::<Brand, T, E>(&table.shared, &mut seat, 1);
         let keeper = Guard::new(keeper.into_badge());
-        let pass = Pass::over(seat.into_badge(), turns, 0, 0);
+        let pass = Pass::over(seat.into_badge(), turns, 0);
         Ok((Turns { table, keeper }, pass))
     }
 
     /// Gives the value out, if all turns were entered by the pass and those joined into it.
-    /// Else it hands both back, and `found` says how many turns were entered by any pass.
+    /// Else another pass that entered a turn is outside: it hands both back, and contracts see in
+    /// `found` how many turns had been entered by any pass. A pass that entered none may be outside.
     pub fn close(self, mut pass: Pass<E>) -> Result<(T, Pass<E>), (Turns<T, E>, Pass<E>)>
         requires lock { pass.lock ≡ Some self }
         requires ready { pass.standing ≡ Ready }
@@ -388,7 +418,7 @@ impl<T: StandsFor<E> + Drop, E: Event> Turns<T, E> {
         if found != entered {
             let keeper = cut::<Brand, T, E>(&table.shared, &mut seat, 1);
             let keeper = Guard::new(keeper.into_badge());
-            let pass = Pass::over(seat.into_badge(), left, entered, found);
+            let pass = Pass::over(seat.into_badge(), left, entered);
             return Err((Turns { table, keeper }, pass));
         }
         let value = table.shared.exchange(&mut seat, 0, None).unwrap();

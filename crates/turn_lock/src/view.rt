@@ -1,5 +1,5 @@
 // What a seat at the table knows, and the rule of the table.
-use crate::event::{Event, StandsFor};
+use crate::event::{HistoryEvent, StandsFor};
 use atomic_table::TableRule;
 use std::collections::LinkedList;
 use std::snapshot::Snapshot;
@@ -11,7 +11,7 @@ pub struct Mark<E> {
 }
 
 /// What a pass knows of its lock. No value of it is made.
-pub struct View<E: Event> {
+pub struct View<E: HistoryEvent> {
     /// The origin of the lock's value, or none in a view that is spent.
     pub origin: Option<E::Origin>,
     /// How many turns the lock was made for.
@@ -19,6 +19,8 @@ pub struct View<E: Event> {
     pub left: u64,
     /// The turns entered by the pass, and by the passes that were joined into it.
     pub entered: u64,
+    /// The ticket word as `close` read it last, or 0.
+    pub found: u64,
     /// The ticket of a turn that has not ended.
     pub ticket: Option<u64>,
     /// What the value stood for when the open turn took it.
@@ -45,7 +47,7 @@ pub struct Start<T> {
 
 pub struct Law;
 
-impl<T: StandsFor<E>, E: Event> TableRule<Option<T>, View<E>, Start<T>> for Law {
+impl<T: StandsFor<E>, E: HistoryEvent> TableRule<Option<T>, View<E>, Start<T>> for Law {
     ghost use Rattle.std.specs.Prelude.{◌+◌};
     ghost use Rattle.turn_lock.specs.Rule.{Kept, fresh_view};
 

@@ -15,7 +15,7 @@ join_seat-requires g c =
       search rules,
       search rules,
       search rules,
-      joins _ _ _ _ _ _ _ _ _ o.0 o.1 c.requires.ready.0 c.requires.other.0 c.requires.ready.1 c.requires.other.1 refl refl c.requires.ready.0 c.requires.ready.1 refl refl refl (λ l p q. longer_prefix _ _ l p q) (λ l p q b. shorter_prefix _ _ l p q) (λ l p q. all_beside l mine given p q) (λ k. times_beside k mine given) (omega (arith, total_beside mine given)),
+      joins _ _ _ _ _ _ _ _ _ o.0 o.1 c.requires.ready.0 c.requires.other.0 c.requires.ready.1 c.requires.other.1 refl refl c.requires.ready.0 c.requires.ready.1 refl refl refl refl (λ l p q. longer_prefix _ _ l p q) (λ l p q b. shorter_prefix _ _ l p q) (λ l p q. all_beside l mine given p q) (λ k. times_beside k mine given) (omega (arith, total_beside mine given)),
     )
 
 pub load-requires : goal.load-requires
