@@ -1,7 +1,14 @@
 // Reads a transfer buffer of ten frames of 1,115 octets as often as its first word says, and prints how many frames
-// and octets were read. `bench/ber` times it.
+// and octets were read: by the shapes, each buffer checked whole and its items read out, or where the second word is
+// `calls`, once by the calls of a reader, with no value and no CHOICE. `bench/ber` times both.
 #![tactic(auto)]
 
+mod buffer;
+mod frame;
+mod item;
+
+use crate::buffer::Buffer;
+use crate::item::Item;
 use ber_core::{BerFault, Reader, Writer};
 use cds_time::{Cds, Rest};
 use return_pdu::{buffer_head, buffer_length, raf_frame, raf_frame_length};
@@ -25,7 +32,19 @@ fn read_frame(reader: &mut Reader) -> Result<usize, BerFault> {
     Ok(octets.len())
 }
 
-/// Reads a buffer of ten frames, and answers how many octets they have.
+/// Decodes a buffer and reads its items out, and answers how many octets its frames have.
+fn decode_buffer(buffer: &[u8]) -> Result<usize, BerFault> {
+    let mut items = Buffer::decode(buffer)?;
+    let mut octets: usize = 0;
+    for _ in 0..FRAMES {
+        if let Some(Item::Data(frame)) = items.next() {
+            octets = octets.wrapping_add(frame.octets.len());
+        }
+    }
+    Ok(octets)
+}
+
+/// Reads a buffer of ten frames by calls, and answers how many octets they have.
 fn read_buffer(buffer: &[u8]) -> Result<usize, BerFault> {
     let mut reader = Reader::new(buffer);
     let mut octets: usize = 0;
@@ -58,22 +77,34 @@ fn write_buffer(writer: &mut Writer) {
     }
 }
 
+/// Reads the buffer as often as asked, and answers how many octets its frames had together.
+fn read_often(rounds: u64, by_calls: bool, buffer: &[u8]) -> Result<usize, BerFault> {
+    let mut octets: usize = 0;
+    for _ in 0..rounds {
+        let read = if by_calls {
+            read_buffer(buffer)?
+        } else {
+            decode_buffer(buffer)?
+        };
+        octets = octets.wrapping_add(read);
+    }
+    Ok(octets)
+}
+
 fn main(rt: HostRuntime) -> io::Result<()> {
     let mut rounds: u64 = 1;
+    let mut by_calls = false;
     for word in env::args(&rt)?.skip(1) {
-        rounds = word.as_str().parse::<u64>().unwrap_or(1);
+        by_calls = word.as_str() == "calls";
+        rounds = word.as_str().parse::<u64>().unwrap_or(rounds);
     }
     let Ok(mut writer) = Writer::new(rt.alloc(), 20_000) else {
         return rt.println("no memory");
     };
     write_buffer(&mut writer);
-    let mut octets: usize = 0;
-    for _ in 0..rounds {
-        match read_buffer(writer.octets()) {
-            Ok(read) => octets = octets.wrapping_add(read),
-            Err(_) => return rt.println("fault"),
-        }
-    }
+    let Ok(octets) = read_often(rounds, by_calls, writer.octets()) else {
+        return rt.println("fault");
+    };
     let frames = rounds.wrapping_mul(FRAMES as u64);
     println!(rt; "frames {frames} octets {octets}")
 }

@@ -7,6 +7,11 @@ use Rattle.std.specs.Int.{w64, to_be_bytes}
 abbrev pub IsOctets : List ℕ → Type 0
 IsOctets octets = AllByRecursion (λ octet. octet < 256) octets
 
+-- the octets of a slice, of which there are fewer than 2 ^ 63
+pub record IsSlice (octets : List ℕ) : Type 0 where
+  pub each : IsOctets octets
+  pub short : length octets < 2 ^ 63
+
 -- the number that octets write, the most significant first
 abbrev pub number_of : List ℕ → ℕ
 number_of [] = 0

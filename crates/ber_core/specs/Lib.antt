@@ -7,3 +7,4 @@ pub mod Written
 pub mod View
 pub mod Reading
 pub mod Whole
+pub mod Facts

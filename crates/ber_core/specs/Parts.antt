@@ -66,6 +66,9 @@ length-tree_and t ts = ap length (spelled-tree_and t ts) ∙ length-append (cano
 pub length-no_trees : length (canonical_all no_trees) ≡ 0
 length-no_trees = ap length spelled-no_trees
 
+pub length-alone : (t : Tree) → length (canonical t) ≡ length (canonical_all (tree_and t no_trees))
+length-alone t = ap length (sym (spelled-alone t))
+
 pub ruleset lengths = (length-primitive, length-constructed, length-tree_and, length-no_trees)
 
 -- ---- at most so long

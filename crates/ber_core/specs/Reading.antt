@@ -53,6 +53,10 @@ next_content view tag =
     else if starts_with nat_eq tag (left view) then Err (missing view (end_of view))
     else Err (WrongTag view.place (slice_index (left view) 0))
 
+-- the next element has this identifier, as far as an identifier's octets tell
+abbrev pub is_next : List ℕ → View → Bool
+is_next tag view = starts_with nat_eq (left view) tag
+
 -- An element with this tag and content stands at the place, before the end of the element around it and within the
 -- limit on nesting, and its content begins at start.
 pub record Stands (view : View) (tag content : List ℕ) (start : ℕ) : Type 0 where

@@ -2,6 +2,7 @@
 
 ghost use Rattle.ber_core.specs.Reading.{FoundWhereSpelled, IntegerWhereSpelled, IntegerReadBack, ElementReadBack, ContentIsInside, ContentIsOctets, RestIsBehind};
 ghost use Rattle.ber_core.specs.Whole.{ReadWhereSpelled, AllReadAreSpelled, AllSpelledAreRead};
+ghost use Rattle.ber_core.specs.Length.{IsSlice};
 ghost use Rattle.ber_core.specs.Spelling.{CanonicalSpells, NoneBeginsAnother, OneTree};
 
 /// The canonical spelling is one of the spellings.
@@ -69,4 +70,9 @@ pub fn all_read_are_spelled()
 /// What is spelled, tree behind tree, is read.
 pub fn all_spelled_are_read()
     ensures { AllSpelledAreRead }
+{}
+
+/// The octets of a slice are octets, and fewer than 2 ^ 63.
+pub fn slice(octets: &[u8])
+    ensures { IsSlice octets.now }
 {}

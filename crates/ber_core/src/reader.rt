@@ -1,11 +1,12 @@
-ghost use Rattle.std.specs.Prelude.{◌≡◌, ℕ, ℤ, ◌+◌, ◌^◌, ◌<◌, ◌≤◌, ◌≤ℤ◌, ◌==◌, ◌↔◌, IsTrue, IsOk, IfOk, IfSome, take, option_map, List, length, Ok, Err};
+ghost use Rattle.std.specs.Prelude.{◌≡◌, ℕ, ℤ, ◌+◌, ◌-◌, ◌^◌, ◌<◌, ◌≤◌, ◌≤ℤ◌, ◌==◌, ◌↔◌, IsTrue, IsOk, IsSome, IfOk, IfSome, take, drop, option_map, List, length, Ok, Err};
+ghost use Rattle.ber_core.specs.Length.{IsSlice};
 ghost use Rattle.ber_core.specs.Tree.{begins_number, through_last, first_identifier};
 ghost use Rattle.ber_core.specs.View.{View, view_before, end_of, left};
-ghost use Rattle.ber_core.specs.Reading.{Reads, Gives, missing, content_from, content_behind, content_at, next_content, primitive_at, integer_of, string_of, visible_of, object_id_of, null_of, enter, leave};
+ghost use Rattle.ber_core.specs.Reading.{Reads, Gives, missing, content_from, content_behind, content_at, next_content, is_next, primitive_at, integer_of, string_of, visible_of, object_id_of, null_of, enter, leave};
 
-use crate::content;
 use crate::content::number_of;
 use crate::fault::BerFault;
+use crate::{content, laws};
 use std::marker::Model;
 
 const DEEPEST: usize = 16;
@@ -47,17 +48,36 @@ impl<'a> Reader<'a> {
     }
 
     /// The place of the next octet, counted from the first one given to `new`.
-    #[tactic(auto, using(crate::proofs::Ends::staying))]
+    #[tactic(auto, using(crate::specs::Facts::Ends::staying))]
     pub fn place(&self) -> usize
         ensures exact { result ≡ self.now.place }
         ensures reached { result ≤ end_of self.now }
         ensures within { end_of self.now ≤ length self.now.octets }
+        ensures shallow { length self.now.ends ≤ 16 }
     {
         self.place
     }
 
+    /// All the octets, those that were passed among them.
+    pub fn octets(&self) -> &'a [u8]
+        ensures exact { result.now ≡ self.now.octets }
+        ensures slice { IsSlice self.now.octets }
+    {
+        laws::slice(self.octets);
+        self.octets
+    }
+
+    /// The octets from a place that was passed up to the next one.
+    pub fn since(&self, start: usize) -> &'a [u8]
+        requires { start ≤ self.now.place }
+        ensures { result.now ≡ take (self.now.place - start) (drop start self.now.octets) }
+    {
+        let end = self.place();
+        &self.octets[start..end]
+    }
+
     // The end of the innermost entered element, or where none is entered, of the octets.
-    #[tactic(auto, using(crate::proofs::Ends::end_at_within))]
+    #[tactic(auto, using(crate::specs::Facts::Ends::end_at_within))]
     fn end(&self) -> usize
         ensures exact { result ≡ end_of self.now }
         ensures reached { self.now.place ≤ result }
@@ -145,8 +165,48 @@ impl<'a> Reader<'a> {
     }
 
     // The content of the next element, and where it begins.
-    #[tactic(auto, unfolding(crate::specs::Reading::next_content))]
+    #[inline(always)]
     fn next_content(&self, identifier: &[u8]) -> Result<(usize, &'a [u8]), BerFault>
+        ensures exact { Gives (λ found. (found.0, found.1.now)) result (next_content self.now identifier.now) }
+        ensures place { IfOk result (λ found. self.now.place ≤ found.0) }
+        ensures within { IfOk result (λ found. found.0 + length found.1.now ≤ end_of self.now) }
+        ensures fits { IfOk result (λ found. found.0 + length found.1.now < 2 ^ 64) }
+        ensures room { IsOk result → length self.now.ends < 16 }
+    {
+        match self.short_content(identifier) {
+            Some(found) => Ok(found),
+            None => self.any_content(identifier),
+        }
+    }
+
+    // The content of an element with an identifier of one octet and a length of one octet, where one stands next: most
+    // elements are so.
+    #[inline(always)]
+    #[tactic(auto, unfolding(crate::specs::Reading::next_content))]
+    fn short_content(&self, identifier: &[u8]) -> Option<(usize, &'a [u8])>
+        ensures exact { IfSome result (λ found. next_content self.now identifier.now ≡ Ok (found.0, found.1.now)) }
+        ensures place { IfSome result (λ found. self.now.place ≤ found.0) }
+        ensures within { IfSome result (λ found. found.0 + length found.1.now ≤ end_of self.now) }
+        ensures fits { IfSome result (λ found. found.0 + length found.1.now < 2 ^ 64) }
+        ensures room { IsSome result → length self.now.ends < 16 }
+    {
+        let [octet] = identifier else {
+            return None;
+        };
+        let [first, size, rest @ ..] = self.left() else {
+            return None;
+        };
+        let size = *size as usize;
+        if first != octet || self.free == 0 || size >= 128 || rest.len() < size {
+            return None;
+        }
+        Some((self.place + 2, &rest[..size]))
+    }
+
+    // The same of any element.
+    #[inline(never)]
+    #[tactic(auto, unfolding(crate::specs::Reading::next_content))]
+    fn any_content(&self, identifier: &[u8]) -> Result<(usize, &'a [u8]), BerFault>
         ensures exact { Gives (λ found. (found.0, found.1.now)) result (next_content self.now identifier.now) }
         ensures place { IfOk result (λ found. self.now.place ≤ found.0) }
         ensures within { IfOk result (λ found. found.0 + length found.1.now ≤ end_of self.now) }
@@ -185,6 +245,13 @@ impl<'a> Reader<'a> {
         Some(&left[..1 + count])
     }
 
+    /// Whether the next element has this identifier, which is a whole one.
+    pub fn next_is(&self, identifier: &[u8]) -> bool
+        ensures { result ≡ is_next identifier.now self.now }
+    {
+        self.left().starts_with(identifier)
+    }
+
     /// Whether the innermost entered element, or where none is entered, the octets, have no further octet.
     pub fn at_end(&self) -> bool
         ensures { IsTrue result ↔ (self.now.place ≡ end_of self.now) }
@@ -205,7 +272,7 @@ impl<'a> Reader<'a> {
     }
 
     /// Leaves the innermost entered element, or where none is entered, tests that the octets end here.
-    #[tactic(auto, using(crate::proofs::Ends::leaving))]
+    #[tactic(auto, using(crate::specs::Facts::Ends::leaving))]
     pub fn leave(&mut self) -> Result<(), BerFault>
         ensures exact { Reads (λ _. tt) self.old self.new result (leave self.old) }
         ensures octets { self.new.octets ≡ self.old.octets }

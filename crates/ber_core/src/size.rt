@@ -1,6 +1,7 @@
 // How many octets an element takes, and the fewest octets of a number.
 
 ghost use Rattle.std.specs.Prelude.{◌≡◌, ℕ, ◌+◌, ◌^◌, ◌<◌, ◌≤◌, length};
+ghost use Rattle.std.specs.Int.{w128, to_be_bytes, cast_unsigned};
 ghost use Rattle.ber_core.specs.Length.{without_zeros, shortest_length};
 ghost use Rattle.ber_core.specs.Integer.{is_redundant, without_redundant, integer_octets};
 
@@ -38,6 +39,22 @@ pub(crate) fn shortest_complement(octets: &[u8]) -> &[u8]
     rest
 }
 
+// The two's complement in sixteen octets.
+pub(crate) fn complement_of(value: i128) -> [u8; 16]
+    ensures { result ≡ to_be_bytes w128 (cast_unsigned w128 value) }
+{
+    value.to_be_bytes()
+}
+
+// The content octets of an INTEGER among those sixteen.
+#[tactic(auto, unfolding(crate::specs::Integer::integer_octets))]
+pub(crate) fn integer_content(octets: &[u8], value: i128) -> &[u8]
+    requires { octets.now ≡ to_be_bytes w128 (cast_unsigned w128 value) }
+    ensures { result.now ≡ integer_octets value }
+{
+    shortest_complement(octets)
+}
+
 #[tactic(auto, unfolding(crate::specs::Length::shortest_length))]
 fn length_octets(content: usize) -> usize
     ensures exact { result ≡ length (shortest_length content) }
@@ -52,7 +69,7 @@ fn length_octets(content: usize) -> usize
 
 /// The number of octets of an element with so many content octets, in its canonical spelling.
 pub fn element_length(identifier: &[u8], content: usize) -> usize
-    requires { length identifier.now + content < 2 ^ 63 }
+    requires { length identifier.now + 9 + content < 2 ^ 64 }
     ensures exact { result ≡ length identifier.now + length (shortest_length content) + content }
     ensures small { result ≤ length identifier.now + 9 + content }
 {

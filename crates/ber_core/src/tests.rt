@@ -215,3 +215,44 @@ fn strings_are_lent_where_their_content_fits(rt: HostRuntime) {
     let mut reader = Reader::new(&[5, 1, 0]);
     assert_eq!(rt; reader.null(&[5]), Err(bad));
 }
+
+#[test]
+#[tactic(auto, unfolding(crate::specs::Spelling::canonical, crate::specs::Spelling::element))]
+fn a_block_holds_what_is_appended(rt: HostRuntime) {
+    let mut writer = BlockWriter::<8>::new();
+    assert!(rt; element_length(&[4], 2) <= writer.room());
+    writer.octet_string(&[4], b"ab");
+    assert!(rt; element_length(&[0x80], 0) <= writer.room());
+    writer.null(&[0x80]);
+    assert!(rt; 1 <= writer.room());
+    writer.raw(&[7]);
+    assert_eq!(rt; writer.octets(), [4, 2, 0x61, 0x62, 0x80, 0, 7].as_slice());
+    assert_eq!(rt; writer.room(), 1);
+}
+
+#[test]
+#[tactic(auto, using(crate::specs::Parts::lengths))]
+fn an_integer_in_a_block_has_the_fewest_octets(rt: HostRuntime) {
+    let value = 997;
+    let mut writer = BlockWriter::<8>::new();
+    assert!(rt; element_length(&[2], integer_length(value)) <= writer.room());
+    assert!(rt; value >= -9223372036854775808 && value <= 18446744073709551615);
+    writer.integer(&[2], value);
+    assert_eq!(rt; writer.octets(), [2, 2, 3, 0xe5].as_slice());
+}
+
+#[test]
+fn the_next_identifier_and_the_octets_since_a_place_are_told(rt: HostRuntime) {
+    let octets = [0xbf, 0x64, 2, 5, 0];
+    let mut reader = Reader::new(&octets);
+    assert!(rt; reader.next_is(&[0xbf, 0x64]));
+    assert!(rt; !reader.next_is(&[0xbf, 0x65]));
+    assert_eq!(rt; reader.element(&[0xbf, 0x64]), Ok(()));
+    let start = reader.place();
+    assert!(rt; reader.next_is(&[0x05]));
+    assert_eq!(rt; reader.null(&[0x05]), Ok(()));
+    assert!(rt; !reader.next_is(&[0x05]));
+    assert!(rt; start <= reader.place());
+    assert_eq!(rt; reader.since(start), [5, 0].as_slice());
+    assert_eq!(rt; reader.octets(), octets.as_slice());
+}

@@ -1,6 +1,3 @@
+pub mod Time
 pub mod Sample
-pub mod Reading
-pub mod Items
 pub mod Seen
-pub mod Laws
-pub mod Known

@@ -1,16 +1,42 @@
-// The items of a sample.
-
-ghost use Rattle.std.specs.Prelude.{◌≡◌, ◌∷◌, [], MatchOption, IfSome, IsOk, Ok};
+ghost use Rattle.std.specs.Prelude.{◌≡◌, ◌∷◌, [], MatchOption, IsOk, Ok};
 ghost use Rattle.ber_core.specs.Reading.{Gives};
-ghost use Rattle.codec_sample.specs.Items.{items_in};
-ghost use Rattle.codec_sample.specs.Sample.{AreItems};
-ghost use Rattle.codec_sample.specs.Reading.{items_of};
+ghost use Rattle.ber_shape.specs.Exact.{whole};
+ghost use Rattle.codec_sample.specs.Sample.{items};
 
-use crate::reading::pass_items;
-use ber_core::{BerFault, Reader, laws};
+use ber_core::{BerFault, Reader, Writer, element_length};
+use ber_shape::{Element, Members, lend_list, list_size, split_first, write_list};
 use std::marker::Model;
 
-pub(crate) const ITEM: [u8; 1] = [0x04];
+/// OCTET STRING of 1 to 16 octets.
+struct Item;
+
+impl<'a> Element<'a> for Item {
+    ghost use Rattle.std.specs.Prelude.{ℕ, List, refl};
+    ghost use Rattle.codec_sample.specs.Sample.{item};
+
+    type Value = &'a [u8];
+
+    ghost Seen = { List ℕ };
+
+    ghost shape = { item };
+
+    ghost is_shallow = { refl };
+
+    ghost seen = { λ v. v.now };
+
+    fn read(reader: &mut Reader<'a>) -> Result<&'a [u8], BerFault> {
+        reader.octet_string(&[0x04], 1, 16)
+    }
+
+    #[tactic(auto, using(ber_core::specs::Parts::lengths))]
+    fn size(value: &&'a [u8]) -> usize {
+        element_length(&[0x04], value.len())
+    }
+
+    fn write(value: &&'a [u8], writer: &mut Writer) {
+        writer.octet_string(&[0x04], value);
+    }
+}
 
 /// At most 8 items, OCTET STRINGs of 1 to 16 octets, one after another in octets that are lent. Contracts see the list
 /// of the items.
@@ -21,43 +47,39 @@ pub struct Items<'a> {
 
 impl<'a> Model for Items<'a> {
     ghost use Rattle.std.specs.Prelude.{ℕ, List, IsOk};
-    ghost use Rattle.codec_sample.specs.Reading.{items_of};
-    ghost use Rattle.ber_core.specs.Reading.{Gives};
-    ghost use Rattle.codec_sample.specs.Items.{items_in};
-    ghost use Rattle.codec_sample.specs.Sample.{AreItems};
+    ghost use Rattle.ber_shape.specs.Exact.{whole};
+    ghost use Rattle.ber_shape.specs.Lent.{values};
+    ghost use Rattle.codec_sample.specs.Sample.{items};
 
     ghost Value = { List (List ℕ) };
 
-    ghost view = { λ i. items_in i.octets.now };
+    ghost view = { λ i. values items i.octets.now };
 
-    ghost invariant = { λ i. IsOk (items_of i.octets.now) };
+    ghost invariant = { λ i. IsOk (whole items.read i.octets.now) };
 }
 
 impl<'a> Items<'a> {
     // Items that were found in these octets.
-    pub(crate) fn found(octets: &'a [u8]) -> Items<'a>
-        requires { IsOk (items_of octets.now) }
-        ensures { items_of octets.now ≡ Ok result }
+    fn found(octets: &'a [u8]) -> Items<'a>
+        requires { IsOk (whole items.read octets.now) }
+        ensures { whole items.read octets.now ≡ Ok result }
     {
         Items { octets }
     }
 
-    /// The items that stand one after another in these octets, each an OCTET STRING of 1 to 16 octets and at most 8 of
-    /// them, or the first fault.
-    #[tactic(auto, unfolding(crate::specs::Reading::items_of))]
-    pub fn read(octets: &'a [u8]) -> Result<Items<'a>, BerFault>
-        ensures { Gives (λ items. items) result (items_of octets.now) }
+    /// The items that stand one after another in these octets, or the first fault.
+    pub fn read_all(octets: &'a [u8]) -> Result<Items<'a>, BerFault>
+        ensures { Gives (λ items. items) result (whole items.read octets.now) }
     {
         let mut reader = Reader::new(octets);
-        pass_items(&mut reader)?;
+        let found = Items::read(&mut reader)?;
         reader.leave()?;
-        Ok(Items::found(octets))
+        Ok(found)
     }
 
     /// The same items, to be gone over apart from these.
     pub fn iter(&self) -> Items<'a>
-        ensures items { result ≡ self.now }
-        ensures fit { AreItems result }
+        ensures { result ≡ self.now }
     {
         Items {
             octets: self.octets,
@@ -68,23 +90,36 @@ impl<'a> Items<'a> {
     pub fn next(&mut self) -> Option<&'a [u8]>
         ensures { MatchOption result ((self.old ≡ []) × (self.new ≡ [])) (λ item. self.old ≡ item.now ∷ self.new) }
     {
-        let (item, rest) = split_first(self.octets)?;
+        let (item, rest) = split_first::<Item>(8, self.octets)?;
         self.octets = rest;
         Some(item)
     }
 }
 
-// The first item, and the octets behind it.
-fn split_first(octets: &[u8]) -> Option<(&[u8], &[u8])>
-    requires { IsOk (items_of octets.now) }
-    ensures found { MatchOption result (items_in octets.now ≡ []) (λ found. items_in octets.now ≡ found.0.now ∷ items_in found.1.now) }
-    ensures rest { IfSome result (λ found. IsOk (items_of found.1.now)) }
-{
-    laws::all_read_are_spelled();
-    laws::all_spelled_are_read();
-    let mut reader = Reader::new(octets);
-    let Ok(item) = reader.octet_string(&ITEM, 1, 16) else {
-        return None;
-    };
-    Some((item, &octets[reader.place()..]))
+impl<'a> Members<'a> for Items<'a> {
+    ghost use Rattle.std.specs.Prelude.{ℕ, List, refl};
+    ghost use Rattle.codec_sample.specs.Sample.{items};
+
+    type Value = Items<'a>;
+
+    ghost Seen = { List (List ℕ) };
+
+    ghost shape = { items };
+
+    ghost is_shallow = { refl };
+
+    ghost seen = { λ i. i };
+
+    fn read(reader: &mut Reader<'a>) -> Result<Items<'a>, BerFault> {
+        let octets = lend_list::<Item>(8, reader)?;
+        Ok(Items::found(octets))
+    }
+
+    fn size(value: &Items<'a>) -> usize {
+        list_size::<Item>(8, value.octets)
+    }
+
+    fn write(value: &Items<'a>, writer: &mut Writer) {
+        write_list::<Item>(8, value.octets, writer);
+    }
 }

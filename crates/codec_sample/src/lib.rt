@@ -1,17 +1,16 @@
-// A small nested PDU, this product's own, which shows how a codec stands on `ber_core`: its reading and its writing are
-// exact by the public contracts of a reader and a writer alone.
-//
-// No call takes memory. Reading costs one pass over the octets and lends from them; writing copies each octet once.
+// A small nested PDU, this product's own, which shows how a PDU stands on shapes: credentials, the invocation's number, a
+// time and a list that is lent.
 #![tactic(auto)]
 
+mod credentials;
 mod items;
-pub mod laws;
-mod reading;
 mod sample;
-mod writing;
+mod time;
 
+pub use credentials::Credentials;
 pub use items::Items;
-pub use sample::{Credentials, Sample};
+pub use sample::Sample;
+pub use time::{ConditionalTime, Time};
 
 #[cfg(test)]
 mod tests;

@@ -1,5 +1,6 @@
 use super::*;
 use ber_core::{BerFault, Writer};
+use ber_shape::Pdu;
 use cds_time::{Cds, Rest};
 use std::test::Fail;
 
@@ -32,20 +33,13 @@ fn a_full_sample_is_read(rt: HostRuntime) -> Result<(), Fail> {
 
 #[test]
 fn a_full_sample_is_written(rt: HostRuntime) -> Result<(), Fail> {
-    let items = Items::read(&FULL[30..]).ok().ok_or("items")?;
-    let sample = Sample {
-        credentials: Credentials::Used(&[1, 2, 3, 4, 5, 6, 7, 8]),
-        invoke: 300,
-        time: Some(Cds {
-            days: 20_000,
-            millis: 1_000,
-            rest: Rest::Micros(7),
-        }),
-        items,
+    let Ok(sample) = Sample::decode(&FULL) else {
+        return Err("a sample".into());
     };
     let mut writer = Writer::new(rt.alloc(), 50).ok().ok_or("memory")?;
-    assert_eq!(rt; sample.length(), 38);
-    assert!(rt; sample.length() <= writer.room());
+    let length = sample.length();
+    assert_eq!(rt; length, 38);
+    assert!(rt; length <= writer.room());
     sample.encode(&mut writer);
     assert_eq!(rt; writer.octets(), FULL.as_slice());
     Ok(())
@@ -53,19 +47,12 @@ fn a_full_sample_is_written(rt: HostRuntime) -> Result<(), Fail> {
 
 #[test]
 fn a_sample_in_picoseconds_is_written(rt: HostRuntime) -> Result<(), Fail> {
-    let items = Items::read(&[]).ok().ok_or("items")?;
-    let sample = Sample {
-        credentials: Credentials::Unused,
-        invoke: 0,
-        time: Some(Cds {
-            days: 1,
-            millis: 2,
-            rest: Rest::Picos(999_999_999),
-        }),
-        items: items.iter(),
+    let Ok(sample) = Sample::decode(&PICOS) else {
+        return Err("a sample".into());
     };
     let mut writer = Writer::new(rt.alloc(), 50).ok().ok_or("memory")?;
-    assert!(rt; sample.length() <= writer.room());
+    let length = sample.length();
+    assert!(rt; length <= writer.room());
     sample.encode(&mut writer);
     assert_eq!(rt; writer.octets(), PICOS.as_slice());
     Ok(())

@@ -1,7 +1,7 @@
 use Rattle.std.proofs.Common.{◌*◌, ◌∙◌, arith}
 use Rattle.std.proofs.Math.Nat.{pow-le-pow_right}
 use Rattle.std.proofs.lemmas.Nat.{one_shl}
-use Rattle.ber_core.proofs.Numbers.{pow-256}
+use Rattle.ber_core.specs.Facts.Numbers.{pow-256}
 use Rattle.ber_core.proofs.content.modulus.Goals as goal
 
 pub returns-clause-exact : goal.returns-clause-exact

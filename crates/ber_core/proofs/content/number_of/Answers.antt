@@ -1,7 +1,7 @@
 use Rattle.std.proofs.Common.{◌≡◌, ◌+◌, ◌*◌, ◌^◌, ◌<◌, drop, length, get_or, arith}
 use Rattle.std.proofs.Math.Nat.{pow-le-pow_right}
 use Rattle.ber_core.specs.Length.{number_of}
-use Rattle.ber_core.proofs.Numbers.{IsOctets-from_each, number_of-narrow, number_of-below, number_of-more, number_of-fits}
+use Rattle.ber_core.specs.Facts.Numbers.{IsOctets-from_each, number_of-narrow, number_of-below, number_of-more, number_of-fits}
 use Rattle.ber_core.proofs.content.number_of.Goals as goal
 use Rattle.ber_core.proofs.content.number_of.Goals.{In-loop-octet, After-loop-octet}
 

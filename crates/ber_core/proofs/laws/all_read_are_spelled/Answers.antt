@@ -1,4 +1,4 @@
-use Rattle.ber_core.proofs.Whole.{read_trees-ok}
+use Rattle.ber_core.specs.Facts.Whole.{read_trees-ok}
 use Rattle.ber_core.proofs.laws.all_read_are_spelled.Goals as goal
 
 pub returns : goal.returns

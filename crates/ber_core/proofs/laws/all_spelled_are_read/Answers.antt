@@ -1,4 +1,4 @@
-use Rattle.ber_core.proofs.Whole.{read_trees-at}
+use Rattle.ber_core.specs.Facts.Whole.{read_trees-at}
 use Rattle.ber_core.proofs.laws.all_spelled_are_read.Goals as goal
 
 pub returns : goal.returns

@@ -1,4 +1,4 @@
-use Rattle.ber_core.proofs.Canonical.{canonical-Spells}
+use Rattle.ber_core.specs.Facts.Canonical.{canonical-Spells}
 use Rattle.ber_core.proofs.laws.canonical_spells.Goals as goal
 
 pub returns : goal.returns

@@ -1,7 +1,7 @@
 use Rattle.std.proofs.Common.{◌+◌, ◌-◌, length, drop, subst}
 use Rattle.ber_core.specs.Length.{IsOctets}
-use Rattle.ber_core.proofs.Found.{IsOctets-take, IsOctets-drop}
-use Rattle.ber_core.proofs.Moves.{left-inside}
+use Rattle.ber_core.specs.Facts.Found.{IsOctets-take, IsOctets-drop}
+use Rattle.ber_core.specs.Facts.Moves.{left-inside}
 use Rattle.ber_core.proofs.laws.content_is_octets.Goals as goal
 
 pub returns : goal.returns

@@ -2,8 +2,8 @@ use Rattle.std.proofs.Common.{◌+◌, length, refl, arith}
 use Rattle.ber_core.specs.Length.{shortest_length}
 use Rattle.ber_core.specs.Spelling.{element}
 use Rattle.ber_core.specs.Parts.{length-element}
-use Rattle.ber_core.proofs.Lengths.{shortest_length-IsLength}
-use Rattle.ber_core.proofs.Found.{Stands-next_content}
+use Rattle.ber_core.specs.Facts.Lengths.{shortest_length-IsLength}
+use Rattle.ber_core.specs.Facts.Found.{Stands-next_content}
 use Rattle.ber_core.proofs.laws.element_read_back.Goals as goal
 
 pub returns : goal.returns

@@ -1,4 +1,4 @@
-use Rattle.ber_core.proofs.Found.{next_content-Stands, Stands-next_content}
+use Rattle.ber_core.specs.Facts.Found.{next_content-Stands, Stands-next_content}
 use Rattle.ber_core.proofs.laws.found_where_spelled.Goals as goal
 
 pub returns : goal.returns

@@ -1,5 +1,5 @@
-use Rattle.ber_core.proofs.Read.{integer_of-integer_octets}
-use Rattle.ber_core.proofs.Twos.{IsKept-integer_octets}
+use Rattle.ber_core.specs.Facts.Read.{integer_of-integer_octets}
+use Rattle.ber_core.specs.Facts.Twos.{IsKept-integer_octets}
 use Rattle.ber_core.proofs.laws.integer_read_back.Goals as goal
 
 pub returns : goal.returns

@@ -1,6 +1,6 @@
 use Rattle.std.proofs.Common.{ap, ◌∙◌}
 use Rattle.ber_core.specs.Reading.{integer_of}
-use Rattle.ber_core.proofs.Read.{integer_of-spelled, integer_of-integer_octets}
+use Rattle.ber_core.specs.Facts.Read.{integer_of-spelled, integer_of-integer_octets}
 use Rattle.ber_core.proofs.laws.integer_where_spelled.Goals as goal
 
 pub returns : goal.returns

@@ -1,6 +1,6 @@
 use Rattle.std.proofs.Common.{◌≡◌, [], ◌++◌, sym, ◌∙◌, ap}
 use Rattle.std.proofs.lemmas.List.{append-nil, append_cancel_left}
-use Rattle.ber_core.proofs.Prefixes.{same_tree}
+use Rattle.ber_core.specs.Facts.Prefixes.{same_tree}
 use Rattle.ber_core.proofs.laws.none_begins_another.Goals as goal
 
 pub returns : goal.returns

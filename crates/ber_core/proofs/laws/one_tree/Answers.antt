@@ -1,5 +1,5 @@
 use Rattle.std.proofs.Common.{[], refl}
-use Rattle.ber_core.proofs.Prefixes.{same_tree}
+use Rattle.ber_core.specs.Facts.Prefixes.{same_tree}
 use Rattle.ber_core.proofs.laws.one_tree.Goals as goal
 
 pub returns : goal.returns

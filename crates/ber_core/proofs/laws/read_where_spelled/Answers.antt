@@ -1,4 +1,4 @@
-use Rattle.ber_core.proofs.Whole.{read_tree-ok, read_tree-at}
+use Rattle.ber_core.specs.Facts.Whole.{read_tree-ok, read_tree-at}
 use Rattle.ber_core.proofs.laws.read_where_spelled.Goals as goal
 
 pub returns : goal.returns

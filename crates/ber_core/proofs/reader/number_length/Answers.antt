@@ -1,4 +1,4 @@
-use Rattle.ber_core.proofs.Identifiers.{through_last-more, through_last-found, through_last-none}
+use Rattle.ber_core.specs.Facts.Identifiers.{through_last-more, through_last-found, through_last-none}
 use Rattle.std.proofs.Common.{sym}
 use Rattle.ber_core.proofs.reader.number_length.Goals as goal
 

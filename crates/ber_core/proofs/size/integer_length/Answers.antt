@@ -1,5 +1,5 @@
 use Rattle.std.proofs.Common.{length, ap}
-use Rattle.ber_core.proofs.Integers.{shortest-integer_octets}
+use Rattle.ber_core.specs.Facts.Integers.{shortest-integer_octets}
 use Rattle.ber_core.proofs.size.integer_length.Goals as goal
 
 pub returns-clause-exact : goal.returns-clause-exact

@@ -1,6 +1,6 @@
 use Rattle.std.proofs.Common.{◌≡◌}
 use Rattle.ber_core.specs.Integer.{integer_octets}
-use Rattle.ber_core.proofs.Integers.{shortest-integer_octets}
+use Rattle.ber_core.specs.Facts.Integers.{shortest-integer_octets}
 use Rattle.ber_core.proofs.writer.Writer.integer.Goals as goal
 use Rattle.ber_core.proofs.writer.Writer.integer.Goals.{After-shortest_complement}
 

@@ -1,0 +1,5 @@
+use Rattle.ber_shape.specs.Exact.{exact}
+use Rattle.ber_shape.proofs.laws.is_exact.Goals as goal
+
+pub returns : goal.returns
+returns g c = exact g.E.Element.shape g.E.Element.is_shallow c.requires

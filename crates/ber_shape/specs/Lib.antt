@@ -1,0 +1,11 @@
+pub mod Results
+pub mod Steps
+pub mod Identifier
+pub mod Content
+pub mod Element
+pub mod Members
+pub mod Same
+pub mod Choice
+pub mod List
+pub mod Exact
+pub mod Lent

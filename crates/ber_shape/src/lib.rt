@@ -1,0 +1,21 @@
+// Types of elements by their shapes: a shape says how octets are read, which tree a value has and which values fit, and
+// comes with the proof that these agree. A codec of a type is its shape and three functions that meet it.
+//
+// No call takes memory. Reading costs one pass over the octets and lends from them; writing copies each octet once, after
+// the lengths of the elements around it were added up.
+#![tactic(auto)]
+
+mod codec;
+mod element;
+pub mod laws;
+mod lending;
+mod members;
+mod pdu;
+
+pub use codec::{decode, encode, length};
+pub use element::Element;
+pub use lending::{lend_list, lend_some, list_size, split_first, write_list};
+pub use members::{
+    Members, read_around, read_within, size_around, size_within, write_around, write_within,
+};
+pub use pdu::Pdu;
