@@ -1,0 +1,7 @@
+pub mod Numbers
+pub mod Times
+pub mod Machine
+pub mod Forward
+pub mod Run
+pub mod Parts
+pub mod CltuFault

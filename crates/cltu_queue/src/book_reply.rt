@@ -1,0 +1,42 @@
+// What the station's book answers a session.
+
+use crate::room::Room;
+
+/// What the book answers.
+#[derive(Clone, Copy, Debug, PartialEq, Eq)]
+pub enum BookReply {
+    /// Nothing was asked.
+    Nothing,
+    /// The instance is bound.
+    Bound,
+    /// Another door has the instance.
+    AlreadyBound,
+    /// The instance is free.
+    Unbound,
+    /// A run began.
+    Started {
+        /// The moment, in picoseconds since 1958-01-01.
+        now: u128,
+    },
+    /// No run began.
+    StartRefused {
+        /// The diagnostic of START, 0 or 1.
+        diagnostic: u8,
+    },
+    /// The CLTU is queued.
+    Taken {
+        /// The queue with it.
+        room: Room,
+    },
+    /// The CLTU isn't queued.
+    Rejected {
+        /// The diagnostic of TRANSFER-DATA, 0 to 7.
+        diagnostic: u8,
+        /// The queue, which is as it was.
+        room: Room,
+    },
+    /// The run ended.
+    Stopped,
+    /// The ask doesn't fit what the door has bound.
+    Lost,
+}
