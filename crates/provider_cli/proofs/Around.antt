@@ -1,17 +1,17 @@
 -- The text of a line stands between the texts of those around it, and few buffers begin the items of all.
-use Rattle.std.proofs.Common.{◌≡◌, ℕ, zero, suc, ◌+◌, ◌≤◌, IsTrue, false, nat_lt, List, [], ◌∷◌, ◌++◌, length, take, drop, Option, Some, None, refl, sym, ap, ◌∙◌, append_assoc, length-append, arith}
+use Rattle.std.proofs.Common.{◌≡◌, ℕ, zero, suc, ◌+◌, ◌≤◌, IsTrue, false, nat_lt, List, [], ◌∷◌, ◌++◌, length, take, drop, Option, Some, None, refl, sym, ap, ◌∙◌, append_assoc, length-append, length-take, arith}
 use Rattle.std.proofs.Math.Seq.{take-append-add}
 use Rattle.std.proofs.lemmas.List.{take-append-drop, take-append-le}
-use Rattle.cds_time.specs.declared.moment.Cds.{Cds}
+use Rattle.cds_time.specs.declared.cds.Cds.{Cds}
 use Rattle.archive_terms.specs.Delivery.{Item}
 use Rattle.provider_cli.specs.declared.entry.Entry.{Entry}
 use Rattle.provider_cli.specs.declared.grammar.ScriptLine.{ScriptLine}
 use Rattle.provider_cli.specs.declared.grammar.ScriptLine.TheVariants.{Desk}
 use Rattle.provider_cli.specs.Grammar.{line_of}
-use Rattle.provider_cli.specs.Held.{moment}
+use Rattle.provider_cli.specs.Entries.{moment}
 use Rattle.provider_cli.specs.Transcript.{line_text, after_line, start_buffers, transcript_from, transcript, is_script}
-use Rattle.provider_cli.specs.Headline.{archive_after, items_in}
-use Rattle.provider_cli.proofs.Steps.{front_le}
+use Rattle.provider_cli.specs.Start.{archive_after}
+use Rattle.provider_cli.specs.Headline.{items_in}
 
 Around : ℕ → List Entry → List (List ℕ) → List (List ℕ) → List ℕ → ScriptLine → Type 0
 Around number entries earlier later line says =
@@ -48,6 +48,9 @@ transcript_around earlier later line start stop quality good says ordered =
     let in_order = not_before (moment start) (moment stop) ordered in
     let count : 1 + length earlier + 1 ≡ length earlier + 2 = omega arith in
     rw (← count) (rw in_order at (around 1 [] earlier later line (Desk start stop quality) good says))
+
+front_le : {X : Type 0} (front whole : List X) → take (length front) whole ≡ front → length front ≤ length whole
+front_le front whole is = omega (arith, simp length-take at (ap length is))
 
 -- what begins a beginning begins the whole
 pub front_of_front : {X : Type 0} (front some all : List X) → take (length front) some ≡ front → take (length some) all ≡ some → take (length front) all ≡ front

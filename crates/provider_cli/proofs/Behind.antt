@@ -5,7 +5,7 @@ use Rattle.std.proofs.lemmas.List.{drop_all, length-take, drop-drop, drop-map}
 use Rattle.std.proofs.lemmas.List.Sums.{sum_by-cons}
 use Rattle.archive_terms.specs.Continuity.{lost_of}
 use Rattle.provider_cli.specs.declared.entry.Entry.{Entry}
-use Rattle.provider_cli.specs.Held.{entry_of, archive_of}
+use Rattle.provider_cli.specs.Entries.{entry_of, archive_of}
 
 -- the element at a place is the first one from there on
 pub get_at : {X : Type 0} → (xs : List X) (n : ℕ) (x : X) (ys : List X) → drop n xs ≡ x ∷ ys → slice_get xs n ≡ Some x

@@ -11,8 +11,8 @@ use Rattle.hex.specs.declared.error.FromHexError.{FromHexError}
 use Rattle.hex.specs.Hex.{decode_of}
 use Rattle.ber_core.specs.Length.{IsOctets}
 use Rattle.cds_time.specs.Octets.{FieldsFit}
-use Rattle.cds_time.specs.declared.moment.Cds.{Cds}
-use Rattle.cds_time.specs.declared.moment.Rest.TheVariants.{Micros}
+use Rattle.cds_time.specs.declared.cds.Cds.{Cds}
+use Rattle.cds_time.specs.declared.cds.Rest.TheVariants.{Micros}
 use Rattle.archive_terms.specs.Archive.{may_follow}
 use Rattle.provider_cli.specs.declared.entry.Entry.{Entry}
 use Rattle.provider_cli.specs.declared.entry.Entry.TheVariants.{Frame, Seal}
@@ -20,9 +20,9 @@ use Rattle.provider_cli.specs.declared.grammar.ScriptLine.{ScriptLine}
 use Rattle.provider_cli.specs.declared.grammar.ScriptLine.TheVariants.{Offer, Desk}
 use Rattle.provider_cli.specs.Words.{◌>>=◌, is_number, number, octets, parts, time, time_of_fields}
 use Rattle.provider_cli.specs.Grammar.{frame_line, mark_line, start_line, line_of_words, line_of}
-use Rattle.provider_cli.specs.Held.{entry_of, archive_of}
+use Rattle.provider_cli.specs.Entries.{entry_of, archive_of}
 use Rattle.provider_cli.specs.Transcript.{after_line}
-use Rattle.provider_cli.specs.Headline.{archive_after}
+use Rattle.provider_cli.specs.Start.{archive_after}
 use Rattle.provider_cli.proofs.HexOctets.{hex_octets}
 
 abbrev pub EntryFits : Entry → Type 0

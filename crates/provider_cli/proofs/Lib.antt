@@ -3,11 +3,12 @@ pub mod Parts
 pub mod Behind
 pub mod Pass
 pub mod Turns
-pub mod Floors
+pub mod LastTimes
 pub mod Messages
 pub mod Steps
 pub mod PlainText
 pub mod FirstLines
+pub mod Read
 pub mod Outcomes
 pub mod Around
 pub mod Each

@@ -3,23 +3,26 @@ use Rattle.std.proofs.Common.{◌≡◌, ℕ, ◌+◌, ◌<◌, ◌≤◌, Bool,
 use Rattle.std.specs.Bool.{if◌then◌else◌}
 use Rattle.std.specs.Prelude.{pos, nat_le, min}
 use Rattle.std.specs.List.{filter, list_all, list_any, enumerate_from, sum_by}
-use Rattle.std.proofs.lemmas.Bool.{and_parts, leb-true, le-leb, lt-leb}
+use Rattle.std.proofs.lemmas.Bool.{and_parts, and_from, leb-true, le-leb, lt-leb}
 use Rattle.std.proofs.lemmas.List.{append-nil}
 use Rattle.std.proofs.lemmas.List.Sums.{sum_by-cons}
+use Rattle.std.specs.Option.{option_map_or}
+use Rattle.cds_time.specs.Moment.{moment_of}
+use Rattle.ber_core.specs.Tree.{Tree}
 use Rattle.return_pdu.specs.Items.{frame_of}
 use Rattle.return_pdu.specs.Items as pdu
-use Rattle.archive_terms.specs.Archive.{frame, may_precede, is_valid_frame, is_storable, is_archive, IsArchive, is_closed}
+use Rattle.archive_terms.specs.Archive.{frame, may_precede, is_valid_frame, is_storable, is_ordered, is_archive, IsArchive, is_closed}
 use Rattle.archive_terms.specs.Archive as terms
 use Rattle.archive_terms.specs.Selection.{is_picked, picked}
 use Rattle.archive_terms.specs.Delivery.{Item, archived, end_of_data, archived_items, frame_octets, is_notice_item, is_complete, cut_onto, offline_buffers}
-use Rattle.archive_terms.specs.Continuity.{continuity}
-use Rattle.cds_time.specs.declared.moment.Cds.{Cds}
+use Rattle.archive_terms.specs.Continuity.{continuity, continuity_of}
+use Rattle.cds_time.specs.declared.cds.Cds.{Cds}
 use Rattle.provider_cli.specs.declared.entry.Entry.{Entry}
 use Rattle.provider_cli.specs.declared.entry.Entry.TheVariants.{Frame, Seal}
-use Rattle.provider_cli.specs.Held.{moment, entry_of, archive_of}
-use Rattle.provider_cli.specs.Desk.{wants, lost_with, told, gap_behind, picked_of}
-use Rattle.provider_cli.specs.Transcript.{selection, sent_buffer, sent_buffers, frame_tree, item_tree}
-use Rattle.provider_cli.proofs.Behind.{get_at, drop_next, lost_before, lost_before-next, lost_before-none, capped}
+use Rattle.provider_cli.specs.Entries.{moment, entry_of, archive_of}
+use Rattle.provider_cli.specs.Desk.{wants, lost_with, continuity_behind, gap_behind, picked_of}
+use Rattle.provider_cli.specs.Transcript.{selection, sent_buffer, sent_buffers, item_tree}
+use Rattle.provider_cli.proofs.Behind.{drop_next, lost_before, lost_before-next, lost_before-none, capped}
 
 -- what is handed over at the end: where the stop is closed a frame that is held, and the end of data
 abbrev pub end_text : Bool → Option pdu.Frame → List ℕ
@@ -68,21 +71,24 @@ gap-zero entries n =
     (omega arith, ap Some none)
 
 -- a frame's continuity is told by the gap
-told-continuity : (entries : List Entry) (before : Option ℕ) (n : ℕ) (gap : Option ℕ) (ert : Cds) (quality : ℕ) (antenna : List ℕ) (lost : ℕ) (octets : List ℕ) (rest : List Entry)
+continuity_behind-is : (entries : List Entry) (before : Option ℕ) (n : ℕ) (gap : Option ℕ) (ert : Cds) (quality : ℕ) (antenna : List ℕ) (lost : ℕ) (octets : List ℕ) (rest : List Entry)
     → drop n entries ≡ Frame ert quality antenna lost octets ∷ rest → GapIs entries before n gap
-    → told (lost_with gap lost) ≡ continuity (archive_of entries) before n
-told-continuity entries None n gap ert quality antenna lost octets rest stands is = ap (λ g. told (lost_with g lost)) is
-told-continuity entries (Some p) n gap ert quality antenna lost octets rest stands is =
-    ap (λ g. told (lost_with g lost)) is.1
+    → continuity_behind (lost_with gap lost) ≡ continuity (archive_of entries) before n
+continuity_behind-is entries None n gap ert quality antenna lost octets rest stands is = ap (λ g. continuity_behind (lost_with g lost)) is
+continuity_behind-is entries (Some p) n gap ert quality antenna lost octets rest stands is =
+    ap (λ g. continuity_behind (lost_with g lost)) is.1
     ∙ ap pos (capped 16777215 (lost_before entries p n) lost (lost_before entries p (n + 1)) (lost_before-next entries p n (Frame ert quality antenna lost octets) rest stands is.0))
+
+-- an item behind a frame that was handed over last
+abbrev pub tree_of : List Entry → Option ℕ → Item → Tree
+tree_of entries before item = item_tree (item, continuity_of (archive_of entries) (before, item))
 
 frame_at : (entries : List Entry) (before : Option ℕ) (n : ℕ) (gap : Option ℕ) (ert : Cds) (quality : ℕ) (antenna : List ℕ) (lost : ℕ) (octets : List ℕ) (rest : List Entry)
     → drop n entries ≡ Frame ert quality antenna lost octets ∷ rest → GapIs entries before n gap
-    → item_tree entries (before, archived n (entry_of (Frame ert quality antenna lost octets)))
-    ≡ pdu.frame (frame_of ert antenna (told (lost_with gap lost)) quality octets)
+    → tree_of entries before (archived n (entry_of (Frame ert quality antenna lost octets)))
+    ≡ pdu.frame (frame_of ert antenna (continuity_behind (lost_with gap lost)) quality octets)
 frame_at entries before n gap ert quality antenna lost octets rest stands is =
-    ap (frame_tree entries before n) (get_at entries n (Frame ert quality antenna lost octets) rest stands)
-    ∙ ap (λ z. pdu.frame (frame_of ert antenna z quality octets)) (sym (told-continuity entries before n gap ert quality antenna lost octets rest stands is))
+    ap (λ z. pdu.frame (frame_of ert antenna z quality octets)) (sym (continuity_behind-is entries before n gap ert quality antenna lost octets rest stands is))
 
 -- the picked entries from a place on
 abbrev pub picks : Cds → Cds → ℕ → List Entry → ℕ → List Entry → List (ℕ × terms.Entry)
@@ -93,14 +99,14 @@ or_false : (b : Bool) → (b || false) ≡ b
 or_false true = refl
 or_false false = refl
 
-same_test : (a b c d : Bool) → a ≡ true → (a && b && c && d || false) ≡ (b && c && d)
-same_test a b c d holds = ap (λ x. x && b && c && d || false) holds ∙ or_false (b && c && d)
+same_test : (a b c : Bool) → a ≡ true → (a && b && c || false) ≡ (b && c)
+same_test a b c holds = ap (λ x. x && b && c || false) holds ∙ or_false (b && c)
 
 frame_picked : (start stop : Cds) (quality : ℕ) (entries : List Entry) (n : ℕ) (ert : Cds) (found : ℕ) (antenna : List ℕ) (lost : ℕ) (octets : List ℕ)
     → is_picked (selection start stop quality) (archive_of entries) n (entry_of (Frame ert found antenna lost octets))
-    ≡ wants (moment start) (moment stop) quality found (moment ert)
+    ≡ wants (moment start) (moment stop) quality found (moment_of ert)
 frame_picked start stop quality entries n ert found antenna lost octets =
-    same_test (nat_le 0 n) (quality == 2 || found == quality) (nat_le (moment start) (moment ert)) (nat_le (moment ert) (moment stop))
+    same_test (nat_le 0 n) (quality == 2 || found == quality) (option_map_or (λ t. nat_le (moment start) t && nat_le t (moment stop)) (moment_of ert) false)
     (le-leb 0 n (omega arith))
 
 -- the buffers of picked entries behind items held
@@ -136,26 +142,26 @@ pair_first false entries held place entry = refl
 pub record Goes (start stop : Cds) (quality : ℕ) (closed : Bool) (entries : List Entry) (n : ℕ) (rest : List Entry) : Type 0 where
   pub fresh : (before gap : Option ℕ) → GapIs entries before n gap
       → pass_text start stop quality closed gap None rest
-      ≡ sent_buffers entries before (buffers closed (picks start stop quality entries n rest) [])
+      ≡ sent_buffers (archive_of entries) before (buffers closed (picks start stop quality entries n rest) [])
   pub holding : (before gap : Option ℕ) (place : ℕ) (f : terms.Frame) (shown : pdu.Frame) → GapIs entries (Some place) n gap
       → is_complete 2 (archived place (frame f) ∷ []) ≡ false
-      → item_tree entries (before, archived place (frame f)) ≡ pdu.frame shown
+      → tree_of entries before (archived place (frame f)) ≡ pdu.frame shown
       → pass_text start stop quality closed gap (Some shown) rest
-      ≡ sent_buffers entries before (buffers closed (picks start stop quality entries n rest) (archived place (frame f) ∷ []))
+      ≡ sent_buffers (archive_of entries) before (buffers closed (picks start stop quality entries n rest) (archived place (frame f) ∷ []))
 
-pub end_fresh : (closed : Bool) (entries : List Entry) (before : Option ℕ) → end_text closed None ≡ sent_buffers entries before (buffers closed [] [])
+pub end_fresh : (closed : Bool) (entries : List Entry) (before : Option ℕ) → end_text closed None ≡ sent_buffers (archive_of entries) before (buffers closed [] [])
 end_fresh true entries before = sym (append-nil (sent_buffer (pdu.end_of_data ∷ [])))
 end_fresh false entries before = refl
 
 end_holding : (closed : Bool) (entries : List Entry) (before : Option ℕ) (place : ℕ) (f : terms.Frame) (shown : pdu.Frame)
     → is_complete 2 (archived place (frame f) ∷ []) ≡ false
-    → item_tree entries (before, archived place (frame f)) ≡ pdu.frame shown
-    → end_text closed (Some shown) ≡ sent_buffers entries before (buffers closed [] (archived place (frame f) ∷ []))
+    → tree_of entries before (archived place (frame f)) ≡ pdu.frame shown
+    → end_text closed (Some shown) ≡ sent_buffers (archive_of entries) before (buffers closed [] (archived place (frame f) ∷ []))
 end_holding true entries before place f shown alone tree =
     ap (λ t. sent_buffer (t ∷ []) ++ sent_buffer (pdu.end_of_data ∷ [])) (sym tree)
-    ∙ ap (λ xs. sent_buffer (item_tree entries (before, archived place (frame f)) ∷ []) ++ xs) (sym (append-nil (sent_buffer (pdu.end_of_data ∷ []))))
+    ∙ ap (λ xs. sent_buffer (tree_of entries before (archived place (frame f)) ∷ []) ++ xs) (sym (append-nil (sent_buffer (pdu.end_of_data ∷ []))))
 end_holding false entries before place f shown alone tree =
-    sym (ap (λ b. sent_buffers entries before (cond b ((archived place (frame f) ∷ []) ∷ []) [])) alone)
+    sym (ap (λ b. sent_buffers (archive_of entries) before (cond b ((archived place (frame f) ∷ []) ∷ []) [])) alone)
 
 goes-end : (start stop : Cds) (quality : ℕ) (closed : Bool) (entries : List Entry) (n : ℕ) → Goes start stop quality closed entries n []
 goes-end start stop quality closed entries n = record {
@@ -179,59 +185,60 @@ goes-frame : (start stop : Cds) (quality : ℕ) (closed : Bool) (entries : List 
     → Goes start stop quality closed entries n (Frame ert found antenna lost octets ∷ rest)
 goes-frame start stop quality closed entries n ert found antenna lost octets rest stands storable next = record {
   fresh = λ before gap is.
-      fresh_on before gap is (wants (moment start) (moment stop) quality found (moment ert))
-      ∙ ap (λ b. sent_buffers entries before (buffers closed (cond b ((n, frame entry) ∷ later) later) [])) (sym here);
+      fresh_on before gap is (wants (moment start) (moment stop) quality found (moment_of ert))
+      ∙ ap (λ b. sent_buffers (archive_of entries) before (buffers closed (cond b ((n, frame entry) ∷ later) later) [])) (sym here);
   holding = λ before gap place f shown is still tree.
-      holding_on before gap place f shown is still tree (wants (moment start) (moment stop) quality found (moment ert))
-      ∙ ap (λ b. sent_buffers entries before (buffers closed (cond b ((n, frame entry) ∷ later) later) (archived place (frame f) ∷ []))) (sym here);
+      holding_on before gap place f shown is still tree (wants (moment start) (moment stop) quality found (moment_of ert))
+      ∙ ap (λ b. sent_buffers (archive_of entries) before (buffers closed (cond b ((n, frame entry) ∷ later) later) (archived place (frame f) ∷ []))) (sym here);
 }
   where
     entry : terms.Frame
-    entry = record { time = moment ert; quality = found; antenna = antenna; lost = lost; octets = octets }
+    entry = record { ert = ert; quality = found; antenna = antenna; lost = lost; octets = octets }
 
     later : List (ℕ × terms.Entry)
     later = picks start stop quality entries (n + 1) rest
 
-    here : is_picked (selection start stop quality) (archive_of entries) n (frame entry) ≡ wants (moment start) (moment stop) quality found (moment ert)
+    here : is_picked (selection start stop quality) (archive_of entries) n (frame entry) ≡ wants (moment start) (moment stop) quality found (moment_of ert)
     here = frame_picked start stop quality entries n ert found antenna lost octets
 
     alone : is_complete 2 (archived n (frame entry) ∷ []) ≡ false
     alone = frame_alone n entry storable
 
     shown_at : Option ℕ → pdu.Frame
-    shown_at gap = frame_of ert antenna (told (lost_with gap lost)) found octets
+    shown_at gap = frame_of ert antenna (continuity_behind (lost_with gap lost)) found octets
 
     fresh_on : (before gap : Option ℕ) → GapIs entries before n gap → (b : Bool)
         → pass_step gap None (Frame ert found antenna lost octets) (λ g h. pass_text start stop quality closed g h rest) (cond b (Some (shown_at gap)) None)
-        ≡ sent_buffers entries before (buffers closed (cond b ((n, frame entry) ∷ later) later) [])
+        ≡ sent_buffers (archive_of entries) before (buffers closed (cond b ((n, frame entry) ∷ later) later) [])
     fresh_on before gap is true =
         next.holding before (Some 0) n entry (shown_at gap) (gap-zero entries n) alone (frame_at entries before n gap ert found antenna lost octets rest stands is)
-        ∙ ap (sent_buffers entries before) (sym (held_first closed later n entry alone))
+        ∙ ap (sent_buffers (archive_of entries) before) (sym (held_first closed later n entry alone))
     fresh_on before gap is false =
         next.fresh before (lost_with gap lost) (gap-next entries before n gap (Frame ert found antenna lost octets) rest stands is)
 
     holding_on : (before gap : Option ℕ) (place : ℕ) (f : terms.Frame) (shown : pdu.Frame) → GapIs entries (Some place) n gap
         → is_complete 2 (archived place (frame f) ∷ []) ≡ false
-        → item_tree entries (before, archived place (frame f)) ≡ pdu.frame shown
+        → tree_of entries before (archived place (frame f)) ≡ pdu.frame shown
         → (b : Bool)
         → pass_step gap (Some shown) (Frame ert found antenna lost octets) (λ g h. pass_text start stop quality closed g h rest) (cond b (Some (shown_at gap)) None)
-        ≡ sent_buffers entries before (buffers closed (cond b ((n, frame entry) ∷ later) later) (archived place (frame f) ∷ []))
+        ≡ sent_buffers (archive_of entries) before (buffers closed (cond b ((n, frame entry) ∷ later) later) (archived place (frame f) ∷ []))
     holding_on before gap place f shown is still tree true =
         ap (λ t. sent_buffer (t ∷ pdu.frame (shown_at gap) ∷ []) ++ pass_text start stop quality closed (Some 0) None rest) (sym tree)
-        ∙ ap (λ t. sent_buffer (item_tree entries (before, archived place (frame f)) ∷ t ∷ []) ++ pass_text start stop quality closed (Some 0) None rest)
+        ∙ ap (λ t. sent_buffer (tree_of entries before (archived place (frame f)) ∷ t ∷ []) ++ pass_text start stop quality closed (Some 0) None rest)
         (sym (frame_at entries (Some place) n gap ert found antenna lost octets rest stands is))
-        ∙ ap (λ xs. sent_buffer (item_tree entries (before, archived place (frame f)) ∷ item_tree entries (Some place, archived n (frame entry)) ∷ []) ++ xs)
+        ∙ ap (λ xs. sent_buffer (tree_of entries before (archived place (frame f)) ∷ tree_of entries (Some place) (archived n (frame entry)) ∷ []) ++ xs)
         (next.fresh (Some n) (Some 0) (gap-zero entries n))
-        ∙ ap (sent_buffers entries before) (sym (pair_first closed later (archived place (frame f)) n (frame entry)))
+        ∙ ap (sent_buffers (archive_of entries) before) (sym (pair_first closed later (archived place (frame f)) n (frame entry)))
     holding_on before gap place f shown is still tree false =
         next.holding before (lost_with gap lost) place f shown (gap-next entries (Some place) n gap (Frame ert found antenna lost octets) rest stands is) still tree
 
 -- what an archive says of its first entry, and of the rest
 pub first_storable : (entry : terms.Entry) (later : List terms.Entry) → is_archive (entry ∷ later) ≡ true → (is_storable entry ≡ true) × (is_archive later ≡ true)
 first_storable entry later archive =
-    let parts : ((is_storable entry && list_all (may_precede entry) later) ≡ true) × (is_archive later ≡ true) =
-    and_parts (is_storable entry && list_all (may_precede entry) later) (is_archive later) archive in
-    ((and_parts (is_storable entry) (list_all (may_precede entry) later) parts.0).0, parts.1)
+    let parts : ((is_storable entry && list_all is_storable later) ≡ true) × ((list_all (may_precede entry) later && is_ordered later) ≡ true) =
+    and_parts (is_storable entry && list_all is_storable later) (list_all (may_precede entry) later && is_ordered later) archive in
+    let stored : (is_storable entry ≡ true) × (list_all is_storable later ≡ true) = and_parts (is_storable entry) (list_all is_storable later) parts.0 in
+    (stored.0, and_from (list_all is_storable later) (is_ordered later) stored.1 (and_parts (list_all (may_precede entry) later) (is_ordered later) parts.1).1)
 
 goes : (start stop : Cds) (quality : ℕ) (closed : Bool) (entries : List Entry) (n : ℕ) (rest : List Entry) → drop n entries ≡ rest
     → is_archive (archive_of rest) ≡ true → Goes start stop quality closed entries n rest
@@ -248,6 +255,6 @@ goes start stop quality closed entries n (Seal at ∷ rest) stands archive =
 -- one pass hands over the buffers of a START
 pub pass_text-start : (start stop : Cds) (quality : ℕ) (entries : List Entry) → IsArchive (archive_of entries) →
     pass_text start stop quality (is_closed (archive_of entries) (moment stop)) None None entries
-    ≡ sent_buffers entries None (offline_buffers 2 (picked (archive_of entries) (selection start stop quality)) (is_closed (archive_of entries) (moment stop)))
+    ≡ sent_buffers (archive_of entries) None (offline_buffers 2 (picked (archive_of entries) (selection start stop quality)) (is_closed (archive_of entries) (moment stop)))
 pass_text-start start stop quality entries archive =
     (goes start stop quality (is_closed (archive_of entries) (moment stop)) entries 0 entries refl archive).fresh None None refl

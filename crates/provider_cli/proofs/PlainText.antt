@@ -1,7 +1,8 @@
 -- What the plain program of a START adds up, picks and cuts.
-use Rattle.std.proofs.Common.{◌≡◌, ℕ, ◌+◌, ◌-◌, ◌<◌, ◌≤◌, min, Bool, true, false, cond, ◌&&◌, List, [], ◌∷◌, ◌++◌, length, map, take, drop, get_or, slice_get, Option, Some, None, IsTrue, refl, sym, ap, ◌∙◌, add-one, drop-cons, append-nil, append_assoc, length-take, arith}
+use Rattle.std.proofs.Common.{◌≡◌, ℕ, zero, suc, ◌+◌, ◌-◌, ◌<◌, ◌≤◌, min, Bool, true, false, cond, ◌&&◌, List, [], ◌∷◌, ◌++◌, length, map, take, drop, get_or, slice_get, Option, Some, None, IsTrue, refl, sym, ap, ◌∙◌, add-one, drop-cons, append-nil, append_assoc, length-take, arith}
 use Rattle.std.specs.Prelude.{nat_le}
-use Rattle.std.specs.List.{sum_by, filter, list_all, enumerate_from}
+use Rattle.std.specs.List.{AllByRecursion, sum_by, filter, list_all, enumerate_from}
+use Rattle.std.specs.Option.{option_map}
 use Rattle.std.proofs.lemmas.Bool.{and_parts}
 use Rattle.std.proofs.lemmas.List.{drop_all, take_all, take_min, length-map}
 use Rattle.ber_core.specs.Tree.{Tree}
@@ -10,15 +11,18 @@ use Rattle.return_pdu.specs.Items.{buffer_start, items_spelled, BufferIsHeadAndI
 use Rattle.return_pdu.specs.Items as pdu
 use Rattle.archive_terms.specs.Archive.{closes, is_closed, frame, loss_of_sync, production, seal}
 use Rattle.archive_terms.specs.Archive as terms
-use Rattle.archive_terms.specs.Selection.{Selection, admits, picked}
+use Rattle.archive_terms.specs.Selection.{Selection, admits, is_picked, picked}
 use Rattle.archive_terms.specs.Delivery.{Item, archived, archived_items, is_short_frame, is_complete, offline_buffers}
 use Rattle.archive_terms.specs.Continuity.{lost_of, lost_between}
-use Rattle.cds_time.specs.declared.moment.Cds.{Cds}
+use Rattle.cds_time.specs.declared.cds.Cds.{Cds}
 use Rattle.provider_cli.specs.declared.entry.Entry.{Entry}
-use Rattle.provider_cli.specs.Held.{moment, entry_of, archive_of}
-use Rattle.provider_cli.specs.Transcript.{message, sent_line, sent_buffer, sent_buffers, frame_tree, selection, start_buffers}
-use Rattle.provider_cli.proofs.Behind.{lost_before, lost_before-next}
-use Rattle.provider_cli.proofs.Pass.{held_first, pair_first, end_fresh}
+use Rattle.provider_cli.specs.declared.entry.Entry.TheVariants.{Frame, Seal}
+use Rattle.provider_cli.specs.Entries.{moment, entry_of, archive_of}
+use Rattle.provider_cli.specs.Plain.{frame_tree}
+use Rattle.provider_cli.specs.Transcript.{message, sent_line, sent_buffer, sent_buffers, selection, start_buffers}
+use Rattle.provider_cli.proofs.Behind.{get_at, drop_next, lost_before, lost_before-next}
+use Rattle.provider_cli.proofs.Each.{each_filtered}
+use Rattle.provider_cli.proofs.Pass.{tree_of, held_first, pair_first, end_fresh}
 
 -- an entry behind the first place and up to the second one counts
 pub lost_step : (entries : List Entry) (before place i : ℕ) (entry : Entry) → i < length entries → entry ≡ get_or entries i entry
@@ -76,40 +80,72 @@ abbrev pub FillByNumber : Type 0
 FillByNumber = (size : ℕ) (items : List Item) → size ≤ 8
     → IsTrue (list_all is_short_frame items) → is_complete size items ≡ nat_le size (length items)
 
+-- each picked entry stands at its place
+abbrev StandsIn : List terms.Entry → ℕ × terms.Entry → Type 0
+StandsIn archive x = slice_get archive x.0 ≡ Some x.1
+
+all_stand : (archive : List terms.Entry) (n : ℕ) (rest : List terms.Entry) → drop n archive ≡ rest → AllByRecursion (StandsIn archive) (enumerate_from n rest)
+all_stand archive n [] is = tt
+all_stand archive n (entry ∷ rest) is = (get_at archive n entry rest is, all_stand archive (n + 1) rest (drop_next archive n entry rest is))
+
+picked_stand : (archive : List terms.Entry) (s : Selection) → AllByRecursion (StandsIn archive) (picked archive s)
+picked_stand archive s = each_filtered (StandsIn archive) (λ x. is_picked s archive x.0 x.1) (enumerate_from 0 archive) (all_stand archive 0 archive refl)
+
+get_mapped : (entries : List Entry) (place : ℕ) → slice_get (archive_of entries) place ≡ option_map entry_of (slice_get entries place)
+get_mapped [] zero = refl
+get_mapped [] (suc place) = refl
+get_mapped (entry ∷ entries) zero = refl
+get_mapped (entry ∷ entries) (suc place) = get_mapped entries place
+
+-- what is looked up at the place of a picked frame is told of it
+looked_up : (entries : List Entry) (before : Option ℕ) (place : ℕ) (f : terms.Frame) → slice_get (archive_of entries) place ≡ Some (frame f)
+    → tree_at entries before place ≡ tree_of entries before (archived place (frame f))
+looked_up entries before place f stands = by_entry (slice_get entries place) (sym (get_mapped entries place) ∙ stands)
+  where
+    by_entry : (found : Option Entry) → option_map entry_of found ≡ Some (frame f) → frame_tree entries before place found ≡ tree_of entries before (archived place (frame f))
+    by_entry None is = absurd cc
+    by_entry (Some (Seal at)) is = absurd cc
+    by_entry (Some (Frame ert quality antenna lost octets)) is =
+        let same : record { ert = ert; quality = quality; antenna = antenna; lost = lost; octets = octets } ≡ f = cc in
+        ap (λ (f : terms.Frame). tree_of entries before (archived place (frame f))) same
+
 frame_alone : FillByNumber → (place : ℕ) (f : terms.Frame) → nat_le (length f.octets) 65536 ≡ true
     → is_complete 2 (archived place (frame f) ∷ []) ≡ false
 frame_alone fill place f short = fill 2 (archived place (frame f) ∷ []) (omega arith) (ap (λ b. b && true) short)
 
 pub places_text-buffers : FillByNumber → (closed : Bool) (entries : List Entry) (before : Option ℕ) (xs : List (ℕ × terms.Entry))
-    → list_all is_short_frame (archived_items xs) ≡ true
-    → places_text closed entries before (map (λ x. x.0) xs) ≡ sent_buffers entries before (offline_buffers 2 xs closed)
-places_text-buffers fill true entries before [] short = end_fresh true entries before
-places_text-buffers fill false entries before [] short = refl
-places_text-buffers fill true entries before ((p, frame f) ∷ []) short =
+    → list_all is_short_frame (archived_items xs) ≡ true → AllByRecursion (StandsIn (archive_of entries)) xs
+    → places_text closed entries before (map (λ x. x.0) xs) ≡ sent_buffers (archive_of entries) before (offline_buffers 2 xs closed)
+places_text-buffers fill true entries before [] short stands = end_fresh true entries before
+places_text-buffers fill false entries before [] short stands = refl
+places_text-buffers fill true entries before ((p, frame f) ∷ []) short stands =
     let fits = and_parts (nat_le (length f.octets) 65536) true short in
-    ap (λ xs. sent_buffer (tree_at entries before p ∷ []) ++ xs) (sym (append-nil (sent_buffer (pdu.end_of_data ∷ []))))
-    ∙ ap (sent_buffers entries before) (sym (held_first true [] p f (frame_alone fill p f fits.0)))
-places_text-buffers fill false entries before ((p, frame f) ∷ []) short =
+    ap (λ tree. sent_buffer (tree ∷ []) ++ sent_buffer (pdu.end_of_data ∷ [])) (looked_up entries before p f stands.0)
+    ∙ ap (λ xs. sent_buffer (tree_of entries before (archived p (frame f)) ∷ []) ++ xs) (sym (append-nil (sent_buffer (pdu.end_of_data ∷ []))))
+    ∙ ap (sent_buffers (archive_of entries) before) (sym (held_first true [] p f (frame_alone fill p f fits.0)))
+places_text-buffers fill false entries before ((p, frame f) ∷ []) short stands =
     let fits = and_parts (nat_le (length f.octets) 65536) true short in
     let item : Item = archived p (frame f) in
-    sym (ap (λ b. sent_buffers entries before (cond b ((item ∷ []) ∷ []) [])) (frame_alone fill p f fits.0))
-    ∙ ap (sent_buffers entries before) (sym (held_first false [] p f (frame_alone fill p f fits.0)))
-places_text-buffers fill closed entries before ((p, frame f) ∷ (q, frame g) ∷ xs) short =
+    sym (ap (λ b. sent_buffers (archive_of entries) before (cond b ((item ∷ []) ∷ []) [])) (frame_alone fill p f fits.0))
+    ∙ ap (sent_buffers (archive_of entries) before) (sym (held_first false [] p f (frame_alone fill p f fits.0)))
+places_text-buffers fill closed entries before ((p, frame f) ∷ (q, frame g) ∷ xs) short stands =
     let fits = and_parts (nat_le (length f.octets) 65536) (nat_le (length g.octets) 65536 && list_all is_short_frame (archived_items xs)) short in
     let later = and_parts (nat_le (length g.octets) 65536) (list_all is_short_frame (archived_items xs)) fits.1 in
-    ap (λ text. sent_buffer (tree_at entries before p ∷ tree_at entries (Some p) q ∷ []) ++ text)
-    (places_text-buffers fill closed entries (Some q) xs later.1)
-    ∙ ap (sent_buffers entries before)
+    ap (λ tree. sent_buffer (tree ∷ tree_at entries (Some p) q ∷ []) ++ places_text closed entries (Some q) (map (λ x. x.0) xs)) (looked_up entries before p f stands.0)
+    ∙ ap (λ tree. sent_buffer (tree_of entries before (archived p (frame f)) ∷ tree ∷ []) ++ places_text closed entries (Some q) (map (λ x. x.0) xs)) (looked_up entries (Some p) q g stands.1.0)
+    ∙ ap (λ text. sent_buffer (tree_of entries before (archived p (frame f)) ∷ tree_of entries (Some p) (archived q (frame g)) ∷ []) ++ text)
+    (places_text-buffers fill closed entries (Some q) xs later.1 stands.1.1)
+    ∙ ap (sent_buffers (archive_of entries) before)
     (sym (held_first closed ((q, frame g) ∷ xs) p f (frame_alone fill p f fits.0) ∙ pair_first closed xs (archived p (frame f)) q (frame g)))
-places_text-buffers fill closed entries before ((p, frame f) ∷ (q, loss_of_sync l) ∷ xs) short =
+places_text-buffers fill closed entries before ((p, frame f) ∷ (q, loss_of_sync l) ∷ xs) short stands =
     let fits = and_parts (nat_le (length f.octets) 65536) false short in absurd cc
-places_text-buffers fill closed entries before ((p, frame f) ∷ (q, production n) ∷ xs) short =
+places_text-buffers fill closed entries before ((p, frame f) ∷ (q, production n) ∷ xs) short stands =
     let fits = and_parts (nat_le (length f.octets) 65536) false short in absurd cc
-places_text-buffers fill closed entries before ((p, frame f) ∷ (q, seal t) ∷ xs) short =
+places_text-buffers fill closed entries before ((p, frame f) ∷ (q, seal t) ∷ xs) short stands =
     let fits = and_parts (nat_le (length f.octets) 65536) false short in absurd cc
-places_text-buffers fill closed entries before ((p, loss_of_sync l) ∷ xs) short = absurd cc
-places_text-buffers fill closed entries before ((p, production n) ∷ xs) short = absurd cc
-places_text-buffers fill closed entries before ((p, seal t) ∷ xs) short = absurd cc
+places_text-buffers fill closed entries before ((p, loss_of_sync l) ∷ xs) short stands = absurd cc
+places_text-buffers fill closed entries before ((p, production n) ∷ xs) short stands = absurd cc
+places_text-buffers fill closed entries before ((p, seal t) ∷ xs) short stands = absurd cc
 
 -- the line of a buffer whose items have these octets
 pub line_of_one : BufferIsHeadAndItems → (item : Tree) (octets : List ℕ) → octets ≡ canonical item
@@ -131,6 +167,7 @@ pub all_places : FillByNumber → (entries : List Entry) (start stop : Cds) (qua
     ≡ start_buffers entries start stop quality
 all_places fill entries start stop quality short =
     places_text-buffers fill (is_closed (archive_of entries) (moment stop)) entries None (picked (archive_of entries) (selection start stop quality)) short
+    (picked_stand (archive_of entries) (selection start stop quality))
 
 -- two places are written
 pub two_written : (closed : Bool) (entries : List Entry) (before : Option ℕ) (places text now whole : List ℕ) → 2 ≤ length places

@@ -3,9 +3,9 @@ use Rattle.std.proofs.Common.{◌≡◌, ℕ, ◌+◌, ◌≤◌, ◌<◌, Bool,
 use Rattle.std.proofs.lemmas.List.{drop_all}
 use Rattle.return_pdu.specs.Items as pdu
 use Rattle.archive_terms.specs.Archive.{is_storable, is_archive}
-use Rattle.cds_time.specs.declared.moment.Cds.{Cds}
+use Rattle.cds_time.specs.declared.cds.Cds.{Cds}
 use Rattle.provider_cli.specs.declared.entry.Entry.{Entry}
-use Rattle.provider_cli.specs.Held.{moment, entry_of, archive_of}
+use Rattle.provider_cli.specs.Entries.{moment, entry_of, archive_of}
 use Rattle.provider_cli.specs.Desk.{picked_of}
 use Rattle.provider_cli.specs.Transcript.{sent_buffer}
 use Rattle.provider_cli.proofs.Pass.{pass_text, end_text}
@@ -26,4 +26,12 @@ pub pass_two : (start stop : Cds) (quality : ℕ) (closed : Bool) (gap : Option 
     → pass_text start stop quality closed gap (Some first) (drop i entries)
     ≡ sent_buffer (pdu.frame first ∷ pdu.frame second ∷ []) ++ pass_text start stop quality closed (Some 0) None (drop (i + 1) entries)
 pass_two start stop quality closed gap first second entries i entry h here picked =
+    rw (drop-cons entries i entry h, ← here, picked, add-one) refl
+
+-- at a frame that is picked while none is held
+pub pass_one : (start stop : Cds) (quality : ℕ) (closed : Bool) (gap : Option ℕ) (first : pdu.Frame) (entries : List Entry) (i : ℕ) (entry : Entry)
+    → i < length entries → entry ≡ get_or entries i entry → picked_of (moment start) (moment stop) quality gap entry ≡ Some first
+    → pass_text start stop quality closed gap None (drop i entries)
+    ≡ pass_text start stop quality closed (Some 0) (Some first) (drop (i + 1) entries)
+pass_one start stop quality closed gap first entries i entry h here picked =
     rw (drop-cons entries i entry h, ← here, picked, add-one) refl

@@ -1,24 +1,25 @@
 -- One step of a START's pass over the archive.
-use Rattle.std.specs.Prelude.{ℕ, ◌+◌, ℤ, pos, negsuc, Bool, ◌&&◌, ◌||◌, ◌==◌, nat_le, min, if◌then◌else◌, Option, Some, None, option_map}
+use Rattle.std.specs.Prelude.{ℕ, ◌+◌, ℤ, pos, negsuc, Bool, false, ◌&&◌, ◌||◌, ◌==◌, nat_le, min, if◌then◌else◌, Option, Some, None, option_map}
+use Rattle.std.specs.Option.{option_map_or}
+use Rattle.cds_time.specs.Moment.{moment_of}
 use Rattle.return_pdu.specs.Items.{Frame, frame_of}
 use Rattle.provider_cli.specs.declared.entry.Entry as script
 use Rattle.provider_cli.specs.declared.entry.Entry.TheVariants as entries
 use Rattle.provider_cli.specs.declared.desk.Picked.{Picked}
-use Rattle.provider_cli.specs.Held.{moment}
 
--- whether a START from `start` to `stop` asks for frames of this quality at this moment
-abbrev pub wants : ℕ → ℕ → ℕ → ℕ → ℕ → Bool
+-- whether a START from `start` to `stop` asks for frames of this quality at this moment, where there is one
+abbrev pub wants : ℕ → ℕ → ℕ → ℕ → Option ℕ → Bool
 wants start stop quality found time =
-    (quality == 2 || found == quality) && nat_le start time && nat_le time stop
+    (quality == 2 || found == quality) && option_map_or (λ t. nat_le start t && nat_le t stop) time false
 
 -- frames lost since the last one that was handed over, with those before one more
 abbrev pub lost_with : Option ℕ → ℕ → Option ℕ
 lost_with gap lost = option_map (λ earlier. min (earlier + lost) 16777215) gap
 
 -- the continuity that a gap tells: -1 before the first frame
-abbrev pub told : Option ℕ → ℤ
-told None = negsuc 0
-told (Some lost) = pos lost
+abbrev pub continuity_behind : Option ℕ → ℤ
+continuity_behind None = negsuc 0
+continuity_behind (Some lost) = pos lost
 
 -- the gap behind an entry that isn't handed over itself
 abbrev pub gap_behind : Option ℕ → script.Entry → Option ℕ
@@ -28,8 +29,8 @@ gap_behind gap (entries.Seal at) = gap
 -- the frame that is handed over of an entry, if it is wanted
 abbrev pub picked_of : ℕ → ℕ → ℕ → Option ℕ → script.Entry → Option Frame
 picked_of start stop quality gap (entries.Frame ert found antenna lost octets) =
-    if wants start stop quality found (moment ert)
-    then Some (frame_of ert antenna (told (lost_with gap lost)) found octets)
+    if wants start stop quality found (moment_of ert)
+    then Some (frame_of ert antenna (continuity_behind (lost_with gap lost)) found octets)
     else None
 picked_of start stop quality gap (entries.Seal at) = None
 

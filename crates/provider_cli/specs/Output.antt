@@ -1,14 +1,12 @@
--- What a call that writes has written, and why it stops.
-use Rattle.std.specs.Prelude.{ℕ, ◌≤◌, Option, Result, IsErrOf, OnOk, OnErr, List}
-use Rattle.octet_core.specs.Fault.{Rose}
-use Rattle.octet_core.specs.Written.{Gains, GainsFront}
+-- What a call that writes lines has written, and why it stops.
+use Rattle.std.specs.Prelude.{ℕ, Option, Result, List}
+use Rattle.octet_core.specs.Written.{Writes}
 use Rattle.provider_cli.specs.declared.transcript.Stop.{Stop}
 use Rattle.provider_cli.specs.declared.transcript.Stop.TheVariants.{WriteFault}
 
--- The output, which had `before` and so many faults, has gained the text; a call that fails has written what begins it,
--- and tells a write fault only where the output's count of faults rose.
-pub record Wrote {T : Type 0} (before after : Option (List ℕ)) (faults_before faults_after : ℕ) (text : List ℕ) (result : Result T Stop) : Type 0 where
-  pub all : OnOk result (Gains before after text)
-  pub front : OnErr result (GainsFront before after text)
-  pub never_falls : faults_before ≤ faults_after
-  pub rose : IsErrOf result WriteFault → Rose faults_before faults_after
+-- The output has gained the text; a call that stops has written what begins it. It tells a write
+-- fault exactly where the output failed, once; else the output's count of faults is as it was.
+abbrev pub Wrote : {T : Type 0} → Option (List ℕ) → Option (List ℕ) → ℕ → ℕ → List ℕ → Result T Stop
+    → Type 0
+Wrote before after faults_before faults_after text result =
+    Writes WriteFault before after faults_before faults_after text result

@@ -1,6 +1,7 @@
--- How a drill ends, and what it has written then.
-use Rattle.std.specs.Prelude.{◌≡◌, ◌⊎◌, ℕ, ◌<◌, ◌≤◌, IsTrue, IsFalse, IfSome, Option, List, ◌∷◌, ◌++◌, [], length, codes}
-use Rattle.octet_core.specs.Fault.{Rose}
+-- How a drill ends: by its status what it has written, which call failed, and what its script is.
+-- This product's own rules.
+use Rattle.std.specs.Prelude.{◌≡◌, ◌⊎◌, ℕ, ◌<◌, ◌≤◌, IsTrue, IsFalse, IfSome, List, ◌∷◌, ◌++◌, [], length, codes}
+use Rattle.octet_core.specs.Fault.{count_up, Rose}
 use Rattle.octet_core.specs.Written.{Gains, GainsFront}
 use Rattle.archive_terms.specs.Archive.{is_storable}
 use Rattle.provider_cli.specs.declared.status.Status.{Status}
@@ -8,7 +9,8 @@ use Rattle.provider_cli.specs.declared.status.Status.TheVariants.{Done, Usage, B
 use Rattle.provider_cli.specs.declared.grammar.ScriptLine.{ScriptLine}
 use Rattle.provider_cli.specs.declared.grammar.ScriptLine.TheVariants.{Offer, Desk}
 use Rattle.provider_cli.specs.Grammar.{lines_of}
-use Rattle.provider_cli.specs.Held.{entry_of}
+use Rattle.provider_cli.specs.Entries.{entry_of}
+use Rattle.provider_cli.specs.Outside.{Outside}
 use Rattle.provider_cli.specs.Transcript.{transcript, is_script}
 
 -- an entry of a line may be archived as far as its fields go
@@ -23,25 +25,73 @@ most_octets = 16777216
 abbrev pub script_transcript : List ℕ → List ℕ
 script_transcript script = transcript (lines_of script)
 
--- a line that a status has, all of it but where the output failed
-abbrev pub GainsLine : Option (List ℕ) → Option (List ℕ) → ℕ → ℕ → List ℕ → Type 0
-GainsLine before after faults_before faults_after line =
-    Gains before after line ⊎ (GainsFront before after line × Rose faults_before faults_after)
+-- all of a text was written, or what begins it
+abbrev pub GainsAll : Outside → Outside → List ℕ → Type 0
+GainsAll before after text = Gains before.written after.written text
 
--- What a drill has done with an input that had `script` left, where it tells, and with its output, by its status.
-pub record Drilled (input : Option (List ℕ)) (read_before read_after : ℕ) (before after : Option (List ℕ)) (faults_before faults_after : ℕ) (status : Status) : Type 0 where
-  -- with 0 the transcript, all of whose lines are in the grammar; with 3 the transcript up to the first that isn't
-  pub done : status ≡ Done → IfSome input (λ script. Gains before after (script_transcript script) × IsTrue (is_script (lines_of script)))
-  pub bad_line : status ≡ BadLine → IfSome input (λ script. Gains before after (script_transcript script) × IsFalse (is_script (lines_of script)))
-  -- with 6 and 11 a line, which stands alone
-  pub read_fault : status ≡ ReadFault → Rose read_before read_after × GainsLine before after faults_before faults_after (codes "read fault" ++ 10 ∷ [])
-  pub too_long : status ≡ InputTooLong → IfSome input (λ script. most_octets < length script) × GainsLine before after faults_before faults_after (codes "input too long" ++ 10 ∷ [])
-  -- with 7 and 70 a front of the transcript
-  pub write_fault : status ≡ WriteFault → Rose faults_before faults_after × IfSome input (λ script. GainsFront before after (script_transcript script))
-  pub memory : status ≡ Memory → IfSome input (λ script. GainsFront before after (script_transcript script))
-  -- 11 comes exactly for an input that is too long, where the input doesn't fail before and memory suffices
-  pub long : IfSome input (λ script. most_octets < length script → (status ≡ InputTooLong) ⊎ (status ≡ ReadFault) ⊎ (status ≡ Memory))
-  -- no other status comes, and no count of faults falls
-  pub no_usage : status ≡ Usage → ⊥
-  pub read_never_falls : read_before ≤ read_after
-  pub never_falls : faults_before ≤ faults_after
+abbrev pub GainsSome : Outside → Outside → List ℕ → Type 0
+GainsSome before after text = GainsFront before.written after.written text
+
+-- a status's own line was written, or what begins it by a call that failed
+abbrev pub GainsLine : Outside → Outside → List ℕ → Type 0
+GainsLine before after line =
+    (GainsAll before after line × (after.write_faults ≡ before.write_faults))
+    ⊎ (GainsSome before after line × (after.write_faults ≡ count_up before.write_faults))
+
+-- What was written: with 0 and 3 the transcript, with 7 and 70 what begins it, with 6 and 11 a
+-- line, which stands alone.
+abbrev pub HasText : Outside → Outside → Status → Type 0
+HasText before after Done =
+    IfSome before.left (λ script. GainsAll before after (script_transcript script))
+HasText before after BadLine =
+    IfSome before.left (λ script. GainsAll before after (script_transcript script))
+HasText before after WriteFault =
+    IfSome before.left (λ script. GainsSome before after (script_transcript script))
+HasText before after Memory =
+    IfSome before.left (λ script. GainsSome before after (script_transcript script))
+HasText before after ReadFault = GainsLine before after (codes "read fault" ++ 10 ∷ [])
+HasText before after InputTooLong = GainsLine before after (codes "input too long" ++ 10 ∷ [])
+HasText before after Usage = ⊥
+
+-- How often a read failed, by the input's count of faults: with 6 once, else never.
+abbrev pub HasReads : Outside → Outside → Status → Type 0
+HasReads before after ReadFault = after.read_faults ≡ count_up before.read_faults
+HasReads before after status = after.read_faults ≡ before.read_faults
+
+-- How often a write failed, by the output's count of faults: with 7 once, with 6 and 11 perhaps
+-- once, at the status's own line, else never.
+abbrev pub HasWrites : Outside → Outside → Status → Type 0
+HasWrites before after WriteFault = after.write_faults ≡ count_up before.write_faults
+HasWrites before after ReadFault =
+    (after.write_faults ≡ before.write_faults) ⊎ (after.write_faults ≡ count_up before.write_faults)
+HasWrites before after InputTooLong =
+    (after.write_faults ≡ before.write_faults) ⊎ (after.write_faults ≡ count_up before.write_faults)
+HasWrites before after status = after.write_faults ≡ before.write_faults
+
+-- What the script is: with 11 it is too long, and with 0, 3 and 7 it isn't; with 0 each of its
+-- lines is in the grammar, and with 3 one isn't.
+abbrev pub HasScript : Outside → Status → Type 0
+HasScript before Done =
+    IfSome before.left
+    (λ script. (length script ≤ most_octets) × IsTrue (is_script (lines_of script)))
+HasScript before BadLine =
+    IfSome before.left
+    (λ script. (length script ≤ most_octets) × IsFalse (is_script (lines_of script)))
+HasScript before WriteFault = IfSome before.left (λ script. length script ≤ most_octets)
+HasScript before InputTooLong = IfSome before.left (λ script. most_octets < length script)
+HasScript before status = Unit {0}
+
+-- Completeness: a script that is short enough and all of whose lines are in the grammar is done, or
+-- memory is wanted, where no count rises.
+abbrev pub Completes : Outside → Outside → Status → Type 0
+Completes before after status =
+    IfSome before.left (λ script. length script ≤ most_octets → IsTrue (is_script (lines_of script))
+    → ¬ Rose before.read_faults after.read_faults → ¬ Rose before.write_faults after.write_faults
+    → (status ≡ Done) ⊎ (status ≡ Memory))
+
+-- all of it
+pub record Drilled (before after : Outside) (status : Status) : Type 0 where
+  pub text : HasText before after status
+  pub reads : HasReads before after status
+  pub writes : HasWrites before after status
+  pub script : HasScript before status

@@ -1,10 +1,10 @@
 // The archive: a list of entries in memory.
 ghost use Rattle.std.specs.Prelude.{◌≡◌, List, [], ◌∷◌, ◌++◌, IsTrue, IsFalse, IsErrOf, OnOk, OnErr};
-ghost use Rattle.archive_terms.specs.Archive.{is_archive, is_storable, may_follow, is_closed};
-ghost use Rattle.provider_cli.specs.Held.{entry_of, archive_of};
+ghost use Rattle.archive_terms.specs.Archive.{is_archive, is_storable, is_from, is_above, may_follow, is_closed};
+ghost use Rattle.provider_cli.specs.Entries.{entry_of, archive_of};
 
 use crate::entry::Entry;
-use archive_terms::laws::archive_grows;
+use archive_terms::laws::{archive_grows, follows_by_last_times};
 use std::alloc::{AllocFailed, Global};
 use std::marker::Model;
 
@@ -17,31 +17,64 @@ pub enum OfferFault {
     Memory,
 }
 
-/// The least moments that a further frame and a further seal may have.
+/// The moments of the last frame and of the last seal.
 #[derive(Clone, Copy, Debug, PartialEq, Eq)]
-struct Floors {
-    frame: u128,
-    seal: u128,
+struct LastTimes {
+    frame: Option<u128>,
+    seal: Option<u128>,
 }
 
-impl Floors {
-    ghost use Rattle.provider_cli.specs.Floor.{floors_behind};
+impl LastTimes {
+    ghost use Rattle.std.specs.Prelude.{◌≡◌, Bool, ◌||◌, false, nat_lt, nat_le};
+    ghost use Rattle.std.specs.Option.{option_or, option_map_or};
+    ghost use Rattle.archive_terms.specs.Archive.{is_in_order, frame_time, seal_time};
+    ghost use Rattle.provider_cli.specs.Entries.{entry_of};
 
-    // Those behind one entry more, or none where its moment lies below.
-    fn behind(&self, entry: &Entry) -> Option<Floors>
-        ensures { result ≡ floors_behind self.now entry.now }
+    // Whether an entry behind them keeps the order of times.
+    fn is_in_order(&self, entry: &Entry) -> bool
+        ensures { result ≡ is_in_order self.now.frame self.now.seal (entry_of entry.now) }
     {
-        let time = entry.moment();
-        match entry {
-            Entry::Frame { .. } => (self.frame <= time).then_some(Floors {
-                frame: time,
-                seal: self.seal,
-            }),
-            Entry::Seal { .. } => (self.seal <= time).then_some(Floors {
-                frame: self.frame.max(time + 1),
-                seal: time,
-            }),
+        is_from(self.frame, entry.frame_time())
+            && is_above(self.seal, entry.frame_time())
+            && is_from(self.seal, entry.seal_time())
+    }
+
+    // Those with one entry more.
+    fn behind(&self, entry: &Entry) -> LastTimes
+        ensures frame { result.frame ≡ option_or (frame_time (entry_of entry.now)) self.now.frame }
+        ensures seal { result.seal ≡ option_or (seal_time (entry_of entry.now)) self.now.seal }
+    {
+        LastTimes {
+            frame: entry.frame_time().or(self.frame),
+            seal: entry.seal_time().or(self.seal),
         }
+    }
+
+    // Whether they show that no frame up to this moment can come any more.
+    fn close(&self, stop: u128) -> bool
+        ensures { result ≡ (option_map_or (λ t. nat_lt stop t) self.now.frame false || option_map_or (λ t. nat_le stop t) self.now.seal false) }
+    {
+        self.frame.is_some_and(|t| stop < t) || self.seal.is_some_and(|t| stop <= t)
+    }
+}
+
+// Whether the later of two times is at or above the earlier one, where both are known.
+fn is_from(earlier: Option<u128>, later: Option<u128>) -> bool
+    ensures { result ≡ is_from earlier later }
+{
+    match (earlier, later) {
+        (Some(earlier), Some(later)) => earlier <= later,
+        _ => true,
+    }
+}
+
+// Whether it is above the earlier one.
+fn is_above(earlier: Option<u128>, later: Option<u128>) -> bool
+    ensures { result ≡ is_above earlier later }
+{
+    match (earlier, later) {
+        (Some(earlier), Some(later)) => earlier < later,
+        _ => true,
     }
 }
 
@@ -50,20 +83,20 @@ impl Floors {
 #[derive(Debug, Drop)]
 pub struct Archive {
     entries: Vec<Entry>,
-    floors: Floors,
+    last: LastTimes,
 }
 
 impl Model for Archive {
     ghost use Rattle.std.specs.Prelude.{List};
     ghost use Rattle.provider_cli.specs.declared.entry.Entry.{Entry};
-    ghost use Rattle.provider_cli.specs.Held.{archive_of};
-    ghost use Rattle.provider_cli.specs.Floor.{IsHeld};
+    ghost use Rattle.provider_cli.specs.Entries.{archive_of};
+    ghost use Rattle.provider_cli.specs.LastTimes.{AreLastTimes};
 
     ghost Value = { List Entry };
 
     ghost view = { λ a. a.entries.items };
 
-    ghost invariant = { λ a. IsHeld (archive_of a.entries.items) a.floors };
+    ghost invariant = { λ a. AreLastTimes (archive_of a.entries.items) a.last };
 }
 
 impl Archive {
@@ -73,7 +106,10 @@ impl Archive {
     {
         Archive {
             entries: Vec::new(alloc),
-            floors: Floors { frame: 0, seal: 0 },
+            last: LastTimes {
+                frame: None,
+                seal: None,
+            },
         }
     }
 
@@ -86,11 +122,13 @@ impl Archive {
         ensures err { OnErr result (self.new ≡ self.old) }
     {
         archive_grows();
-        let Some(floors) = self.floors.behind(&entry) else {
+        follows_by_last_times();
+        if !self.last.is_in_order(&entry) {
             return Err(OfferFault::Backward);
-        };
+        }
+        let last = self.last.behind(&entry);
         self.entries.push(entry)?;
-        self.floors = floors;
+        self.last = last;
         Ok(())
     }
 
@@ -106,7 +144,8 @@ impl Archive {
     pub fn is_closed(&self, stop: u128) -> bool
         ensures { result ≡ is_closed (archive_of self.now) stop }
     {
-        stop < self.floors.frame
+        follows_by_last_times();
+        self.last.close(stop)
     }
 }
 

@@ -8,7 +8,7 @@ ghost use Rattle.ber_core.specs.Spelling.{canonical};
 ghost use Rattle.isp1_tml.specs.Message.{header};
 ghost use Rattle.return_pdu.specs.Items.{frame, end_of_data, buffer_start};
 ghost use Rattle.return_pdu.specs.Fields.{IsFrame};
-ghost use Rattle.provider_cli.specs.Held.{entry_of};
+ghost use Rattle.provider_cli.specs.Entries.{entry_of};
 ghost use Rattle.provider_cli.specs.Output.{Wrote};
 ghost use Rattle.provider_cli.specs.Desk.{wants, gap_after, picked_of, frame_in};
 ghost use Rattle.provider_cli.specs.Transcript.{sent_buffer, start_buffers};
@@ -41,10 +41,11 @@ struct Wanted {
 }
 
 impl Wanted {
-    fn admits(&self, found: u8, time: u128) -> bool
+    fn admits(&self, found: u8, time: Option<u128>) -> bool
         ensures { result ≡ wants self.now.start self.now.stop self.now.quality found time }
     {
-        (self.quality == 2 || found == self.quality) && self.start <= time && time <= self.stop
+        (self.quality == 2 || found == self.quality)
+            && time.is_some_and(|t| self.start <= t && t <= self.stop)
     }
 }
 
@@ -94,7 +95,7 @@ impl Picked<'_> {
 #[derive(Clone, Copy, Debug)]
 struct Gap {
     lost: Option<u32>,
-    ghost told: { ForSome lost (λ n. n ≤ 16777215) },
+    ghost capped: { ForSome lost (λ n. n ≤ 16777215) },
 }
 
 impl Gap {
@@ -116,7 +117,7 @@ impl Gap {
             return None;
         };
         let gap = self.lost.map(|earlier| (earlier + *lost).min(MOST_LOST));
-        if !wanted.admits(*quality, moment(ert)) {
+        if !wanted.admits(*quality, ert.moment()) {
             self.lost = gap;
             return None;
         }
@@ -140,7 +141,8 @@ pub fn answer_start<O: Sink>(
     quality: u8,
     output: &mut O,
 ) -> Result<(), Stop>
-    ensures { Wrote (O.written output.old) (O.written output.new) (O.faults output.old) (O.faults output.new)
+    ensures { Wrote (O.written output.old) (O.written output.new)
+        (O.faults output.old) (O.faults output.new)
         (start_buffers archive.now start.now stop.now quality) result }
 {
     let wanted = Wanted {
@@ -180,7 +182,8 @@ fn send_two<O: Sink>(
 ) -> Result<(), Stop>
     requires first { IsFrame (frame_in first.now) }
     requires second { IsFrame (frame_in second.now) }
-    ensures { Wrote (O.written output.old) (O.written output.new) (O.faults output.old) (O.faults output.new)
+    ensures { Wrote (O.written output.old) (O.written output.new)
+        (O.faults output.old) (O.faults output.new)
         (sent_buffer (frame (frame_in first.now) ∷ frame (frame_in second.now) ∷ [])) result }
 {
     buffer_is_head_and_items();
@@ -193,7 +196,8 @@ fn send_two<O: Sink>(
 // Hands over a transfer buffer of one frame.
 fn send_one<O: Sink>(alloc: Global, last: &Picked<'_>, output: &mut O) -> Result<(), Stop>
     requires { IsFrame (frame_in last.now) }
-    ensures { Wrote (O.written output.old) (O.written output.new) (O.faults output.old) (O.faults output.new)
+    ensures { Wrote (O.written output.old) (O.written output.new)
+        (O.faults output.old) (O.faults output.new)
         (sent_buffer (frame (frame_in last.now) ∷ [])) result }
 {
     buffer_is_head_and_items();
@@ -204,7 +208,8 @@ fn send_one<O: Sink>(alloc: Global, last: &Picked<'_>, output: &mut O) -> Result
 
 // Hands over a transfer buffer of the end of data alone.
 fn send_end<O: Sink>(alloc: Global, output: &mut O) -> Result<(), Stop>
-    ensures { Wrote (O.written output.old) (O.written output.new) (O.faults output.old) (O.faults output.new)
+    ensures { Wrote (O.written output.old) (O.written output.new)
+        (O.faults output.old) (O.faults output.new)
         (sent_buffer (end_of_data ∷ [])) result }
 {
     buffer_is_head_and_items();

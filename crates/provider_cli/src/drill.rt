@@ -1,11 +1,14 @@
 // `drill`: runs a script, and writes what a user would be handed.
 ghost use Rattle.std.specs.Prelude.{◌≡◌, ◌<◌, ◌≤◌, ◌⊎◌, IsTrue, IsFalse, IsErrOf, IfOk, OnOk, IfSome, length};
-ghost use Rattle.octet_core.specs.Fault.{Rose};
+ghost use Rattle.octet_core.specs.Fault.{count_up};
+ghost use Rattle.provider_cli.specs.Command.{EndsAs};
 ghost use Rattle.provider_cli.specs.Grammar.{lines_of};
 ghost use Rattle.provider_cli.specs.Output.{Wrote};
-ghost use Rattle.provider_cli.specs.Script.{IsValidLine, Drilled};
-ghost use Rattle.provider_cli.specs.Known.{Known};
-ghost use Rattle.provider_cli.specs.Headline.{Promised};
+ghost use Rattle.provider_cli.specs.Outside.{showing};
+ghost use Rattle.provider_cli.specs.Script.{IsValidLine, HasText, HasReads, HasWrites, HasScript, Completes, Drilled};
+ghost use Rattle.provider_cli.specs.Start.{EachStart};
+ghost use Rattle.provider_cli.specs.Headline.{IsDelivered, IsSent, IsStreamed, IsReadOf, StaysRight, StaysTold};
+ghost use Rattle.provider_cli.specs.Laws.{Laws};
 ghost use Rattle.provider_cli.specs.Transcript.{line_text, after_line, bad_line, transcript, is_script};
 
 use crate::archive::{Archive, OfferFault};
@@ -16,8 +19,8 @@ use crate::lines::split_line;
 use crate::status::Status;
 use crate::transcript::{Stop, put_line};
 use archive_terms::laws::{
-    archive_grows, cut_into_buffers, handed_over_stays_a_prefix, offline_buffers_hold_a_prefix,
-    prefix_of_all_items,
+    archive_grows, continuity_stays, cut_into_buffers, handed_over_stays_a_prefix,
+    offline_buffers_hold_a_prefix, offline_rounds, prefix_of_all_items,
 };
 use ber_core::laws::canonical_spells;
 use isp1_tml::laws::spelled_is_read;
@@ -34,21 +37,58 @@ const PIECE_OCTETS: usize = 65_536;
 /// Runs the script on the input, writes its transcript and the last line of its status, and answers
 /// the status's exit code.
 pub fn drill<I: Source, O: Sink>(alloc: Global, input: &mut I, output: &mut O) -> u8
-    ensures { Promised (I.left input.old) (I.faults input.old) (I.faults input.new)
-        (O.written output.old) (O.written output.new) (O.faults output.old) (O.faults output.new) result }
+    // How it ended.
+    ensures text { EndsAs result (HasText
+        (showing (I.left input.old) (I.faults input.old)
+        (O.written output.old) (O.faults output.old))
+        (showing (I.left input.new) (I.faults input.new)
+        (O.written output.new) (O.faults output.new))) }
+    ensures reads { EndsAs result (HasReads
+        (showing (I.left input.old) (I.faults input.old)
+        (O.written output.old) (O.faults output.old))
+        (showing (I.left input.new) (I.faults input.new)
+        (O.written output.new) (O.faults output.new))) }
+    ensures writes { EndsAs result (HasWrites
+        (showing (I.left input.old) (I.faults input.old)
+        (O.written output.old) (O.faults output.old))
+        (showing (I.left input.new) (I.faults input.new)
+        (O.written output.new) (O.faults output.new))) }
+    ensures script { EndsAs result (HasScript
+        (showing (I.left input.old) (I.faults input.old)
+        (O.written output.old) (O.faults output.old))) }
+    ensures complete { EndsAs result (Completes
+        (showing (I.left input.old) (I.faults input.old)
+        (O.written output.old) (O.faults output.old))
+        (showing (I.left input.new) (I.faults input.new)
+        (O.written output.new) (O.faults output.new))) }
+
+    // What it handed over at each START.
+    ensures delivered { EachStart (I.left input.old) IsDelivered }
+    ensures sent { EndsAs result (λ status. EachStart (I.left input.old) (IsSent
+        (showing (I.left input.old) (I.faults input.old)
+        (O.written output.old) (O.faults output.old))
+        (showing (I.left input.new) (I.faults input.new)
+        (O.written output.new) (O.faults output.new))
+        status)) }
+    ensures streamed { EachStart (I.left input.old) IsStreamed }
+    ensures read { EachStart (I.left input.old) IsReadOf }
+    ensures stays_right { EachStart (I.left input.old) StaysRight }
+    ensures stays_told { EachStart (I.left input.old) StaysTold }
 {
-    known();
+    laws();
     read_and_run(alloc, input, output).code()
 }
 
 // The laws that the promise of each START rests on.
-fn known()
-    ensures { Known }
+fn laws()
+    ensures { Laws }
 {
     archive_grows();
+    offline_rounds();
     offline_buffers_hold_a_prefix();
     prefix_of_all_items();
     handed_over_stays_a_prefix();
+    continuity_stays();
     cut_into_buffers();
     frames_are_short();
     spelling_names_items();
@@ -57,9 +97,14 @@ fn known()
 }
 
 // Reads the script, and runs it.
+#[tactic(auto, using(crate::proofs::Outcomes::ran, crate::proofs::Outcomes::cut_off, crate::proofs::Outcomes::given_up, crate::proofs::Outcomes::not_run))]
 fn read_and_run<I: Source, O: Sink>(alloc: Global, input: &mut I, output: &mut O) -> Status
-    ensures { Drilled (I.left input.old) (I.faults input.old) (I.faults input.new)
-        (O.written output.old) (O.written output.new) (O.faults output.old) (O.faults output.new) result }
+    ensures { Drilled
+        (showing (I.left input.old) (I.faults input.old)
+        (O.written output.old) (O.faults output.old))
+        (showing (I.left input.new) (I.faults input.new)
+        (O.written output.new) (O.faults output.new))
+        result }
 {
     match read_script(alloc, input) {
         Ok(script) => match run_script(alloc, script.as_slice(), output) {
@@ -106,9 +151,11 @@ impl From<AllocError> for ScriptFault {
 fn read_script<I: Source>(alloc: Global, input: &mut I) -> Result<Vec<u8>, ScriptFault>
     ensures ok { IfOk result (λ script. length script.items ≤ SCRIPT_OCTETS) }
     ensures octets { IfOk result (λ script. IfSome (I.left input.old) (λ octets. script.items ≡ octets)) }
-    ensures too_long { IsErrOf result ScriptFault.TooLong → IfSome (I.left input.old) (λ octets. SCRIPT_OCTETS < length octets) }
-    ensures never_falls { I.faults input.old ≤ I.faults input.new }
-    ensures rose { IsErrOf result ScriptFault.ReadFault → Rose (I.faults input.old) (I.faults input.new) }
+    ensures too_long { IsErrOf result ScriptFault.TooLong →
+        IfSome (I.left input.old) (λ octets. SCRIPT_OCTETS < length octets) }
+    ensures raised { IsErrOf result ScriptFault.ReadFault →
+        I.faults input.new ≡ count_up (I.faults input.old) }
+    ensures kept { IsErrOf result ScriptFault.ReadFault ⊎ (I.faults input.new ≡ I.faults input.old) }
 {
     let mut script = Vec::with_capacity(alloc, SCRIPT_OCTETS + PIECE_OCTETS)?;
     let mut piece = [0u8; PIECE_OCTETS];
@@ -127,11 +174,14 @@ fn read_script<I: Source>(alloc: Global, input: &mut I) -> Result<Vec<u8>, Scrip
 // Runs a script line by line, up to the first line outside the grammar.
 fn run_script<O: Sink>(alloc: Global, script: &[u8], output: &mut O) -> Result<Status, Stop>
     requires { length script.now ≤ SCRIPT_OCTETS }
-    ensures written { Wrote (O.written output.old) (O.written output.new) (O.faults output.old) (O.faults output.new)
+    ensures written { Wrote (O.written output.old) (O.written output.new)
+        (O.faults output.old) (O.faults output.new)
         (transcript (lines_of script.now)) result }
     ensures done { IfOk result (λ status. (status ≡ Status.Done) ⊎ (status ≡ Status.BadLine)) }
-    ensures all { IfOk result (λ status. status ≡ Status.Done → IsTrue (is_script (lines_of script.now))) }
-    ensures bad { IfOk result (λ status. status ≡ Status.BadLine → IsFalse (is_script (lines_of script.now))) }
+    ensures all { IfOk result (λ status. status ≡ Status.Done →
+        IsTrue (is_script (lines_of script.now))) }
+    ensures bad { IfOk result (λ status. status ≡ Status.BadLine →
+        IsFalse (is_script (lines_of script.now))) }
 {
     let mut archive = Archive::new(alloc);
     let mut rest = script;
@@ -160,7 +210,8 @@ fn run_line<O: Sink>(
     output: &mut O,
 ) -> Result<(), Stop>
     requires { IsValidLine says }
-    ensures written { Wrote (O.written output.old) (O.written output.new) (O.faults output.old) (O.faults output.new)
+    ensures written { Wrote (O.written output.old) (O.written output.new)
+        (O.faults output.old) (O.faults output.new)
         (line_text archive.old says) result }
     ensures archive { OnOk result (archive.new ≡ after_line archive.old says) }
 {
@@ -186,7 +237,8 @@ fn run_line<O: Sink>(
 
 // Says which line is outside the grammar.
 fn put_bad_line<O: Sink>(alloc: Global, number: u32, output: &mut O) -> Result<(), Stop>
-    ensures { Wrote (O.written output.old) (O.written output.new) (O.faults output.old) (O.faults output.new)
+    ensures { Wrote (O.written output.old) (O.written output.new)
+        (O.faults output.old) (O.faults output.new)
         (bad_line number) result }
 {
     let line = format!(in alloc; "bad line {number}\n")?;

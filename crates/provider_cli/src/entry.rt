@@ -1,6 +1,6 @@
 // The entries of the archive.
 ghost use Rattle.std.specs.Prelude.{◌≡◌, ◌<◌};
-ghost use Rattle.provider_cli.specs.Held.{moment};
+ghost use Rattle.provider_cli.specs.Entries.{moment};
 
 use cds_time::{Cds, MOMENT_END};
 use octet_core::Octets;
@@ -29,23 +29,32 @@ pub enum Entry {
 }
 
 impl Entry {
-    ghost use Rattle.std.specs.Prelude.{◌≡◌, ◌<◌};
-    ghost use Rattle.cds_time.specs.declared.moment.TheConstants.{MOMENT_END};
-    ghost use Rattle.provider_cli.specs.Held.{moment_of_entry};
+    ghost use Rattle.std.specs.Prelude.{◌≡◌};
+    ghost use Rattle.archive_terms.specs.Archive.{frame_time, seal_time};
+    ghost use Rattle.provider_cli.specs.Entries.{entry_of};
 
-    /// The moment of the entry's time.
-    pub fn moment(&self) -> u128
-        ensures exact { result ≡ moment_of_entry self.now }
-        ensures below { result < MOMENT_END }
+    /// The moment of a frame's time.
+    pub fn frame_time(&self) -> Option<u128>
+        ensures { result ≡ frame_time (entry_of self.now) }
     {
         match self {
-            Entry::Frame { ert, .. } => moment(ert),
-            Entry::Seal { at } => moment(at),
+            Entry::Frame { ert, .. } => ert.moment(),
+            Entry::Seal { .. } => None,
+        }
+    }
+
+    /// The moment of a seal's time.
+    pub fn seal_time(&self) -> Option<u128>
+        ensures { result ≡ seal_time (entry_of self.now) }
+    {
+        match self {
+            Entry::Frame { .. } => None,
+            Entry::Seal { at } => at.moment(),
         }
     }
 }
 
-/// The moment of a script's time, which names one by its form.
+/// The moment of a START's time, which names one by its form.
 pub fn moment(time: &Cds) -> u128
     ensures exact { result ≡ moment time.now }
     ensures below { result < MOMENT_END }

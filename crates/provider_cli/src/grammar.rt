@@ -1,5 +1,6 @@
 // The lines of a script.
-ghost use Rattle.std.specs.Prelude.{◌≡◌, ◌≤◌, length, IfOk, IfSome, IsErrOf, None, Some};
+ghost use Rattle.std.specs.Prelude.{◌≡◌, ◌≤◌, length, IsTrue, IfOk, IfSome, IsErrOf, None, Some};
+ghost use Rattle.archive_terms.specs.Archive.{is_moment};
 ghost use Rattle.provider_cli.specs.Words.{parts_behind, number, time, octets};
 ghost use Rattle.provider_cli.specs.Script.{IsValidLine};
 ghost use Rattle.provider_cli.specs.Grammar.{line_of, frame_line, mark_line, start_line};
@@ -96,7 +97,8 @@ fn frame_line(alloc: Global, words: Option<&[u8]>) -> Result<ScriptLine, LineFau
 
 // The archive is sealed up to a time.
 fn mark_line(words: Option<&[u8]>) -> Option<ScriptLine>
-    ensures { result ≡ mark_line (parts_behind 32 words.entry) }
+    ensures exact { result ≡ mark_line (parts_behind 32 words.entry) }
+    ensures valid { IfSome result IsValidLine }
 {
     let (at, words) = split_part(b' ', words?);
     if words.is_some() {
@@ -107,7 +109,8 @@ fn mark_line(words: Option<&[u8]>) -> Option<ScriptLine>
 
 // A START of the desk.
 fn start_line(words: Option<&[u8]>) -> Option<ScriptLine>
-    ensures { result ≡ start_line (parts_behind 32 words.entry) }
+    ensures exact { result ≡ start_line (parts_behind 32 words.entry) }
+    ensures valid { IfSome result IsValidLine }
 {
     let (start, words) = split_part(b' ', words?);
     let (stop, words) = split_part(b' ', words?);
@@ -132,7 +135,8 @@ fn quality_of(word: &[u8]) -> Option<u8>
 
 // A time as days, milliseconds of the day and microseconds of the millisecond: D/M/U.
 fn time(word: &[u8]) -> Option<Cds>
-    ensures { result ≡ time word.now }
+    ensures exact { result ≡ time word.now }
+    ensures moment { IfSome result (λ time. IsTrue (is_moment time)) }
 {
     let (days, fields) = split_part(b'/', word);
     let (millis, fields) = split_part(b'/', fields?);
@@ -158,7 +162,7 @@ fn octets(alloc: Global, word: &[u8], most: usize) -> Result<Octets, LineFault>
 {
     match hex::decode(alloc, word) {
         Ok(octets) if octets.is_empty() || octets.len() > most => Err(LineFault::Bad),
-        Ok(octets) => Ok(Octets::from(octets)),
+        Ok(octets) => Octets::from_vec(alloc, octets).map_err(|_| LineFault::Memory),
         Err(FromHexError::OutOfMemory) => Err(LineFault::Memory),
         Err(_) => Err(LineFault::Bad),
     }

@@ -9,8 +9,9 @@ ghost use Rattle.archive_terms.specs.Selection.{admits, picked};
 ghost use Rattle.archive_terms.specs.Continuity.{lost_of, lost_between, continuity};
 ghost use Rattle.ber_core.specs.Spelling.{canonical};
 ghost use Rattle.return_pdu.specs.Items.{absent, buffer_start, end_of_data};
-ghost use Rattle.provider_cli.specs.Held.{entry_of, archive_of};
-ghost use Rattle.provider_cli.specs.Transcript.{message, sent_line, sent_buffer, frame_tree, selection, start_buffers, start_text};
+ghost use Rattle.provider_cli.specs.Entries.{entry_of, archive_of};
+ghost use Rattle.provider_cli.specs.Plain.{frame_tree};
+ghost use Rattle.provider_cli.specs.Transcript.{message, sent_line, sent_buffer, selection, start_buffers, start_text};
 
 use crate::entry::{Entry, moment};
 use archive_terms::laws::{frames_fill_by_number, picked_frames};
@@ -98,9 +99,9 @@ fn is_admitted(entry: &Entry, start: &Cds, stop: &Cds, quality: u8) -> bool
             quality: found,
             ..
         } => {
+            let (first, last) = (moment(start), moment(stop));
             (quality == 2 || *found == quality)
-                && moment(start) <= moment(ert)
-                && moment(ert) <= moment(stop)
+                && ert.moment().is_some_and(|t| first <= t && t <= last)
         }
         Entry::Seal { .. } => false,
     }
@@ -122,8 +123,8 @@ fn closes(stop: u128, entry: &Entry) -> bool
     ensures { result ≡ closes stop (entry_of entry.now) }
 {
     match entry {
-        Entry::Frame { .. } => stop < entry.moment(),
-        Entry::Seal { .. } => stop <= entry.moment(),
+        Entry::Frame { ert, .. } => ert.moment().is_some_and(|t| stop < t),
+        Entry::Seal { at } => at.moment().is_some_and(|t| stop <= t),
     }
 }
 

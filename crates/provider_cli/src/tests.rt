@@ -163,7 +163,7 @@ fn a_script_has_at_most_sixteen_mebibytes(rt: HostRuntime) -> Result<(), Fail> {
     ] {
         let script = vec![in rt.alloc(); b'x'; octets]?;
         let mut kit = Equipment {
-            input: MemorySource::new(Octets::from(script), Vec::new(rt.alloc())),
+            input: MemorySource::new(Octets::from_vec(rt.alloc(), script)?, Vec::new(rt.alloc())),
             output: MemorySink::new(rt.alloc(), Vec::new(rt.alloc())),
         };
         assert_eq!(rt; provide(rt.alloc(), &["drill"], &mut kit), status);

@@ -34,7 +34,8 @@ impl<T: Drop> From<AllocFailed<T>> for Stop {
 
 /// Writes a line, its line end with it.
 pub fn put_line<O: Sink>(line: &[u8], output: &mut O) -> Result<(), Stop>
-    ensures written { Wrote (O.written output.old) (O.written output.new) (O.faults output.old) (O.faults output.new)
+    ensures written { Wrote (O.written output.old) (O.written output.new)
+        (O.faults output.old) (O.faults output.new)
         line.now result }
     ensures fault { IfErr result (λ stop. stop ≡ Stop.WriteFault) }
 {
@@ -47,7 +48,8 @@ pub fn put_line<O: Sink>(line: &[u8], output: &mut O) -> Result<(), Stop>
 /// Writes that connection 0 was handed a message.
 pub fn put_sent<O: Sink>(alloc: Global, message: &[u8], output: &mut O) -> Result<(), Stop>
     requires { length message.now < 2 ^ 40 }
-    ensures { Wrote (O.written output.old) (O.written output.new) (O.faults output.old) (O.faults output.new)
+    ensures { Wrote (O.written output.old) (O.written output.new)
+        (O.faults output.old) (O.faults output.new)
         (sent_line message.now) result }
 {
     let line = sent_line(alloc, message)?;

@@ -9,9 +9,9 @@ use Rattle.ber_core.specs.Tree.{Tree, primitive, constructed, trees, first_ident
 use Rattle.ber_core.specs.Reading.{integer_of, IntegerReadBack}
 use Rattle.cds_time.specs.Moment.{octets_of}
 use Rattle.cds_time.specs.Octets.{FieldsGiveOctets, of_octets}
-use Rattle.cds_time.specs.declared.moment.Cds.{Cds}
-use Rattle.cds_time.specs.declared.moment.Rest.{Rest}
-use Rattle.cds_time.specs.declared.moment.Rest.TheVariants.{Micros, Picos}
+use Rattle.cds_time.specs.declared.cds.Cds.{Cds}
+use Rattle.cds_time.specs.declared.cds.Rest.{Rest}
+use Rattle.cds_time.specs.declared.cds.Rest.TheVariants.{Micros, Picos}
 use Rattle.return_pdu.specs.Items.{Frame, frame, frame_of, frame_fields, absent, integer, time, time_tag, end_of_data, transfer_buffer}
 use Rattle.return_pdu.specs.Fields.{IsFrame}
 use Rattle.return_pdu.specs.Buffers.{FrameFits, Item, frame_item, end_item, item_tree, IsItem, AreItems, FrameNamesItsFields}

@@ -7,9 +7,9 @@ use Rattle.ber_core.specs.Integer.{integer_octets}
 use Rattle.ber_core.specs.Tree.{Tree, primitive, constructed, trees}
 use Rattle.ber_core.specs.Spelling.{canonical}
 use Rattle.cds_time.specs.Moment.{octets_of}
-use Rattle.cds_time.specs.declared.moment.Cds.{Cds}
-use Rattle.cds_time.specs.declared.moment.Rest.{Rest}
-use Rattle.cds_time.specs.declared.moment.Rest.TheVariants.{Micros, Picos}
+use Rattle.cds_time.specs.declared.cds.Cds.{Cds}
+use Rattle.cds_time.specs.declared.cds.Rest.{Rest}
+use Rattle.cds_time.specs.declared.cds.Rest.TheVariants.{Micros, Picos}
 
 -- a NULL under the context tag 0: unused credentials, no annotation
 abbrev pub absent : Tree

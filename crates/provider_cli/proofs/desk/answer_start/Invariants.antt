@@ -2,7 +2,7 @@ use Rattle.std.proofs.Common.{◌≡◌, drop}
 use Rattle.std.specs.Option.{option_map, ForSome}
 use Rattle.return_pdu.specs.Fields.{IsFrame}
 use Rattle.archive_terms.specs.Archive.{is_closed}
-use Rattle.provider_cli.specs.Held.{moment, archive_of}
+use Rattle.provider_cli.specs.Entries.{moment, archive_of}
 use Rattle.provider_cli.specs.Desk.{frame_in}
 use Rattle.provider_cli.specs.Transcript.{start_buffers}
 use Rattle.provider_cli.proofs.Pass.{pass_text}

@@ -7,7 +7,7 @@ abbrev pub invariant-loop-piece : goal.invariant-loop-piece
 invariant-loop-piece g l = record {
   left : g.I.Source.left l.input ≡ option_map (drop (vec_len l.script)) (g.I.Source.left l.initial.input);
   octets : IfSome (g.I.Source.left l.initial.input) (λ octets. (l.script.items ≡ take (vec_len l.script) octets) × (vec_len l.script ≤ length octets));
-  faults : g.I.Source.faults l.initial.input ≤ g.I.Source.faults l.input;
+  faults : g.I.Source.faults l.input ≡ g.I.Source.faults l.initial.input;
 }
 
 abbrev pub decreases-loop-piece : goal.decreases-loop-piece

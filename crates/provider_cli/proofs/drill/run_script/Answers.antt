@@ -3,7 +3,7 @@ use Rattle.std.proofs.lemmas.Grind.{common_steps}
 use Rattle.std.specs.List.{before_first}
 use Rattle.provider_cli.specs.Grammar.{line_of}
 use Rattle.provider_cli.proofs.FirstLines.{ends_line, text_of_line, text_of_bad, script_of_line, script_of_bad}
-use Rattle.provider_cli.proofs.Steps.{step_on, at_end, stopped_by}
+use Rattle.provider_cli.proofs.Steps.{step_on, at_end, stopped_by, stopped_before}
 use Rattle.provider_cli.proofs.drill.run_script.Goals as goal
 
 pub returns-in_err-run_line-in-Ok-clause-written : goal.returns-in_err-run_line-in-Ok-clause-written
@@ -47,3 +47,6 @@ loop-rest-preserved g c =
       lines = rw c.split_line.ensures.rest (sym (script_of_line c.loop-rest.rest.now c.in-Ok.says some says) ∙ c.loop-rest.invariant.lines);
       numbers = rw c.split_line.ensures.rest (simp length-drop (omega (arith, c.loop-rest.invariant.numbers, some)));
     }
+
+pub returns-in-Err-Memory-clause-written : goal.returns-in-Err-Memory-clause-written
+returns-in-Err-Memory-clause-written g c = stopped_before _ _ _ _ _ _ c.loop-rest.invariant.behind

@@ -2,7 +2,7 @@ use Rattle.std.proofs.Common.{◌≡◌, ◌<◌, ◌≤◌, length, get_or, Opt
 use Rattle.std.proofs.lemmas.Option.{slice_get_read, slice_get_past}
 use Rattle.ber_core.specs.Spelling.{canonical}
 use Rattle.provider_cli.specs.declared.entry.Entry.{Entry}
-use Rattle.provider_cli.specs.Transcript.{frame_tree}
+use Rattle.provider_cli.specs.Plain.{frame_tree}
 use Rattle.provider_cli.proofs.Turns.{storable_at}
 use Rattle.provider_cli.proofs.plain.frame_octets.Goals as goal
 

@@ -1,6 +1,6 @@
 use Rattle.std.proofs.Common.{◌≡◌, drop}
 use Rattle.archive_terms.specs.Archive.{is_closed}
-use Rattle.provider_cli.specs.Held.{archive_of}
+use Rattle.provider_cli.specs.Entries.{archive_of}
 use Rattle.provider_cli.proofs.plain.is_closed.Given as goal
 
 -- no entry so far closes the stop

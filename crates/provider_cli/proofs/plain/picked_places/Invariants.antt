@@ -1,6 +1,6 @@
 use Rattle.std.proofs.Common.{◌≡◌, ◌++◌, map, drop}
 use Rattle.archive_terms.specs.Selection.{picked}
-use Rattle.provider_cli.specs.Held.{archive_of}
+use Rattle.provider_cli.specs.Entries.{archive_of}
 use Rattle.provider_cli.specs.Transcript.{selection}
 use Rattle.provider_cli.proofs.PlainText.{admitted}
 use Rattle.provider_cli.proofs.plain.picked_places.Given as goal

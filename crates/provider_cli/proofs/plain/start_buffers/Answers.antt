@@ -1,6 +1,6 @@
 use Rattle.std.proofs.Common.{◌≡◌, ◌∙◌, ◌++◌, ℕ, List, None, true, false, refl, sym, ap, arith}
 use Rattle.archive_terms.specs.Archive.{is_closed}
-use Rattle.provider_cli.specs.Held.{moment, archive_of}
+use Rattle.provider_cli.specs.Entries.{moment, archive_of}
 use Rattle.provider_cli.specs.Transcript.{selection, start_buffers}
 use Rattle.provider_cli.proofs.PlainText.{places_text, all_places, two_written, end_open, end_none, end_one}
 use Rattle.provider_cli.proofs.plain.start_buffers.Goals as goal

@@ -1,6 +1,6 @@
 use Rattle.std.proofs.Common.{◌≡◌, ◌++◌, length}
 use Rattle.archive_terms.specs.Archive.{is_closed}
-use Rattle.provider_cli.specs.Held.{moment, archive_of}
+use Rattle.provider_cli.specs.Entries.{moment, archive_of}
 use Rattle.provider_cli.specs.Transcript.{start_buffers}
 use Rattle.provider_cli.proofs.PlainText.{places_text}
 use Rattle.provider_cli.proofs.plain.start_buffers.Given as goal

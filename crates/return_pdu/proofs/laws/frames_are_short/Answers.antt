@@ -4,9 +4,9 @@ use Rattle.ber_core.specs.Parts.{length-primitive, few-shortest_length, few-inte
 use Rattle.ber_core.specs.Spelling.{canonical, canonical_all}
 use Rattle.ber_core.specs.Tree.{trees}
 use Rattle.cds_time.specs.Moment.{octets_of}
-use Rattle.cds_time.specs.declared.moment.Cds.{Cds}
-use Rattle.cds_time.specs.declared.moment.Rest.{Rest}
-use Rattle.cds_time.specs.declared.moment.Rest.TheVariants.{Micros, Picos}
+use Rattle.cds_time.specs.declared.cds.Cds.{Cds}
+use Rattle.cds_time.specs.declared.cds.Rest.{Rest}
+use Rattle.cds_time.specs.declared.cds.Rest.TheVariants.{Micros, Picos}
 use Rattle.return_pdu.specs.Items.{frame_fields, integer, time, time_tag}
 use Rattle.return_pdu.proofs.Frames.{length-frame, length-frame_fields, null_size}
 use Rattle.return_pdu.proofs.laws.frames_are_short.Goals as goal

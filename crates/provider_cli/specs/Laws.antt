@@ -1,18 +1,20 @@
--- What the headline rests on: laws of archives and deliveries, of buffers, of the octets that spell them, and of streams.
-use Rattle.std.specs.Prelude.{◌≡◌, ℕ, ◌<◌, ◌&&◌, Bool, IsTrue, List, [], ◌∷◌, ◌++◌, length, take, None}
+-- The laws that the headline rests on: of archives and deliveries, of buffers, of the octets that spell them, and of streams.
+use Rattle.std.specs.Prelude.{◌≡◌, ℕ, ◌<◌, ◌&&◌, Bool, IsTrue, IsFalse, List, [], ◌∷◌, ◌++◌, length, map, take, None}
 use Rattle.std.specs.List.{All, AllByRecursion, list_any, flat_map}
 use Rattle.ber_core.specs.Spelling.{CanonicalSpells}
 use Rattle.isp1_tml.specs.Message.{Content, IsMessage, spellings}
 use Rattle.isp1_tml.specs.Stream.{IsStream}
 use Rattle.return_pdu.specs.Buffers.{FramesAreShort, SpellingNamesItems}
 use Rattle.archive_terms.specs.Archive.{Entry, is_archive, IsArchive, may_follow}
-use Rattle.archive_terms.specs.Delivery.{Item, Terms, entries_of, archived_items, all_items, end_of_data, is_end_of_data, IsBuffer, cut, offline_buffers}
-use Rattle.archive_terms.specs.Rounds.{to_hand_over}
+use Rattle.archive_terms.specs.Selection.{Selection, picked, is_stop_closed}
+use Rattle.archive_terms.specs.Delivery.{Item, Terms, is_online, started, entries_of, archived_items, all_items, end_of_data, is_end_of_data, IsBuffer, cut, offline_buffers}
+use Rattle.archive_terms.specs.Rounds.{to_hand_over, free_round, picked_at, outcomes, handed_buffers}
+use Rattle.archive_terms.specs.Continuity.{told_buffers}
 
 abbrev pub CutsAreBuffers : Type 0
 CutsAreBuffers = (size : ℕ) (items : List Item) → 0 < size → All (IsBuffer size) (cut size items)
 
-pub record Known : Type 0 where
+pub record Laws : Type 0 where
   pub grows : (a : List Entry) (e : Entry) → is_archive (a ++ e ∷ []) ≡ (is_archive a && may_follow a e)
   pub holds : (size : ℕ) (entries : List (ℕ × Entry)) (closed : Bool) → let items = flat_map (λ b. b) (offline_buffers size entries closed) in
       take (length items) (all_items entries closed) ≡ items
@@ -22,6 +24,11 @@ pub record Known : Type 0 where
       → IsTrue (list_any is_end_of_data items) → IsTrue closed × (items ≡ archived_items entries ++ end_of_data ∷ [])
   pub stays : (t : Terms) (a b : List Entry) (items : List Item) → IsArchive (a ++ b) → take (length items) (to_hand_over t a) ≡ items
       → take (length items) (to_hand_over t (a ++ b)) ≡ items
+  pub rounds : (t : Terms) (entries : List Entry) (front : ℕ) (moments : List ℕ) → 0 < t.size → IsFalse (is_online t.mode)
+      → handed_buffers (outcomes t entries (map (free_round front) moments) started)
+      ≡ take (length moments) (offline_buffers t.size (picked_at t entries front) (is_stop_closed t.selection (take front entries)))
+  pub told_stays : (size : ℕ) (a b : List Entry) (s : Selection) (closed : Bool) → let buffers = offline_buffers size (picked a s) closed in
+      told_buffers (a ++ b) None buffers ≡ told_buffers a None buffers
   pub cuts : CutsAreBuffers
   pub short : FramesAreShort
   pub named : SpellingNamesItems
