@@ -6,7 +6,9 @@ use Rattle.std.specs.Prelude.{ℕ, ◌*◌, ◌^◌, Bool, true, false, ◌&&◌
 use Rattle.std.specs.List.{list_any, list_all, fold}
 use Rattle.std.specs.Option.{option_or, option_map_or}
 use Rattle.cds_time.specs.declared.cds.Cds.{Cds}
+use Rattle.cds_time.specs.declared.cds.TheConstants.{MOMENT_END}
 use Rattle.cds_time.specs.Moment.{moment_of}
+use Rattle.archive_terms.specs.declared.limits.TheConstants.{GREATEST_LOST, LONGEST_FRAME}
 
 -- a transfer frame as received (CCSDS 911.1-B, RAF-TRANSFER-DATA): earth receive time, quality (0 good, 1 erred,
 -- 2 undetermined), antenna, how many frames were lost between the frame before it and this one, and its octets
@@ -43,13 +45,13 @@ seal_time _ = None
 
 -- whether a time names a moment; a time code's days go up to 65,535 (CCSDS 301.0-B, CDS with 16 bits of days)
 abbrev pub is_moment : Cds → Bool
-is_moment time = option_map_or (λ t. nat_lt t (65536 * 86400 * 10 ^ 12)) (moment_of time) false
+is_moment time = option_map_or (λ t. nat_lt t MOMENT_END) (moment_of time) false
 
 -- the ranges of a frame's fields (CCSDS 911.1-B; the greatest loss is this product's own)
 abbrev pub is_valid_frame : Frame → Bool
 is_valid_frame f =
     is_moment f.ert && nat_le f.quality 2 && nat_le 1 (length f.antenna) && nat_le (length f.antenna) 16
-    && nat_le f.lost 16777215 && nat_le 1 (length f.octets)
+    && nat_le f.lost GREATEST_LOST && nat_le 1 (length f.octets)
 
 -- lock statuses go from 0 to 3, production statuses from 0 to 2
 abbrev pub is_valid : Entry → Bool
@@ -58,9 +60,9 @@ is_valid (loss_of_sync l) = is_moment l.at && nat_le l.carrier 3 && nat_le l.sub
 is_valid (production status) = nat_le status 2
 is_valid (seal at) = is_moment at
 
--- an archive holds frames of at most 65,536 octets (this product's own)
+-- an archive holds frames of a greatest length (this product's own)
 abbrev pub is_short : Entry → Bool
-is_short (frame f) = nat_le (length f.octets) 65536
+is_short (frame f) = nat_le (length f.octets) LONGEST_FRAME
 is_short _ = true
 
 -- whether an entry may be stored, wherever it stands

@@ -3,6 +3,7 @@ use Rattle.std.specs.Prelude.{ℕ, ◌+◌, min, ℤ, pos, negsuc, Option, Some,
 use Rattle.std.specs.List.{sum_by, filter_map}
 use Rattle.std.specs.Option.{option_map, option_or}
 use Rattle.archive_terms.specs.Archive.{Entry, frame}
+use Rattle.archive_terms.specs.declared.limits.TheConstants.{GREATEST_LOST}
 use Rattle.archive_terms.specs.Delivery.{Item, archived}
 
 abbrev pub lost_of : Entry → ℕ
@@ -19,7 +20,7 @@ lost_up_to entries place = sum_by lost_of (take place entries)
 
 -- the sum between two places as it is told: at most 16,777,215
 abbrev pub gap : List Entry → ℕ → ℕ → ℕ
-gap entries before place = min 16777215 (lost_between entries before place)
+gap entries before place = min GREATEST_LOST (lost_between entries before place)
 
 -- the continuity of the frame at a place: -1 where no frame of this START was handed over before it or stands earlier in
 -- its buffer, else how many frames were lost since the last such one

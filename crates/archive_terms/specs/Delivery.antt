@@ -5,6 +5,7 @@ use Rattle.std.specs.List.{list_any, filter, filter_map, enumerate_from, sum_by,
 use Rattle.std.specs.Option.{option_map_or, option_to_list}
 use Rattle.archive_terms.specs.Archive.{Entry, frame}
 use Rattle.archive_terms.specs.Selection.{Filter, Selection, is_notice}
+use Rattle.archive_terms.specs.declared.limits.TheConstants.{FULL_BUFFER, LONGEST_FRAME}
 
 -- the modes of a service instance (CCSDS 911.1-B, delivery-mode)
 pub data Mode : Type 0 where
@@ -92,7 +93,7 @@ pub record Contents : Type 0 where
 
 -- a buffer is full with `size` items, or with 524,288 or more octets of frames (the octets are this product's own)
 abbrev pub is_full_of : ℕ → ℕ → ℕ → Bool
-is_full_of size count octets = nat_le size count || nat_le 524288 octets
+is_full_of size count octets = nat_le size count || nat_le FULL_BUFFER octets
 
 -- whether a latency limit, where there is one, has passed
 abbrev pub is_late : Option ℕ → ℕ → ℕ → Bool
@@ -121,7 +122,7 @@ is_complete size items = is_full size items || list_any is_notice_item items
 
 -- a frame of at most 65,536 octets
 abbrev pub is_short_frame : Item → Bool
-is_short_frame (archived _ (frame f)) = nat_le (length f.octets) 65536
+is_short_frame (archived _ (frame f)) = nat_le (length f.octets) LONGEST_FRAME
 is_short_frame _ = false
 
 -- how many of the waiting items a buffer takes: the greatest number of which no proper prefix is complete

@@ -8,6 +8,7 @@ use Rattle.archive_terms.specs.Delivery.{is_timely, Item, backlog, end_of_data, 
 use Rattle.archive_terms.specs.Continuity.{last_frame}
 use Rattle.archive_terms.specs.Rounds.{Answer, whole, stall, fail, Round, Outcome, nothing, handed, kept, discarded, failed, takes_step, answer_on, is_failed}
 use Rattle.archive_terms.specs.Glimpse.{Want, wants_nothing, wants_items, place_behind, Glimpse, glimpse}
+use Rattle.archive_terms.specs.declared.limits.TheConstants.{FULL_BUFFER}
 
 -- an item as it is told
 abbrev pub Told : Type 0
@@ -46,7 +47,7 @@ want_of t p =
       place = p.place;
       since = last_frame p.last (items_of (with_head p));
       room = t.size - length (with_head p);
-      octets = 524288 - sum_by frame_octets (items_of (with_head p));
+      octets = FULL_BUFFER - sum_by frame_octets (items_of (with_head p));
     })
 
 -- how many of a glimpse's items the buffer takes

@@ -3,6 +3,7 @@ ghost use Rattle.std.specs.Prelude.{◌≡◌, ℕ, ◌+◌, ◌*◌, ◌^◌, �
 ghost use Rattle.std.specs.List.{All, list_all, list_any, filter, flat_map, filter_map, enumerate_from, sum};
 ghost use Rattle.std.specs.Option.{option_map_or};
 ghost use Rattle.std.specs.List.Sorted.{IsStrictlyIncreasing};
+ghost use Rattle.archive_terms.specs.declared.limits.TheConstants.{GREATEST_LOST};
 ghost use Rattle.archive_terms.specs.Archive.{Entry, seal, is_valid, is_storable, keeps_order, is_ordered, is_archive, IsArchive, may_follow, frame_time, seal_time, last_time, is_in_order, is_closed};
 ghost use Rattle.archive_terms.specs.Selection.{Selection, by_quality, ChannelId, master, virtual, channel_of, admits, is_told, picked, is_stop_closed};
 ghost use Rattle.archive_terms.specs.Delivery.{timely, complete, offline, first_position, selection_of, is_full_of, is_due_of, is_timely, is_online, Item, archived, backlog, end_of_data, archived_items, entries_of, is_archived, is_end_of_data, is_complete, is_short_frame, buffer_length, IsBuffer, cut, offline_buffers, all_items, Terms, Delivery, buffer, started};
@@ -296,8 +297,8 @@ pub fn lost_sums()
     ensures one_more { (a : List Entry) (e : Entry)
         → lost_up_to (a ++ e ∷ []) (length a + 1) ≡ lost_up_to a (length a) + lost_of e }
     ensures joined { (a : List Entry) (p q r : ℕ) → p ≤ q → q ≤ r
-        → gap a p r ≡ min 16777215 (gap a p q + gap a q r) }
-    ensures greatest { (a : List Entry) (p q : ℕ) → gap a p q ≤ 16777215 }
+        → gap a p r ≡ min GREATEST_LOST (gap a p q + gap a q r) }
+    ensures greatest { (a : List Entry) (p q : ℕ) → gap a p q ≤ GREATEST_LOST }
     ensures told { (a : List Entry) (p q : ℕ) → continuity a (Some p) q ≡ pos (gap a p q) }
 {}
 
@@ -306,14 +307,14 @@ pub fn lost_sums()
 pub fn continuities_add_up()
     ensures of_places { (entries : List Entry) (place : ℕ) (places : List ℕ)
         → IsStrictlyIncreasing (place ∷ places)
-        → All (λ g. g < 16777215) (gaps entries place places)
+        → All (λ g. g < GREATEST_LOST) (gaps entries place places)
         → sum (gaps entries place places)
         ≡ lost_between entries place (slice_index (place ∷ places) (length places)) }
     ensures of_a_run { (t : Terms) (entries : List Entry) (rounds : List Round)
         → (place : ℕ) (places : List ℕ)
         → 0 < t.size → IsArchive entries → FrontsRise 0 rounds
         → frame_places (handed_items (outcomes t entries rounds started)) ≡ place ∷ places
-        → All (λ g. g < 16777215) (gaps entries place places)
+        → All (λ g. g < GREATEST_LOST) (gaps entries place places)
         → sum (gaps entries place places)
         ≡ lost_between entries place (slice_index (place ∷ places) (length places)) }
 {}

@@ -2,3 +2,6 @@
 #![tactic(auto)]
 
 pub mod laws;
+mod limits;
+
+pub use limits::{FULL_BUFFER, GREATEST_LOST, LONGEST_FRAME};

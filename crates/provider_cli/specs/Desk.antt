@@ -2,6 +2,7 @@
 use Rattle.std.specs.Prelude.{ℕ, ◌+◌, ℤ, pos, negsuc, Bool, false, ◌&&◌, ◌||◌, ◌==◌, nat_le, min, if◌then◌else◌, Option, Some, None, option_map}
 use Rattle.std.specs.Option.{option_map_or}
 use Rattle.cds_time.specs.Moment.{moment_of}
+use Rattle.archive_terms.specs.declared.limits.TheConstants.{GREATEST_LOST}
 use Rattle.return_pdu.specs.Items.{Frame, frame_of}
 use Rattle.provider_cli.specs.declared.entry.Entry as script
 use Rattle.provider_cli.specs.declared.entry.Entry.TheVariants as entries
@@ -14,7 +15,7 @@ wants start stop quality found time =
 
 -- frames lost since the last one that was handed over, with those before one more
 abbrev pub lost_with : Option ℕ → ℕ → Option ℕ
-lost_with gap lost = option_map (λ earlier. min (earlier + lost) 16777215) gap
+lost_with gap lost = option_map (λ earlier. min (earlier + lost) GREATEST_LOST) gap
 
 -- the continuity that a gap tells: -1 before the first frame
 abbrev pub continuity_behind : Option ℕ → ℤ

@@ -1,6 +1,7 @@
 -- The lines of a script: which octets are a line, and what the line says. This product's own format.
 use Rattle.std.specs.Prelude.{ℕ, ◌==◌, if◌then◌else◌, Option, Some, None, List, [], ◌∷◌, codes}
 use Rattle.std.specs.Str.{bytes_eq}
+use Rattle.archive_terms.specs.declared.limits.TheConstants.{GREATEST_LOST, LONGEST_FRAME}
 use Rattle.provider_cli.specs.Words.{parts, ◌>>=◌, number, time, octets}
 use Rattle.provider_cli.specs.declared.entry.Entry.TheVariants.{Frame, Seal}
 use Rattle.provider_cli.specs.declared.grammar.ScriptLine.{ScriptLine}
@@ -12,8 +13,8 @@ frame_line (ert ∷ quality ∷ antenna ∷ lost ∷ frame ∷ []) = do
   t ← time ert
   q ← number 2 quality
   a ← octets 16 antenna
-  l ← number 16777215 lost
-  o ← octets 65536 frame
+  l ← number GREATEST_LOST lost
+  o ← octets LONGEST_FRAME frame
   Some (Offer (Frame t q a l o))
 frame_line words = None
 

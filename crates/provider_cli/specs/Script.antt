@@ -8,6 +8,7 @@ use Rattle.provider_cli.specs.declared.status.Status.{Status}
 use Rattle.provider_cli.specs.declared.status.Status.TheVariants.{Done, Usage, BadLine, ReadFault, WriteFault, InputTooLong, Memory}
 use Rattle.provider_cli.specs.declared.grammar.ScriptLine.{ScriptLine}
 use Rattle.provider_cli.specs.declared.grammar.ScriptLine.TheVariants.{Offer, Desk}
+use Rattle.provider_cli.specs.declared.drill.TheConstants.{SCRIPT_OCTETS}
 use Rattle.provider_cli.specs.Grammar.{lines_of}
 use Rattle.provider_cli.specs.Entries.{entry_of}
 use Rattle.provider_cli.specs.Outside.{Outside}
@@ -20,7 +21,7 @@ IsValidLine (Desk start stop quality) = Unit {0}
 
 -- the most octets of a script
 abbrev pub most_octets : ℕ
-most_octets = 16777216
+most_octets = SCRIPT_OCTETS
 
 abbrev pub script_transcript : List ℕ → List ℕ
 script_transcript script = transcript (lines_of script)

@@ -3,6 +3,7 @@
 // A START makes one pass over the archive, and copies each frame once, into its message.
 ghost use Rattle.std.specs.Prelude.{◌≡◌, ◌+◌, ◌<◌, ◌≤◌, ◌^◌, [], ◌∷◌, ◌++◌, IsTrue, IfOk, IfErr, IfSome, length, option_map};
 ghost use Rattle.std.specs.Option.{ForSome};
+ghost use Rattle.archive_terms.specs.declared.limits.TheConstants.{GREATEST_LOST};
 ghost use Rattle.archive_terms.specs.Archive.{is_storable};
 ghost use Rattle.ber_core.specs.Spelling.{canonical};
 ghost use Rattle.isp1_tml.specs.Message.{header};
@@ -16,6 +17,7 @@ ghost use Rattle.provider_cli.specs.Transcript.{sent_buffer, start_buffers};
 use crate::archive::Archive;
 use crate::entry::{Entry, moment};
 use crate::transcript::{Stop, put_sent};
+use archive_terms::GREATEST_LOST;
 use ber_core::Writer;
 use cds_time::Cds;
 use isp1_tml::head;
@@ -23,9 +25,6 @@ use octet_core::Sink;
 use return_pdu::laws::buffer_is_head_and_items;
 use return_pdu::{buffer_head, buffer_length, raf_end_of_data, raf_frame, raf_frame_length};
 use std::alloc::Global;
-
-/// The most that a continuity tells.
-const MOST_LOST: u32 = 16_777_215;
 
 // The kind of a transport message that is a PDU.
 const PDU: u8 = 1;
@@ -95,7 +94,7 @@ impl Picked<'_> {
 #[derive(Clone, Copy, Debug)]
 struct Gap {
     lost: Option<u32>,
-    ghost capped: { ForSome lost (λ n. n ≤ 16777215) },
+    ghost capped: { ForSome lost (λ n. n ≤ GREATEST_LOST) },
 }
 
 impl Gap {
@@ -116,7 +115,9 @@ impl Gap {
         else {
             return None;
         };
-        let gap = self.lost.map(|earlier| (earlier + *lost).min(MOST_LOST));
+        let gap = self
+            .lost
+            .map(|earlier| (earlier + *lost).min(GREATEST_LOST));
         if !wanted.admits(*quality, ert.moment()) {
             self.lost = gap;
             return None;

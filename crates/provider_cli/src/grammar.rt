@@ -8,6 +8,7 @@ ghost use Rattle.provider_cli.specs.Grammar.{line_of, frame_line, mark_line, sta
 use crate::entry::Entry;
 use crate::lines::split_part;
 use crate::numbers::number;
+use archive_terms::{GREATEST_LOST, LONGEST_FRAME};
 use cds_time::{Cds, Rest};
 use hex::FromHexError;
 use octet_core::Octets;
@@ -90,8 +91,8 @@ fn frame_line(alloc: Global, words: Option<&[u8]>) -> Result<ScriptLine, LineFau
         ert: time(ert).ok_or(LineFault::Bad)?,
         quality: quality_of(quality).ok_or(LineFault::Bad)?,
         antenna: octets(alloc, antenna, 16)?,
-        lost: number(lost, 16_777_215).ok_or(LineFault::Bad)?,
-        octets: octets(alloc, frame, 65_536)?,
+        lost: number(lost, GREATEST_LOST).ok_or(LineFault::Bad)?,
+        octets: octets(alloc, frame, LONGEST_FRAME)?,
     }))
 }
 

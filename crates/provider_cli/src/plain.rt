@@ -4,6 +4,7 @@
 // of two, and for each frame it adds up what was lost since the one before, over the whole archive.
 // Octets are copied freely, and its time grows with the square of the archive.
 ghost use Rattle.std.specs.Prelude.{◌≡◌, ℕ, ◌<◌, ◌≤◌, ◌≤ℤ◌, ◌^◌, pos, negsuc, [], ◌∷◌, ◌++◌, Some, IsTrue, IfOk, OnOk, length, map, slice_get};
+ghost use Rattle.archive_terms.specs.declared.limits.TheConstants.{GREATEST_LOST};
 ghost use Rattle.archive_terms.specs.Archive.{is_archive, is_storable, is_closed, closes};
 ghost use Rattle.archive_terms.specs.Selection.{admits, picked};
 ghost use Rattle.archive_terms.specs.Continuity.{lost_of, lost_between, continuity};
@@ -14,6 +15,7 @@ ghost use Rattle.provider_cli.specs.Plain.{frame_tree};
 ghost use Rattle.provider_cli.specs.Transcript.{message, sent_line, sent_buffer, selection, start_buffers, start_text};
 
 use crate::entry::{Entry, moment};
+use archive_terms::GREATEST_LOST;
 use archive_terms::laws::{frames_fill_by_number, picked_frames};
 use ber_core::Writer;
 use cds_time::Cds;
@@ -132,11 +134,11 @@ fn closes(stop: u128, entry: &Entry) -> bool
 fn continuity(entries: &[Entry], before: Option<usize>, place: usize) -> i32
     ensures exact { result ≡ continuity (archive_of entries.now) before place }
     ensures least { negsuc 0 ≤ℤ result }
-    ensures greatest { result ≤ℤ pos 16777215 }
+    ensures greatest { result ≤ℤ pos GREATEST_LOST }
 {
     match before {
         None => -1,
-        Some(before) => lost_between(entries, before, place).min(16_777_215) as i32,
+        Some(before) => lost_between(entries, before, place).min(u128::from(GREATEST_LOST)) as i32,
     }
 }
 
