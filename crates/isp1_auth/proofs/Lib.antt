@@ -1,0 +1,4 @@
+pub mod Answers
+pub mod Made
+pub mod Sizes
+pub mod Pieces

@@ -1,0 +1,29 @@
+-- What the definitions say of credentials.
+use Rattle.std.specs.Prelude.{◌≡◌, ◌↔◌, ℕ, ◌<◌, ◌≤◌, List, Some, Result, Ok}
+use Rattle.std.specs.Int.{abs_diff}
+use Rattle.ber_core.specs.Length.{IsSlice}
+use Rattle.cds_time.specs.Moment.{octets_of, in_micros}
+use Rattle.cds_time.specs.declared.cds.TheConstants.{MOMENT_END}
+use Rattle.isp1_auth.specs.declared.secret.Secret.{Secret}
+use Rattle.isp1_auth.specs.declared.auth_fault.AuthFault.{AuthFault}
+use Rattle.isp1_auth.specs.declared.random_numbers.TheConstants.{GREATEST_NUMBER}
+use Rattle.isp1_auth.specs.Signed.{Claim, signed}
+use Rattle.isp1_auth.specs.Auth.{auth, allowed, Says, IsProtected, IsAnswerTo}
+
+-- Octets have one answer, the one that is worked out.
+abbrev pub OneAnswer : Type 0
+OneAnswer =
+    (octets : List ℕ) (secret : Secret) (now : ℕ) (answer : Result (Unit {0}) AuthFault) → IsSlice octets
+    → IsAnswerTo octets secret now answer ↔ (answer ≡ auth secret (Some octets) now)
+
+-- Credentials with the secret's digest are accepted exactly while their time is at most the delay from now, either way.
+abbrev pub AcceptedWhileNear : Type 0
+AcceptedWhileNear =
+    (octets : List ℕ) (secret : Secret) (claim : Claim) (moment now : ℕ) → Says octets claim moment → IsProtected secret claim
+    → (auth secret (Some octets) now ≡ Ok tt) ↔ (abs_diff now moment ≤ allowed secret)
+
+-- What is signed at a moment is accepted at that moment, where a delay of a second or more is allowed.
+abbrev pub SignedIsAccepted : Type 0
+SignedIsAccepted =
+    (secret : Secret) (now number : ℕ) → now < MOMENT_END → number ≤ GREATEST_NUMBER → 1 ≤ secret.delay
+    → auth secret (Some (signed secret (octets_of (in_micros now)) number)) now ≡ Ok tt

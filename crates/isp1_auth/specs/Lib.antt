@@ -1,0 +1,5 @@
+pub mod Numbers
+pub mod Digest
+pub mod Signed
+pub mod Auth
+pub mod Laws

@@ -1,0 +1,20 @@
+// What holds of all credentials. A law's function does nothing: its contract is the law.
+ghost use Rattle.isp1_auth.specs.Laws.{OneAnswer, AcceptedWhileNear, SignedIsAccepted};
+
+/// Octets that are used as credentials have one answer by what they spell, the one that `check`
+/// gives.
+pub fn one_answer()
+    ensures { OneAnswer }
+{}
+
+/// Credentials with the right digest are accepted exactly while the time that they say is at most
+/// the delay from now, before it or behind it.
+pub fn accepted_while_near()
+    ensures { AcceptedWhileNear }
+{}
+
+/// What `make` writes is accepted by `check` at the same moment with the same secret, where its
+/// delay is at least a second.
+pub fn signed_is_accepted()
+    ensures { SignedIsAccepted }
+{}
