@@ -1,0 +1,4 @@
+pub mod Binding
+pub mod Unbinding
+pub mod Aborting
+pub mod Seen
