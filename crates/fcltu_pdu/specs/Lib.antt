@@ -1,0 +1,9 @@
+pub mod UnsignedLong
+pub mod Answer
+pub mod Processed
+pub mod Notice
+pub mod Start
+pub mod Throw
+pub mod Transfer
+pub mod Async
+pub mod Report
