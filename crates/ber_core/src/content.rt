@@ -1,7 +1,7 @@
 // The rules of content octets. Each function answers what the content says, or its fault, with the place at which the
 // content begins.
 
-ghost use Rattle.std.specs.Prelude.{◌≡◌, ℕ, ℤ, ◌+◌, ◌*◌, ◌^◌, ◌<◌, ◌≤◌, ◌≤ℤ◌, ◌&&◌, true, length, IfOk};
+ghost use Rattle.std.specs.Prelude.{◌≡◌, ◌∷◌, [], ℕ, ℤ, ◌+◌, ◌*◌, ◌^◌, ◌<◌, ◌≤◌, ◌≤ℤ◌, ◌&&◌, true, length, IfOk};
 ghost use Rattle.std.specs.List.{list_all};
 ghost use Rattle.ber_core.specs.Length.{number_of};
 ghost use Rattle.ber_core.specs.Integer.{is_wide, signed_of};
@@ -57,7 +57,42 @@ fn signed_of(content: &[u8]) -> i128
     }
 }
 
+// The number that one octet says in two's complement.
+#[inline(always)]
+fn signed_octet(octet: u8) -> i128
+    ensures { result ≡ signed_of (octet ∷ []) }
+{
+    if octet < 128 {
+        i128::from(octet)
+    } else {
+        i128::from(octet) - 256
+    }
+}
+
+// Most numbers have one octet: theirs is the path that is inlined.
+#[inline(always)]
 pub(crate) fn integer_of(
+    content: &[u8],
+    place: usize,
+    least: i128,
+    greatest: i128,
+) -> Result<i128, BerFault>
+    ensures exact { Gives (λ value. value) result (integer_of least greatest place content.now) }
+    ensures range { IfOk result (λ value. (least ≤ℤ value) × (value ≤ℤ greatest)) }
+{
+    let [octet] = content else {
+        return any_integer_of(content, place, least, greatest);
+    };
+    let value = signed_octet(*octet);
+    if value < least || greatest < value {
+        return Err(BerFault::BadContent { place });
+    }
+    Ok(value)
+}
+
+// The same of any content.
+#[inline(never)]
+fn any_integer_of(
     content: &[u8],
     place: usize,
     least: i128,

@@ -1,3 +1,7 @@
+// Why octets in the place of an element are refused.
+use std::error::Error;
+use std::fmt;
+
 /// The first fault of octets in the place of an element, in reading order. A place counts from the first octet that the
 /// reader was given.
 #[derive(Clone, Copy, Debug, PartialEq, Eq)]
@@ -14,3 +18,22 @@ pub enum BerFault {
     /// The INTEGER content that begins here has more than 64 bits.
     Wide { place: usize },
 }
+
+impl fmt::Display for BerFault {
+    fn fmt<W: fmt::Write>(&self, f: &mut fmt::Formatter<W>) -> fmt::Result {
+        match self {
+            BerFault::Cut { place } => write!(f, "cut inside the element at octet {place}"),
+            BerFault::WrongTag { place, found } => {
+                write!(
+                    f,
+                    "another identifier at octet {place}, beginning with {found:#04x}"
+                )
+            }
+            BerFault::BadLength { place } => write!(f, "no fitting length at octet {place}"),
+            BerFault::BadContent { place } => write!(f, "no content of its type at octet {place}"),
+            BerFault::Wide { place } => write!(f, "an INTEGER of over 64 bits at octet {place}"),
+        }
+    }
+}
+
+impl Error for BerFault {}

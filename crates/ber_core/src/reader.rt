@@ -203,6 +203,49 @@ impl<'a> Reader<'a> {
         Some((self.place + 2, &rest[..size]))
     }
 
+    // The content of the next element, where it often has more than 127 octets.
+    #[inline(always)]
+    fn next_long_content(&self, identifier: &[u8]) -> Result<(usize, &'a [u8]), BerFault>
+        ensures exact { Gives (λ found. (found.0, found.1.now)) result (next_content self.now identifier.now) }
+        ensures place { IfOk result (λ found. self.now.place ≤ found.0) }
+        ensures within { IfOk result (λ found. found.0 + length found.1.now ≤ end_of self.now) }
+        ensures fits { IfOk result (λ found. found.0 + length found.1.now < 2 ^ 64) }
+        ensures room { IsOk result → length self.now.ends < 16 }
+    {
+        match self.long_content(identifier) {
+            Some(found) => Ok(found),
+            None => self.next_content(identifier),
+        }
+    }
+
+    // The content of an element with an identifier of one octet and a length of two octets in the long form, where one
+    // stands next: frames are so, and what stands around them.
+    #[inline(always)]
+    #[tactic(auto, unfolding(crate::specs::Reading::next_content))]
+    fn long_content(&self, identifier: &[u8]) -> Option<(usize, &'a [u8])>
+        ensures exact { IfSome result (λ found. next_content self.now identifier.now ≡ Ok (found.0, found.1.now)) }
+        ensures place { IfSome result (λ found. self.now.place ≤ found.0) }
+        ensures within { IfSome result (λ found. found.0 + length found.1.now ≤ end_of self.now) }
+        ensures fits { IfSome result (λ found. found.0 + length found.1.now < 2 ^ 64) }
+        ensures room { IsSome result → length self.now.ends < 16 }
+    {
+        let [octet] = identifier else {
+            return None;
+        };
+        let [first, 130, rest @ ..] = self.left() else {
+            return None;
+        };
+        if first != octet || self.free == 0 || rest.len() < 2 {
+            return None;
+        }
+        let (digits, rest) = rest.split_at(2);
+        let size = number_of(digits) as usize;
+        if rest.len() < size {
+            return None;
+        }
+        Some((self.place + 4, &rest[..size]))
+    }
+
     // The same of any element.
     #[inline(never)]
     #[tactic(auto, unfolding(crate::specs::Reading::next_content))]
@@ -260,11 +303,12 @@ impl<'a> Reader<'a> {
     }
 
     /// Enters an element that is a list of elements.
+    #[inline(always)]
     pub fn element(&mut self, identifier: &[u8]) -> Result<(), BerFault>
         ensures exact { Reads (λ _. tt) self.old self.new result (enter self.old identifier.now) }
         ensures octets { self.new.octets ≡ self.old.octets }
     {
-        let (start, content) = self.next_content(identifier)?;
+        let (start, content) = self.next_long_content(identifier)?;
         self.free -= 1;
         self.ends[self.free] = start + content.len();
         self.place = start;
@@ -287,6 +331,7 @@ impl<'a> Reader<'a> {
     }
 
     /// Reads an INTEGER in this range (X.690 8.3).
+    #[inline(always)]
     pub fn integer(
         &mut self,
         identifier: &[u8],
@@ -304,6 +349,7 @@ impl<'a> Reader<'a> {
     }
 
     /// Reads an OCTET STRING of so many octets (X.690 8.7).
+    #[inline(always)]
     pub fn octet_string(
         &mut self,
         identifier: &[u8],
@@ -313,7 +359,7 @@ impl<'a> Reader<'a> {
         ensures exact { Reads (λ octets. octets.now) self.old self.new result (primitive_at (string_of least greatest) self.old identifier.now) }
         ensures octets { self.new.octets ≡ self.old.octets }
     {
-        let (start, content) = self.next_content(identifier)?;
+        let (start, content) = self.next_long_content(identifier)?;
         let octets = content::string_of(content, start, least, greatest)?;
         self.place = start + content.len();
         Ok(octets)

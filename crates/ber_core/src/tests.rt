@@ -256,3 +256,34 @@ fn the_next_identifier_and_the_octets_since_a_place_are_told(rt: HostRuntime) {
     assert_eq!(rt; reader.since(start), [5, 0].as_slice());
     assert_eq!(rt; reader.octets(), octets.as_slice());
 }
+
+const TEXTS: [(BerFault, &str); 5] = [
+    (
+        BerFault::Cut { place: 7 },
+        "cut inside the element at octet 7",
+    ),
+    (
+        BerFault::WrongTag { place: 0, found: 2 },
+        "another identifier at octet 0, beginning with 0x02",
+    ),
+    (
+        BerFault::BadLength { place: 1 },
+        "no fitting length at octet 1",
+    ),
+    (
+        BerFault::BadContent { place: 4 },
+        "no content of its type at octet 4",
+    ),
+    (
+        BerFault::Wide { place: 2 },
+        "an INTEGER of over 64 bits at octet 2",
+    ),
+];
+
+#[test]
+fn a_fault_says_its_place(rt: HostRuntime) -> Result<(), Fail> {
+    for (fault, text) in TEXTS {
+        assert_eq!(rt; format!(in rt.alloc(); "{fault}")?.as_str(), text);
+    }
+    Ok(())
+}
