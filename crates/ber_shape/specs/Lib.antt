@@ -9,3 +9,4 @@ pub mod Choice
 pub mod List
 pub mod Exact
 pub mod Lent
+pub mod Fields

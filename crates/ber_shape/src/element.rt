@@ -18,7 +18,7 @@ pub trait Element<'a> {
 
     ghost shape: { Element Seen };
 
-    ghost is_shallow: { nat_le shape.levels 16 ≡ true };
+    ghost is_shallow: { nat_le shape.levels 15 ≡ true };
 
     ghost seen: { Self.Value → Seen };
 

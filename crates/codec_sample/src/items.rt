@@ -1,42 +1,17 @@
 ghost use Rattle.std.specs.Prelude.{◌≡◌, ◌∷◌, [], MatchOption, IsOk, Ok};
 ghost use Rattle.ber_core.specs.Reading.{Gives};
 ghost use Rattle.ber_shape.specs.Exact.{whole};
-ghost use Rattle.codec_sample.specs.Sample.{items};
+ghost use Rattle.codec_sample.specs.Items.{items};
 
-use ber_core::{BerFault, Reader, Writer, element_length};
-use ber_shape::{Element, Members, lend_list, list_size, split_first, write_list};
+use ber_core::{BerFault, Reader, Writer};
+use ber_shape::{
+    Element, Members, OctetString, lend_list, list_size, read_within, size_within, split_first,
+    write_list, write_within,
+};
 use std::marker::Model;
 
 /// OCTET STRING of 1 to 16 octets.
-struct Item;
-
-impl<'a> Element<'a> for Item {
-    ghost use Rattle.std.specs.Prelude.{ℕ, List, refl};
-    ghost use Rattle.codec_sample.specs.Sample.{item};
-
-    type Value = &'a [u8];
-
-    ghost Seen = { List ℕ };
-
-    ghost shape = { item };
-
-    ghost is_shallow = { refl };
-
-    ghost seen = { λ v. v.now };
-
-    fn read(reader: &mut Reader<'a>) -> Result<&'a [u8], BerFault> {
-        reader.octet_string(&[0x04], 1, 16)
-    }
-
-    #[tactic(auto, using(ber_core::specs::Parts::lengths))]
-    fn size(value: &&'a [u8]) -> usize {
-        element_length(&[0x04], value.len())
-    }
-
-    fn write(value: &&'a [u8], writer: &mut Writer) {
-        writer.octet_string(&[0x04], value);
-    }
-}
+type Item = OctetString<1, 16>;
 
 /// At most 8 items, OCTET STRINGs of 1 to 16 octets, one after another in octets that are lent. Contracts see the list
 /// of the items.
@@ -49,7 +24,7 @@ impl<'a> Model for Items<'a> {
     ghost use Rattle.std.specs.Prelude.{ℕ, List, IsOk};
     ghost use Rattle.ber_shape.specs.Exact.{whole};
     ghost use Rattle.ber_shape.specs.Lent.{values};
-    ghost use Rattle.codec_sample.specs.Sample.{items};
+    ghost use Rattle.codec_sample.specs.Items.{items};
 
     ghost Value = { List (List ℕ) };
 
@@ -98,7 +73,7 @@ impl<'a> Items<'a> {
 
 impl<'a> Members<'a> for Items<'a> {
     ghost use Rattle.std.specs.Prelude.{ℕ, List, refl};
-    ghost use Rattle.codec_sample.specs.Sample.{items};
+    ghost use Rattle.codec_sample.specs.Items.{items};
 
     type Value = Items<'a>;
 
@@ -121,5 +96,35 @@ impl<'a> Members<'a> for Items<'a> {
 
     fn write(value: &Items<'a>, writer: &mut Writer) {
         write_list::<Item>(8, value.octets, writer);
+    }
+}
+
+/// A SEQUENCE of items.
+pub struct ItemSequence;
+
+impl<'a> Element<'a> for ItemSequence {
+    ghost use Rattle.std.specs.Prelude.{ℕ, List, refl};
+    ghost use Rattle.codec_sample.specs.Items.{item_sequence};
+
+    type Value = Items<'a>;
+
+    ghost Seen = { List (List ℕ) };
+
+    ghost shape = { item_sequence };
+
+    ghost is_shallow = { refl };
+
+    ghost seen = { λ i. i };
+
+    fn read(reader: &mut Reader<'a>) -> Result<Items<'a>, BerFault> {
+        read_within::<Items<'a>>(&[0x30], reader)
+    }
+
+    fn size(value: &Items<'a>) -> usize {
+        size_within::<Items<'a>>(&[0x30], value)
+    }
+
+    fn write(value: &Items<'a>, writer: &mut Writer) {
+        write_within::<Items<'a>>(&[0x30], value, writer);
     }
 }

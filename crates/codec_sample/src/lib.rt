@@ -2,15 +2,11 @@
 // time and a list that is lent.
 #![tactic(auto)]
 
-mod credentials;
 mod items;
 mod sample;
-mod time;
 
-pub use credentials::Credentials;
-pub use items::Items;
+pub use items::{ItemSequence, Items};
 pub use sample::Sample;
-pub use time::{ConditionalTime, Time};
 
 #[cfg(test)]
 mod tests;

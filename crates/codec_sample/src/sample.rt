@@ -1,9 +1,7 @@
-use crate::credentials::Credentials;
-use crate::items::Items;
-use crate::time::ConditionalTime;
-use ber_core::{BerFault, Reader, Writer, element_length, integer_length};
-use ber_shape::{Element, Members, Pdu, read_within, size_within, write_within};
+use crate::items::{ItemSequence, Items};
+use ber_shape::{Last, Octet, Sequence};
 use cds_time::Cds;
+use sle_common::{ConditionalTime, Credentials, InvokeId};
 
 /// A SEQUENCE under the context tag 0: credentials, the invocation's number, a time and items.
 #[derive(Drop)]
@@ -15,59 +13,34 @@ pub struct Sample<'a> {
     pub items: Items<'a>,
 }
 
-impl<'a> Members<'a> for Sample<'a> {
+impl<'a> Sequence<'a, Octet<0xa0>> for Sample<'a> {
     ghost use Rattle.std.specs.Prelude.{refl};
-    ghost use Rattle.codec_sample.specs.Sample.{Content, fields};
-    ghost use Rattle.codec_sample.specs.Seen.{content};
 
-    type Value = Sample<'a>;
+    type Values = (Credentials<'a>, (u16, (Option<Cds>, Items<'a>)));
 
-    ghost Seen = { Content };
+    type Fields = (
+        Credentials<'a>,
+        (InvokeId, (ConditionalTime, Last<ItemSequence>)),
+    );
 
-    ghost shape = { fields };
+    ghost values_of = { λ s. (s.credentials, (s.invoke, (s.time, s.items))) };
 
-    ghost is_shallow = { refl };
+    ghost is_encodable = { refl };
 
-    ghost seen = { content };
-
-    fn read(reader: &mut Reader<'a>) -> Result<Sample<'a>, BerFault> {
-        Ok(Sample {
-            credentials: Credentials::read(reader)?,
-            invoke: reader.integer(&[0x02], 0, 65535)? as u16,
-            time: ConditionalTime::read(reader)?,
-            items: read_within::<Items<'a>>(&[0x30], reader)?,
-        })
+    fn from_values(values: Self::Values) -> Sample<'a> {
+        let (credentials, (invoke, (time, items))) = values;
+        Sample {
+            credentials,
+            invoke,
+            time,
+            items,
+        }
     }
 
-    #[tactic(auto, using(ber_core::specs::Parts::lengths))]
-    fn size(value: &Sample<'a>) -> usize {
-        Credentials::size(&value.credentials)
-            + element_length(&[0x02], integer_length(i128::from(value.invoke)))
-            + ConditionalTime::size(&value.time)
-            + size_within::<Items<'a>>(&[0x30], &value.items)
-    }
-
-    #[tactic(auto, unfolding(ber_core::specs::Spelling::canonical))]
-    fn write(value: &Sample<'a>, writer: &mut Writer) {
-        Credentials::write(&value.credentials, writer);
-        writer.integer(&[0x02], i128::from(value.invoke));
-        ConditionalTime::write(&value.time, writer);
-        write_within::<Items<'a>>(&[0x30], &value.items, writer);
-    }
-}
-
-impl<'a> Pdu<'a> for Sample<'a> {
-    ghost use Rattle.std.specs.Prelude.{◌≡◌, refl, [], ◌∷◌};
-
-    ghost tag = { 0xa0 ∷ [] };
-
-    ghost is_tag = { refl };
-
-    ghost is_small = { refl };
-
-    fn identifier() -> &'static [u8]
-        ensures { result.now ≡ 0xa0 ∷ [] }
-    {
-        &[0xa0]
+    fn to_values(&self) -> Self::Values {
+        (
+            self.credentials,
+            (self.invoke, (self.time, self.items.iter())),
+        )
     }
 }

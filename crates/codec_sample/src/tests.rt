@@ -1,7 +1,9 @@
 use super::*;
 use ber_core::{BerFault, Writer};
-use ber_shape::Pdu;
+use ber_shape::laws::sequence_is_exact;
+use ber_shape::{Integer, Octet, Sequence, decode, encode, length};
 use cds_time::{Cds, Rest};
+use sle_common::Credentials;
 use std::test::Fail;
 
 // Put together by hand from X.690: credentials of 8 octets, invoke id 300, a time in the form with microseconds, and the
@@ -162,4 +164,43 @@ fn a_ninth_item_is_surplus(rt: HostRuntime) -> Result<(), Fail> {
         Some(BerFault::BadLength { place: 35 })
     );
     Ok(())
+}
+
+type Continuity = Integer<-1, 16_777_215>;
+
+/// INTEGERs from -1 to 16,777,215 in octets, worked out by hand from X.690 8.3.
+const INTEGERS: [(&[u8], i64); 4] = [
+    (&[2, 1, 0xff], -1),
+    (&[2, 1, 0], 0),
+    (&[2, 2, 1, 0x2c], 300),
+    (&[2, 4, 0, 0xff, 0xff, 0xff], 16_777_215),
+];
+
+#[test]
+fn an_integer_is_read_in_its_range(rt: HostRuntime) {
+    for (octets, value) in INTEGERS {
+        assert_eq!(rt; decode::<Continuity>(octets).ok(), Some(value));
+    }
+    for octets in [[2, 1, 0xfe].as_slice(), [2, 4, 1, 0, 0, 0].as_slice()] {
+        assert_eq!(rt;
+            decode::<Continuity>(octets).err(),
+            Some(BerFault::BadContent { place: 2 })
+        );
+    }
+}
+
+#[test]
+fn an_integer_is_written(rt: HostRuntime) -> Result<(), Fail> {
+    let mut writer = Writer::new(rt.alloc(), 20).ok().ok_or("memory")?;
+    let size = length::<Continuity>(&300);
+    assert_eq!(rt; size, 4);
+    assert!(rt; size <= writer.room());
+    encode::<Continuity>(&300, &mut writer);
+    assert_eq!(rt; writer.octets(), [2, 2, 1, 0x2c].as_slice());
+    Ok(())
+}
+
+#[test]
+fn the_law_on_sequences_speaks_of_samples() {
+    sequence_is_exact::<Octet<0xa0>, Sample<'static>>();
 }

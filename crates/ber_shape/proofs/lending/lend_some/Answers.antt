@@ -1,17 +1,18 @@
 use Rattle.std.proofs.Common.{refl, ◌∙◌, arith}
-use Rattle.ber_shape.proofs.Lists.{LendingSome, lending_some, lent_again}
+use Rattle.ber_shape.specs.Exact.{deeper}
+use Rattle.ber_shape.proofs.Lists.{lending_some, lent_again}
 use Rattle.ber_shape.proofs.lending.lend_some.Goals as goal
 
 pub since-requires : goal.since-requires
 since-requires g c =
-    let lent = lending_some g.E.Element.shape c.args.more c.args.reader.now c.read.new.reader c.pass_over.new.reader _ g.E.Element.is_shallow c.octets.ensures.slice c.place-start.ensures.shallow
+    let lent = lending_some g.E.Element.shape c.args.more c.args.reader.now c.read.new.reader c.pass_over.new.reader _ (deeper g.E.Element.shape.levels g.E.Element.is_shallow) c.octets.ensures.slice c.place-start.ensures.shallow
     c.in_ok-read.ensures.exact c.in_ok-pass_over.ensures.exact in
     omega (arith, lent.onward, c.place-start.ensures.exact)
 
 pub returns-clause-exact : goal.returns-clause-exact
 returns-clause-exact g c =
     let f = g.E.Element.shape in
-    let lent = lending_some f c.args.more c.args.reader.now c.read.new.reader c.pass_over.new.reader _ g.E.Element.is_shallow c.octets.ensures.slice c.place-start.ensures.shallow c.in_ok-read.ensures.exact
+    let lent = lending_some f c.args.more c.args.reader.now c.read.new.reader c.pass_over.new.reader _ (deeper g.E.Element.shape.levels g.E.Element.is_shallow) c.octets.ensures.slice c.place-start.ensures.shallow c.in_ok-read.ensures.exact
     c.in_ok-pass_over.ensures.exact in (
       lent.values,
       lent.is,

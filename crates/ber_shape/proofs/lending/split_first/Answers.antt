@@ -1,4 +1,5 @@
 use Rattle.std.proofs.Common.{◌≡◌, ◌↔◌, IsTrue, sym, ◌∙◌, ap, subst}
+use Rattle.ber_shape.specs.Exact.{deeper}
 use Rattle.ber_shape.specs.Lent.{or_none}
 use Rattle.ber_core.specs.View.{View, end_of}
 use Rattle.ber_shape.proofs.Lists.{none_first, no_fault, first, split_so}
@@ -15,7 +16,7 @@ returns-in_default g c =
 
 pub returns : goal.returns
 returns g c =
-    let found = first g.E.Element.shape c.args.most c.args.octets.now _ c.read.new.reader c.at_end.result g.E.Element.is_shallow c.slice.ensures c.requires
+    let found = first g.E.Element.shape c.args.most c.args.octets.now _ c.read.new.reader c.at_end.result (deeper g.E.Element.shape.levels g.E.Element.is_shallow) c.slice.ensures c.requires
     (subst (λ (v : View). IsTrue c.at_end.result ↔ (v.place ≡ end_of v)) c.new-reader.ensures c.at_end.ensures) c.if-at_end.false
     (ap g.E.Element.shape.read (sym c.new-reader.ensures) ∙ c.in-Ok.ensures.exact) in
     split_so g.E.Element.shape c.args.most c.args.octets.now _ _ found.others found.is (rw c.place.ensures.exact found.rest)
