@@ -4,7 +4,9 @@
 usage: model.py PROGRAM [COUNT]     COUNT scripts, 400 if left out, the same in each run
 
 The second program follows docs/PROFILE.md and shares nothing with the first. It works out each line from the
-whole archive, and knows neither bounds nor passes. Where the two differ it writes the script to a file and fails.
+whole archive, and knows neither bounds nor passes. A user's decoder then reads the messages that the built program
+wrote, and the items that they say are compared with those of the archive, field by field. Where anything differs it
+writes the script to a file and fails.
 """
 import random
 import re
@@ -79,9 +81,91 @@ def frame_item(entry, gap):
 
 
 def sent(items):
+    """The line of a buffer of these items, each as it is told."""
+    return spelled([END_OF_DATA if item == "end" else frame_item(*item) for item in items])
+
+
+def spelled(items):
     pdu = element(0xA8, b"".join(items))
     message = bytes([1, 0, 0, 0]) + len(pdu).to_bytes(4, "big") + pdu
     return b"sent 0 " + message.hex().encode() + b"\n"
+
+
+# ---- a user's decoder of these
+
+class Octets:
+    """Elements one behind the other, read from the front."""
+
+    def __init__(self, octets):
+        self.rest = octets
+
+    def take(self, count):
+        if count > len(self.rest):
+            raise ValueError("cut")
+        taken, self.rest = self.rest[:count], self.rest[count:]
+        return taken
+
+    def element(self, *tags):
+        """The tag that stands next, one of these, and its content."""
+        tag, size = self.take(2)
+        if tag not in tags:
+            raise ValueError(f"tag {tag:02x}")
+        if size >= 128:
+            size = int.from_bytes(self.take(size - 128), "big")
+        return tag, self.take(size)
+
+    def content(self, tag):
+        return self.element(tag)[1]
+
+    def end(self):
+        if self.rest:
+            raise ValueError("surplus octets")
+
+
+def read_frame(content):
+    fields = Octets(content)
+    credentials, stamp, antenna = fields.content(0x80), fields.content(0x80), fields.content(0x81)
+    gap = int.from_bytes(fields.content(0x02), "big", signed=True)
+    quality = int.from_bytes(fields.content(0x02), "big", signed=True)
+    note, frame = fields.content(0x80), fields.content(0x04)
+    fields.end()
+    if credentials or note or len(stamp) != 8:
+        raise ValueError("credentials, an annotation or a time of another form")
+    ert = tuple(int.from_bytes(stamp[a:b], "big") for a, b in [(0, 2), (2, 6), (6, 8)])
+    return ert, quality, antenna, gap, frame
+
+
+def read_item(tag, content):
+    if tag == 0xA0:
+        return read_frame(content)
+    fields = Octets(content)
+    if fields.content(0x80) or fields.content(0x83):
+        raise ValueError("another notification")
+    fields.end()
+    return "end"
+
+
+def read_sent(line):
+    """The items that the message of a line says."""
+    message = Octets(bytes.fromhex(line[len(b"sent 0 "):].decode()))
+    if message.take(4) != bytes([1, 0, 0, 0]):
+        raise ValueError("no PDU")
+    pdu = Octets(message.take(int.from_bytes(message.take(4), "big")))
+    message.end()
+    buffer = Octets(pdu.content(0xA8))
+    pdu.end()
+    items = []
+    while buffer.rest:
+        items.append(read_item(*buffer.element(0xA0, 0xA1)))
+    return items
+
+
+def said(item):
+    """An item as a user reads it."""
+    if item == "end":
+        return item
+    (_, ert, quality, antenna, _, frame), gap = item
+    return ert, quality, antenna, gap, frame
 
 
 # ---- the archive and its STARTs
@@ -102,25 +186,24 @@ def continuity(archive, before, place):
 
 
 def answer(archive, start, stop, quality):
-    if stop < start:
-        return b"refused 3\n"
+    """The buffers of a START, each a list of its items as they are told."""
     places = [place for place, entry in enumerate(archive)
               if entry[0] == "frame" and start <= entry[1] <= stop and quality in (2, entry[2])]
-    items = [frame_item(archive[place], continuity(archive, before, place))
+    items = [(archive[place], continuity(archive, before, place))
              for before, place in zip([None] + places, places)]
     buffers = [items[i:i + 2] for i in range(0, len(items), 2)]
     if any(entry[1] > stop or entry[0] == "mark" and entry[1] == stop for entry in archive):
-        buffers.append([END_OF_DATA])
+        buffers.append(["end"])
     elif len(items) % 2 == 1:
         buffers.pop()
-    return b"".join(map(sent, buffers))
+    return buffers
 
 
 def drill(script):
-    """The exit code and the transcript."""
+    """The exit code, the transcript, and the items of each buffer in it as a user reads them."""
     if len(script) > MOST_OCTETS:
-        return 11, b"input too long\n"
-    archive, written = [], b""
+        return 11, b"input too long\n", []
+    archive, written, read = [], b"", []
     lines = script.split(b"\n")
     if lines[-1] == b"":
         lines.pop()
@@ -128,14 +211,18 @@ def drill(script):
         try:
             says = line_of(line)
         except ValueError:
-            return 3, written + b"bad line %d\n" % place
-        if says[0] == "start":
-            written += answer(archive, *says[1:])
+            return 3, written + b"bad line %d\n" % place, read
+        if says[0] == "start" and says[2] < says[1]:
+            written += b"refused 3\n"
+        elif says[0] == "start":
+            buffers = answer(archive, *says[1:])
+            written += b"".join(map(sent, buffers))
+            read += [[said(item) for item in buffer] for buffer in buffers]
         elif may_follow(archive, says):
             archive.append(says)
         else:
             written += b"backward\n"
-    return 0, written
+    return 0, written, read
 
 
 # ---- random scripts
@@ -184,13 +271,14 @@ def main(program, count):
     for seed in range(count):
         script = random_script(seed)
         done = subprocess.run([program, "drill"], input=script, capture_output=True)
-        expected = drill(script)
-        if (done.returncode, done.stdout) != expected:
+        code, written, said_items = drill(script)
+        read = [read_sent(line) for line in done.stdout.split(b"\n") if line.startswith(b"sent 0 ")]
+        if (done.returncode, done.stdout, read) != (code, written, said_items):
             with tempfile.NamedTemporaryFile(suffix=".script", delete=False) as kept:
                 kept.write(script)
-            sys.exit(f"model: the programs differ on {kept.name}: exit codes {done.returncode} and {expected[0]}")
-        messages += expected[1].count(b"sent ")
-    print(f"model: {count} scripts with {messages} messages, and no difference")
+            sys.exit(f"model: the programs differ on {kept.name}: exit codes {done.returncode} and {code}")
+        messages += len(read)
+    print(f"model: {count} scripts with {messages} messages, each read back to its items, and no difference")
 
 
 if __name__ == "__main__":

@@ -5,7 +5,7 @@ use Rattle.ber_core.specs.Tree.{primitive}
 use Rattle.ber_shape.specs.Content.{null}
 use Rattle.ber_shape.specs.Element.{Element, simple}
 use Rattle.ber_shape.specs.Same.{element_where}
-use Rattle.ber_shape.specs.Choice.{either, EitherFits}
+use Rattle.ber_shape.specs.Choice.{either}
 use Rattle.sle_common.specs.Natural.{natural, IsBetween}
 use Rattle.fcltu_pdu.specs.declared.notice_kind.NoticeKind.{NoticeKind}
 

@@ -1,5 +1,5 @@
 -- The last CLTUs that a provider took to radiate and that it radiated (CCSDS 912.1-B, annex A).
-use Rattle.std.proofs.Common.{◌≡◌, ℕ, ℤ, Option, List, [], ◌∷◌, refl}
+use Rattle.std.proofs.Common.{ℕ, ℤ, Option, [], ◌∷◌, refl}
 use Rattle.ber_shape.specs.Element.{Element}
 use Rattle.ber_shape.specs.Members.{Members, structured, last, ◌▸◌}
 use Rattle.ber_shape.specs.Same.{members_as}

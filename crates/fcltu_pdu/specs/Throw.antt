@@ -6,13 +6,13 @@ use Rattle.ber_shape.specs.Element.{Element, simple}
 use Rattle.ber_shape.specs.Members.{Members, structured, last, ◌▸◌}
 use Rattle.ber_shape.specs.Same.{members_as}
 use Rattle.sle_common.specs.declared.diagnostic.Diagnostic.{Diagnostic}
+use Rattle.sle_common.specs.Answer.{confirmation}
 use Rattle.sle_common.specs.Credentials.{credentials, credentials_of}
 use Rattle.sle_common.specs.Natural.{natural}
 use Rattle.sle_common.specs.Numbers.{invoke_id}
 use Rattle.fcltu_pdu.specs.declared.throw.Throw.{Throw as CodeThrow}
 use Rattle.fcltu_pdu.specs.declared.throw_return.ThrowReturn.{ThrowReturn as CodeThrowReturn}
 use Rattle.fcltu_pdu.specs.UnsignedLong.{unsigned_long}
-use Rattle.fcltu_pdu.specs.Answer.{confirmation}
 
 abbrev pub event_id : Element ℕ
 event_id = natural (0x02 ∷ []) 0 65535 refl refl

@@ -1,12 +1,13 @@
 -- TRANSFER-DATA of the forward CLTU service and its return (CCSDS 912.1-B, annex A); the length of
 -- a CLTU is this product's own.
-use Rattle.std.proofs.Common.{◌≡◌, ℕ, zero, suc, ℤ, ◌≤◌, Bool, true, false, Option, List, [], ◌∷◌, Result, refl, arith}
+use Rattle.std.proofs.Common.{◌≡◌, ℕ, zero, suc, ℤ, Bool, true, false, Option, List, [], ◌∷◌, Result, refl, arith}
 use Rattle.ber_shape.specs.Content.{octet_string}
 use Rattle.ber_shape.specs.Element.{Element, simple}
 use Rattle.ber_shape.specs.Members.{Members, structured, last, ◌▸◌}
 use Rattle.ber_shape.specs.Same.{members_as, element_where}
 use Rattle.cds_time.specs.declared.cds.Cds.{Cds}
 use Rattle.sle_common.specs.declared.diagnostic.Diagnostic.{Diagnostic}
+use Rattle.sle_common.specs.Answer.{confirmation}
 use Rattle.sle_common.specs.Credentials.{credentials, credentials_of}
 use Rattle.sle_common.specs.Natural.{natural, IsBetween}
 use Rattle.sle_common.specs.Numbers.{invoke_id, number}
@@ -14,7 +15,6 @@ use Rattle.sle_common.specs.Time.{conditional_time}
 use Rattle.fcltu_pdu.specs.declared.cltu_transfer.CltuTransfer.{CltuTransfer}
 use Rattle.fcltu_pdu.specs.declared.transfer_return.TransferReturn.{TransferReturn as CodeTransferReturn}
 use Rattle.fcltu_pdu.specs.UnsignedLong.{unsigned_long}
-use Rattle.fcltu_pdu.specs.Answer.{confirmation}
 
 abbrev pub wanted_of : ℕ → Bool
 wanted_of zero = true

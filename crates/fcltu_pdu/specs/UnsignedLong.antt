@@ -1,5 +1,5 @@
 -- Numbers of the forward CLTU service (CCSDS 912.1-B, annex A).
-use Rattle.std.proofs.Common.{ℕ, List, [], ◌∷◌, refl}
+use Rattle.std.proofs.Common.{ℕ, [], ◌∷◌, refl}
 use Rattle.ber_shape.specs.Element.{Element}
 use Rattle.sle_common.specs.Natural.{natural}
 

@@ -11,7 +11,6 @@ mod cltu_report;
 mod cltu_start;
 mod cltu_start_return;
 mod cltu_transfer;
-mod confirmation;
 mod last_ok;
 mod last_processed;
 pub mod laws;

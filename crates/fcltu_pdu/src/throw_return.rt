@@ -1,8 +1,7 @@
-use crate::confirmation::Confirmation;
 use crate::unsigned_long::UnsignedLong;
 use ber_core::{BerFault, Reader, Writer};
 use ber_shape::{Element, Members, Pdu};
-use sle_common::{Credentials, Diagnostic, InvokeId};
+use sle_common::{Confirmation, Credentials, Diagnostic, InvokeId};
 
 /// The return of THROW-EVENT (CCSDS 912.1-B, annex A): a SEQUENCE under the context tag 9.
 #[derive(Clone, Copy, Debug, PartialEq, Eq)]

@@ -1,8 +1,7 @@
-use crate::confirmation::Confirmation;
 use crate::unsigned_long::UnsignedLong;
 use ber_core::{BerFault, Reader, Writer};
 use ber_shape::{Element, Members, Pdu};
-use sle_common::{Credentials, Diagnostic, InvokeId, Number};
+use sle_common::{Confirmation, Credentials, Diagnostic, InvokeId, Number};
 
 /// The return of TRANSFER-DATA (CCSDS 912.1-B, annex A): a SEQUENCE under the context tag 11.
 #[derive(Clone, Copy, Debug, PartialEq, Eq)]

@@ -89,7 +89,7 @@ delivered laws s = λ latency moments.
 
 pub read_of : Laws → (s : Start) → IsReadOf s
 read_of laws s =
-    start_readable laws.short laws.named laws.spells laws.cuts s.start s.stop s.quality (entries_at s) (is_closed (archive_at s) (moment s.stop)) (at_line laws s) (fits_lines [] s.earlier tt)
+    start_readable laws.short laws.plain laws.ended laws.exact laws.spells laws.cuts s.start s.stop s.quality (entries_at s) (is_closed (archive_at s) (moment s.stop)) (at_line laws s) (fits_lines [] s.earlier tt)
     (laws.holds 2 (picked (archive_at s) (selection s.start s.stop s.quality)) (is_closed (archive_at s) (moment s.stop)))
 
 pub streamed : Laws → (s : Start) → IsStreamed s

@@ -4,16 +4,19 @@ use Rattle.std.proofs.lemmas.Bool.{and_parts, leb-true}
 use Rattle.std.proofs.lemmas.Int.{ints}
 use Rattle.std.proofs.lemmas.List.Elements.{All-get_or}
 use Rattle.std.specs.List.{AllByRecursion, flat_map}
-use Rattle.ber_core.specs.Length.{IsOctets, shortest_length}
+use Rattle.ber_core.specs.Length.{shortest_length}
 use Rattle.ber_core.specs.Parts.{length-constructed, spelled-trees, few-shortest_length}
 use Rattle.ber_core.specs.Spelling.{element, canonical, canonical_all, Spells, CanonicalSpells}
-use Rattle.ber_core.specs.Tree.{Tree, trees}
+use Rattle.ber_core.specs.Tree.{Tree, Trees, constructed, tree_and, trees}
+use Rattle.ber_shape.specs.List.{each_tree}
 use Rattle.isp1_tml.specs.Message.{IsMessage}
 use Rattle.return_pdu.specs.Items as pdu
 use Rattle.return_pdu.specs.Items.{frame_of, transfer_buffer, buffer_tag}
 use Rattle.return_pdu.specs.Fields.{IsFrame}
-use Rattle.return_pdu.specs.Buffers as said
-use Rattle.return_pdu.specs.Buffers.{FrameFits, AreItems, FramesAreShort, SpellingNamesItems}
+use Rattle.return_pdu.specs.declared.service.Service.TheVariants.{Raf}
+use Rattle.return_pdu.specs.TransferItem as said
+use Rattle.return_pdu.specs.TransferItem.{raf_item, BuffersAreExact}
+use Rattle.return_pdu.specs.Plain.{FramesArePlain, EndIsPlain, FramesAreShort}
 use Rattle.archive_terms.specs.Archive.{frame, loss_of_sync, production, seal, is_moment, is_storable, is_archive}
 use Rattle.archive_terms.specs.Archive as terms
 use Rattle.archive_terms.specs.Selection.{is_picked}
@@ -26,7 +29,7 @@ use Rattle.provider_cli.specs.declared.entry.Entry.TheVariants.{Frame, Seal}
 use Rattle.provider_cli.specs.Entries.{entry_of, archive_of}
 use Rattle.provider_cli.specs.Transcript.{selection, item_tree, buffer_message}
 use Rattle.provider_cli.specs.Laws.{CutsAreBuffers}
-use Rattle.provider_cli.specs.Readable.{IsReadable, AreReadable}
+use Rattle.provider_cli.specs.Readable.{item_said, IsReadable, AreReadable}
 use Rattle.provider_cli.specs.Headline.{items_in}
 use Rattle.provider_cli.proofs.Each.{each_joined, each_taken, each_split, each_filtered, each_at}
 use Rattle.provider_cli.proofs.Fitting.{AllFit}
@@ -38,8 +41,6 @@ use Rattle.provider_cli.proofs.Pass.{picks, first_storable}
 record MayStand (f : terms.Frame) : Type 0 where
   storable : is_storable (frame f) ≡ true
   ert : FieldsFit f.ert
-  antenna : IsOctets f.antenna
-  octets : IsOctets f.octets
 
 -- an offline delivery hands over frames and the end of data
 abbrev IsOffline : Item → Type 0
@@ -64,7 +65,7 @@ picks_are start stop quality entries n (Seal at ∷ rest) archive fits =
 picks_are start stop quality entries n (Frame ert found antenna lost octets ∷ rest) archive fits =
     let parts = first_storable (entry_of (Frame ert found antenna lost octets)) (archive_of rest) archive in
     one_picked n (entry_of (Frame ert found antenna lost octets)) (picks start stop quality entries (n + 1) rest)
-    (record { storable = parts.0; ert = fits.0.0; antenna = fits.0.1; octets = fits.0.2 })
+    (record { storable = parts.0; ert = fits.0.0 })
     (picks_are start stop quality entries (n + 1) rest parts.1 fits.1)
     (is_picked (selection start stop quality) (archive_of entries) n (entry_of (Frame ert found antenna lost octets)))
 
@@ -91,10 +92,13 @@ abbrev most_octets : ℕ
 most_octets = 65836
 
 record Said (archive : List terms.Entry) (before : Option ℕ) (buffer : List Item) : Type 0 where
-  items : List said.Item
-  fit : AreItems items
-  are : map said.item_tree items ≡ map item_tree (told_items archive before buffer)
-  small : length (flat_map canonical (map said.item_tree items)) ≤ most_octets * length buffer
+  fit : AllByRecursion raf_item.Fits (map item_said (told_items archive before buffer))
+  are : each_tree raf_item.tree (map item_said (told_items archive before buffer)) ≡ trees (map item_tree (told_items archive before buffer))
+  count : length (map item_said (told_items archive before buffer)) ≡ length buffer
+  small : length (flat_map canonical (map item_tree (told_items archive before buffer))) ≤ most_octets * length buffer
+
+both_same : {t u : Tree} {ts us : Trees} → t ≡ u → ts ≡ us → tree_and t ts ≡ tree_and u us
+both_same same others = rw (same, others) refl
 
 continuity_in_range : (entries : List terms.Entry) (before : Option ℕ) (place : ℕ) → (negsuc 0 ≤ℤ continuity entries before place) × (continuity entries before place ≤ℤ pos 16777215)
 continuity_in_range entries None place = (grind (arith, ints), grind (arith, ints))
@@ -135,54 +139,58 @@ one_more : (tree : Tree) (others : List Tree) (n : ℕ) → length (canonical tr
     → length (flat_map canonical (tree ∷ others)) ≤ most_octets * suc n
 one_more tree others n small rest = omega (arith, length-append (canonical tree) (flat_map canonical others), small, rest)
 
-say : FramesAreShort → (archive : List terms.Entry) (before : Option ℕ) (buffer : List Item) → AreOffline buffer → Said archive before buffer
-say short archive before [] all = record { items = []; fit = tt; are = refl; small = omega arith }
-say short archive before (backlog ∷ buffer) all = absurd all.0
-say short archive before (archived place (loss_of_sync l) ∷ buffer) all = absurd all.0
-say short archive before (archived place (production n) ∷ buffer) all = absurd all.0
-say short archive before (archived place (seal t) ∷ buffer) all = absurd all.0
-say short archive before (end_of_data ∷ buffer) all =
-    let rest = say short archive before buffer all.1 in
-    record {
-      items = said.end_item ∷ rest.items;
-      fit = (tt, rest.fit);
-      are = ap (λ ts. pdu.end_of_data ∷ ts) rest.are;
-      small = one_more pdu.end_of_data (map said.item_tree rest.items) (length buffer) end_small rest.small;
-    }
-say short archive before (archived place (frame f) ∷ buffer) all =
-    let stands : MayStand f = all.0 in
-    let rest = say short archive (Some place) buffer all.1 in
-    let shown = frame_of f.ert f.antenna (continuity archive before place) f.quality f.octets in
-    let ranges = frame_in_range archive before place f stands.storable in
-    record {
-      items = said.frame_item shown ∷ rest.items;
-      fit = (record { ranges = ranges; ert = stands.ert; antenna = stands.antenna; octets = stands.octets }, rest.fit);
-      are = ap (λ ts. pdu.frame shown ∷ ts) rest.are;
-      small = one_more (pdu.frame shown) (map said.item_tree rest.items) (length buffer) (omega (arith, short shown ranges, ranges.octets_fit)) rest.small;
-    }
+module _ (short : FramesAreShort) (plain : FramesArePlain) (ended : EndIsPlain) where
+  say : (archive : List terms.Entry) (before : Option ℕ) (buffer : List Item) → AreOffline buffer → Said archive before buffer
+  say archive before [] all = record { fit = tt; are = refl; count = refl; small = omega arith }
+  say archive before (backlog ∷ buffer) all = absurd all.0
+  say archive before (archived place (loss_of_sync l) ∷ buffer) all = absurd all.0
+  say archive before (archived place (production n) ∷ buffer) all = absurd all.0
+  say archive before (archived place (seal t) ∷ buffer) all = absurd all.0
+  say archive before (end_of_data ∷ buffer) all =
+      let rest = say archive before buffer all.1 in
+      record {
+        fit = (ended.fits, rest.fit);
+        are = both_same ended.tree rest.are;
+        count = ap suc rest.count;
+        small = one_more pdu.end_of_data (map item_tree (told_items archive before buffer)) (length buffer) end_small rest.small;
+      }
+  say archive before (archived place (frame f) ∷ buffer) all =
+      let stands : MayStand f = all.0 in
+      let rest = say archive (Some place) buffer all.1 in
+      let shown = frame_of f.ert f.antenna (continuity archive before place) f.quality f.octets in
+      let ranges = frame_in_range archive before place f stands.storable in
+      let is = plain shown ranges stands.ert in
+      record {
+        fit = (is.fits, rest.fit);
+        are = both_same is.tree rest.are;
+        count = ap suc rest.count;
+        small = one_more (pdu.frame shown) (map item_tree (told_items archive (Some place) buffer)) (length buffer) (omega (arith, short shown ranges, ranges.octets_fit)) rest.small;
+      }
 
 buffer_small : (members : List Tree) (n : ℕ) → length (flat_map canonical members) ≤ n → length (canonical (transfer_buffer members)) ≤ n + 10
 buffer_small members n small =
     let content = length (canonical_all (trees members)) in
     omega (arith, length-constructed buffer_tag (trees members), ap length (spelled-trees members), few-shortest_length content, small)
 
-module _ (short : FramesAreShort) (named : SpellingNamesItems) (spells : CanonicalSpells) where
+module _ (short : FramesAreShort) (plain : FramesArePlain) (ended : EndIsPlain) (exact : BuffersAreExact) (spells : CanonicalSpells) where
   buffer_readable : (archive : List terms.Entry) (before : Option ℕ) (buffer : List Item) → AreOffline buffer → HasFew buffer
       → IsReadable (told_items archive before buffer)
   buffer_readable archive before buffer all few =
       let members = map item_tree (told_items archive before buffer) in
-      let s = say short archive before buffer all in
-      let small : length (flat_map canonical members) ≤ 131672 = subst (λ ts. length (flat_map canonical ts) ≤ 131672) s.are (omega (arith, s.small, few)) in
+      let items = map item_said (told_items archive before buffer) in
+      let s = say short plain ended archive before buffer all in
+      let small : length (flat_map canonical members) ≤ 131672 = omega (arith, s.small, few) in
       let fits : length (canonical (transfer_buffer members)) ≤ 131682 = buffer_small members 131672 small in
-      let spelled : Spells (said.buffer_of s.items) (canonical (transfer_buffer members))
-      = subst (λ ts. Spells (transfer_buffer ts) (canonical (transfer_buffer members))) (sym s.are) (spells (transfer_buffer members) (omega (arith, fits))) in
+      let fit : (said.buffer Raf).Fits items = record { few = omega (arith, s.count, few); each = s.fit } in
+      let same : (said.buffer Raf).tree items ≡ transfer_buffer members = ap (λ ts. constructed buffer_tag ts) s.are in
+      let spelled : Spells ((said.buffer Raf).tree items) (canonical (transfer_buffer members))
+      = subst (λ t. Spells t (canonical (transfer_buffer members))) (sym same) (spells (transfer_buffer members) (omega (arith, fits))) in
       record {
-        items = s.items;
-        fit = s.fit;
-        are = s.are;
         fits = omega (arith, fits);
+        read = exact.again Raf items (canonical (transfer_buffer members)) fit spelled;
+        fit = fit;
         spelled = spelled;
-        no_others = λ others fit e. named others s.items (canonical (transfer_buffer members)) fit s.fit e spelled;
+        no_others = λ others other_fit e. exact.one Raf (canonical (transfer_buffer members)) others items other_fit fit e spelled;
       }
 
   buffers_readable : (archive : List terms.Entry) (before : Option ℕ) (buffers : List (List Item)) → AllByRecursion AreOffline buffers → AllByRecursion HasFew buffers

@@ -4,7 +4,8 @@ use Rattle.std.specs.List.{All, AllByRecursion, list_any, flat_map}
 use Rattle.ber_core.specs.Spelling.{CanonicalSpells}
 use Rattle.isp1_tml.specs.Message.{Content, IsMessage, spellings}
 use Rattle.isp1_tml.specs.Stream.{IsStream}
-use Rattle.return_pdu.specs.Buffers.{FramesAreShort, SpellingNamesItems}
+use Rattle.return_pdu.specs.TransferItem.{BuffersAreExact}
+use Rattle.return_pdu.specs.Plain.{FramesArePlain, EndIsPlain, FramesAreShort}
 use Rattle.archive_terms.specs.Archive.{Entry, is_archive, IsArchive, may_follow}
 use Rattle.archive_terms.specs.Selection.{Selection, picked, is_stop_closed}
 use Rattle.archive_terms.specs.Delivery.{Item, Terms, is_online, started, entries_of, archived_items, all_items, end_of_data, is_end_of_data, IsBuffer, cut, offline_buffers}
@@ -31,6 +32,8 @@ pub record Laws : Type 0 where
       told_buffers (a ++ b) None buffers ≡ told_buffers a None buffers
   pub cuts : CutsAreBuffers
   pub short : FramesAreShort
-  pub named : SpellingNamesItems
+  pub plain : FramesArePlain
+  pub ended : EndIsPlain
+  pub exact : BuffersAreExact
   pub spells : CanonicalSpells
   pub streams : (place : ℕ) (messages : List Content) → AllByRecursion IsMessage messages → IsStream place (spellings messages) messages [] None

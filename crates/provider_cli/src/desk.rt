@@ -9,6 +9,8 @@ ghost use Rattle.ber_core.specs.Spelling.{canonical};
 ghost use Rattle.isp1_tml.specs.Message.{header};
 ghost use Rattle.return_pdu.specs.Items.{frame, end_of_data, buffer_start};
 ghost use Rattle.return_pdu.specs.Fields.{IsFrame};
+ghost use Rattle.return_pdu.specs.TransferItem.{ItemFits, item_tree};
+ghost use Rattle.return_pdu.specs.Seen.{item_of};
 ghost use Rattle.provider_cli.specs.Entries.{entry_of};
 ghost use Rattle.provider_cli.specs.Output.{Wrote};
 ghost use Rattle.provider_cli.specs.Desk.{wants, gap_after, picked_of, frame_in};
@@ -23,7 +25,7 @@ use cds_time::Cds;
 use isp1_tml::head;
 use octet_core::Sink;
 use return_pdu::laws::buffer_is_head_and_items;
-use return_pdu::{buffer_head, buffer_length, raf_end_of_data, raf_frame, raf_frame_length};
+use return_pdu::{TransferItem, buffer_head, buffer_length};
 use std::alloc::Global;
 
 // The kind of a transport message that is a PDU.
@@ -58,13 +60,14 @@ pub struct Picked<'a> {
     octets: &'a [u8],
 }
 
-impl Picked<'_> {
-    fn length(&self) -> usize
+impl<'a> Picked<'a> {
+    fn item(&self) -> TransferItem<'a>
         requires { IsFrame (frame_in self.now) }
-        ensures exact { result ≡ length (canonical (frame (frame_in self.now))) }
-        ensures small { result < 2 ^ 20 }
+        ensures fits { ItemFits (item_of result) }
+        ensures tree { item_tree (item_of result) ≡ frame (frame_in self.now) }
+        ensures small { length (canonical (frame (frame_in self.now))) < 2 ^ 20 }
     {
-        raf_frame_length(
+        TransferItem::plain_frame(
             self.ert,
             self.antenna,
             self.continuity,
@@ -73,20 +76,23 @@ impl Picked<'_> {
         )
     }
 
+    fn length(&self) -> usize
+        requires { IsFrame (frame_in self.now) }
+        ensures exact { result ≡ length (canonical (frame (frame_in self.now))) }
+        ensures small { result < 2 ^ 20 }
+    {
+        let item = self.item();
+        item.length()
+    }
+
     fn put(&self, writer: &mut Writer)
         requires fields { IsFrame (frame_in self.now) }
         requires fits { length (canonical (frame (frame_in self.now))) ≤ writer.old.room }
         ensures octets { writer.new.octets ≡ writer.old.octets ++ canonical (frame (frame_in self.now)) }
         ensures room { writer.new.room + length (canonical (frame (frame_in self.now))) ≡ writer.old.room }
     {
-        raf_frame(
-            self.ert,
-            self.antenna,
-            self.continuity,
-            self.quality,
-            self.octets,
-            writer,
-        );
+        let item = self.item();
+        item.encode(writer);
     }
 }
 
@@ -214,8 +220,9 @@ fn send_end<O: Sink>(alloc: Global, output: &mut O) -> Result<(), Stop>
         (sent_buffer (end_of_data ∷ [])) result }
 {
     buffer_is_head_and_items();
+    let end = TransferItem::plain_end_of_data();
     let mut writer = begin_message(alloc, 6)?;
-    raf_end_of_data(&mut writer);
+    end.encode(&mut writer);
     put_sent(alloc, writer.octets(), output)
 }
 

@@ -25,7 +25,7 @@ use archive_terms::laws::{
 use ber_core::laws::canonical_spells;
 use isp1_tml::laws::spelled_is_read;
 use octet_core::{Sink, Source};
-use return_pdu::laws::{frames_are_short, spelling_names_items};
+use return_pdu::laws::{buffers_are_exact, end_is_plain, frames_are_plain, frames_are_short};
 use std::alloc::{AllocError, Global};
 
 /// The most octets that a script may have.
@@ -91,7 +91,9 @@ fn laws()
     continuity_stays();
     cut_into_buffers();
     frames_are_short();
-    spelling_names_items();
+    frames_are_plain();
+    end_is_plain();
+    buffers_are_exact();
     canonical_spells();
     spelled_is_read();
 }

@@ -21,7 +21,7 @@ use ber_core::Writer;
 use cds_time::Cds;
 use isp1_tml::head;
 use return_pdu::laws::buffer_is_head_and_items;
-use return_pdu::{buffer_head, buffer_length, raf_end_of_data, raf_frame, raf_frame_length};
+use return_pdu::{TransferItem, buffer_head, buffer_length};
 use std::alloc::{AllocError, Global};
 
 /// The text that is written for a START of the desk.
@@ -207,8 +207,9 @@ fn put_end(alloc: Global, text: &mut Vec<u8>) -> Result<(), AllocError>
     ensures { OnOk result (text.new.items ≡ text.old.items ++ sent_buffer (end_of_data ∷ [])) }
 {
     buffer_is_head_and_items();
+    let end = TransferItem::plain_end_of_data();
     let mut items = writer(alloc, 6)?;
-    raf_end_of_data(&mut items);
+    end.encode(&mut items);
     put_buffer(alloc, items.octets(), text)
 }
 
@@ -253,9 +254,9 @@ fn entry_octets(
     let continuity = continuity(entries, before, place);
     let antenna = antenna.as_slice();
     let octets = octets.as_slice();
-    let room = raf_frame_length(*ert, antenna, continuity, *quality, octets);
-    let mut writer = writer(alloc, room)?;
-    raf_frame(*ert, antenna, continuity, *quality, octets, &mut writer);
+    let item = TransferItem::plain_frame(*ert, antenna, continuity, *quality, octets);
+    let mut writer = writer(alloc, item.length())?;
+    item.encode(&mut writer);
     Vec::from_slice(alloc, writer.octets())
 }
 

@@ -1,2 +1,3 @@
 pub mod Frames
-pub mod Buffers
+pub mod Fitting
+pub mod Plain

@@ -1,3 +1,13 @@
 pub mod Items
 pub mod Fields
-pub mod Buffers
+pub mod Quality
+pub mod Starting
+pub mod Stopping
+pub mod Scheduling
+pub mod Getting
+pub mod Reporting
+pub mod Notification
+pub mod Frames
+pub mod TransferItem
+pub mod Plain
+pub mod Seen

@@ -1,7 +1,57 @@
 use super::*;
-use ber_core::{Writer, element_length};
+use ber_core::{BerFault, Writer};
+use ber_shape::Pdu;
 use cds_time::{Cds, Rest};
+use sle_common::{AntennaId, Channel, Credentials, Diagnostic, Gvcid, Parameter, ReportKind};
+use std::alloc::Global;
+use std::process::Abort;
 use std::test::Fail;
+
+mod buffers;
+mod pdus;
+
+const MIDNIGHT: Cds = Cds {
+    days: 20_000,
+    millis: 0,
+    rest: Rest::Micros(0),
+};
+
+const ONE_SECOND: Cds = Cds {
+    days: 20_000,
+    millis: 1_000,
+    rest: Rest::Micros(0),
+};
+
+const LAST_PICOS: Cds = Cds {
+    days: 65_535,
+    millis: 4_294_967_295,
+    rest: Rest::Picos(4_294_967_295),
+};
+
+fn bad_content(place: usize) -> BerFault {
+    BerFault::BadContent { place }
+}
+
+fn bad_length(place: usize) -> BerFault {
+    BerFault::BadLength { place }
+}
+
+fn wide(place: usize) -> BerFault {
+    BerFault::Wide { place }
+}
+
+fn wrong_tag(place: usize, found: u8) -> BerFault {
+    BerFault::WrongTag { place, found }
+}
+
+// The PDU of these octets, which are its canonical spelling.
+fn both_ways<'a, P: Pdu<'a>>(rt: &impl Abort, alloc: Global, octets: &'a [u8]) -> Result<P, Fail> {
+    let pdu = P::decode(octets)?;
+    let mut writer = Writer::new(alloc, pdu.length())?;
+    pdu.encode(&mut writer);
+    assert_eq!(rt; writer.octets(), octets);
+    Ok(pdu)
+}
 
 fn at(millis: u32) -> Cds {
     Cds {
@@ -19,30 +69,29 @@ const TWO_FRAMES: [u8; 62] = [
 ];
 
 #[test]
-fn a_buffer_of_two_frames(rt: HostRuntime) -> Result<(), Fail> {
+fn a_buffer_of_two_plain_frames(rt: HostRuntime) -> Result<(), Fail> {
     let mut writer = Writer::new(rt.alloc(), 80).ok().ok_or("memory")?;
-    let (first, second) = (at(1_000), at(2_000));
-    let length = raf_frame_length(first, &[0x41], -1, 0, &[0, 0x10, 0xa1]);
-    let other_length = raf_frame_length(second, &[0x41], 0, 0, &[0, 0x10, 0xa2]);
-    assert_eq!(rt; (length, other_length), (30, 30));
-    assert!(rt; element_length(&[0xa8], 60) - 60 <= writer.room());
+    let first = TransferItem::plain_frame(at(1_000), &[0x41], -1, 0, &[0, 0x10, 0xa1]);
+    let second = TransferItem::plain_frame(at(2_000), &[0x41], 0, 0, &[0, 0x10, 0xa2]);
+    assert_eq!(rt; (first.length(), second.length()), (30, 30));
+    assert!(rt; buffer_length(60) - 60 <= writer.room());
     buffer_head(60, &mut writer);
-    assert!(rt; length <= writer.room());
-    raf_frame(first, &[0x41], -1, 0, &[0, 0x10, 0xa1], &mut writer);
-    assert!(rt; other_length <= writer.room());
-    raf_frame(second, &[0x41], 0, 0, &[0, 0x10, 0xa2], &mut writer);
+    assert!(rt; first.length() <= writer.room());
+    first.encode(&mut writer);
+    assert!(rt; second.length() <= writer.room());
+    second.encode(&mut writer);
     assert_eq!(rt; writer.octets(), TWO_FRAMES.as_slice());
     Ok(())
 }
 
 #[test]
-fn the_end_of_data_in_its_buffer(rt: HostRuntime) -> Result<(), Fail> {
+fn the_plain_end_of_data_in_its_buffer(rt: HostRuntime) -> Result<(), Fail> {
     let mut writer = Writer::new(rt.alloc(), 80).ok().ok_or("memory")?;
-    assert!(rt; element_length(&[0xa8], 6) - 6 <= writer.room());
+    let end = TransferItem::plain_end_of_data();
+    assert!(rt; buffer_length(6) - 6 <= writer.room());
     buffer_head(6, &mut writer);
-    let head = writer.octets().len();
-    raf_end_of_data(&mut writer);
-    assert_eq!(rt; head, 2);
+    assert!(rt; end.length() <= writer.room());
+    end.encode(&mut writer);
     assert_eq!(rt;
         writer.octets(),
         [0xa8, 6, 0xa1, 4, 0x80, 0, 0x83, 0].as_slice()

@@ -11,6 +11,7 @@ pub mod Gvcid
 pub mod Antenna
 pub mod Annotation
 pub mod Diagnostic
+pub mod Answer
 pub mod Report
 pub mod Parameter
 pub mod IdentifierOctets

@@ -10,6 +10,7 @@
 mod annotation;
 mod antenna_id;
 mod attribute;
+mod confirmation;
 mod credentials;
 mod diagnostic;
 mod gvcid;
@@ -27,6 +28,7 @@ mod time;
 pub use annotation::Annotation;
 pub use antenna_id::AntennaId;
 pub use attribute::Attribute;
+pub use confirmation::Confirmation;
 pub use credentials::Credentials;
 pub use diagnostic::Diagnostic;
 pub use gvcid::{Channel, Gvcid};

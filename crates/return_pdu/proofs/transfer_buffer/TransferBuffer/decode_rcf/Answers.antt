@@ -1,0 +1,9 @@
+use Rattle.std.proofs.Common.{refl}
+use Rattle.ber_shape.specs.Exact.{decoded}
+use Rattle.return_pdu.specs.declared.service.Service.TheVariants.{Rcf}
+use Rattle.return_pdu.specs.TransferItem.{buffer}
+use Rattle.return_pdu.proofs.transfer_buffer.TransferBuffer.decode_rcf.Goals as goal
+
+pub returns-clause-spelled : goal.returns-clause-spelled
+returns-clause-spelled c =
+    decoded (buffer Rcf) (λ b. b) c.args.octets.now c.read_rcf-decoded.result refl c.slice.ensures c.read_rcf-decoded.ensures

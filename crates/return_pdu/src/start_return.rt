@@ -1,0 +1,66 @@
+use ber_core::{BerFault, Reader, Writer};
+use ber_shape::{Element, Members, Pdu};
+use sle_common::{Confirmation, Credentials, Diagnostic, InvokeId};
+
+/// The return of START (CCSDS 911.1-B, annex A): a SEQUENCE under the context tag 1.
+#[derive(Clone, Copy, Debug, PartialEq, Eq)]
+pub struct StartReturn<'a> {
+    pub credentials: Credentials<'a>,
+    pub invoke: u16,
+    /// That the delivery starts, or why not.
+    pub result: Result<(), Diagnostic>,
+}
+
+impl<'a> Members<'a> for StartReturn<'a> {
+    ghost use Rattle.std.specs.Prelude.{refl};
+    ghost use Rattle.return_pdu.specs.Starting.{StartReturnContent, start_return_fields};
+    ghost use Rattle.return_pdu.specs.Seen.{start_return_of};
+
+    type Value = StartReturn<'a>;
+
+    ghost Seen = { StartReturnContent };
+
+    ghost shape = { start_return_fields };
+
+    ghost is_shallow = { refl };
+
+    ghost seen = { start_return_of };
+
+    fn read(reader: &mut Reader<'a>) -> Result<StartReturn<'a>, BerFault> {
+        Ok(StartReturn {
+            credentials: Credentials::read(reader)?,
+            invoke: InvokeId::read(reader)?,
+            result: Confirmation::read(reader)?,
+        })
+    }
+
+    #[tactic(auto, using(ber_core::specs::Parts::lengths))]
+    fn size(value: &StartReturn<'a>) -> usize {
+        Credentials::size(&value.credentials)
+            + InvokeId::size(&value.invoke)
+            + Confirmation::size(&value.result)
+    }
+
+    #[tactic(auto, unfolding(ber_core::specs::Spelling::canonical))]
+    fn write(value: &StartReturn<'a>, writer: &mut Writer) {
+        Credentials::write(&value.credentials, writer);
+        InvokeId::write(&value.invoke, writer);
+        Confirmation::write(&value.result, writer);
+    }
+}
+
+impl<'a> Pdu<'a> for StartReturn<'a> {
+    ghost use Rattle.std.specs.Prelude.{◌≡◌, refl, [], ◌∷◌};
+
+    ghost tag = { 0xa1 ∷ [] };
+
+    ghost is_tag = { refl };
+
+    ghost is_small = { refl };
+
+    fn identifier() -> &'static [u8]
+        ensures { result.now ≡ 0xa1 ∷ [] }
+    {
+        &[0xa1]
+    }
+}
