@@ -1,0 +1,57 @@
+// A list of entries.
+ghost use Rattle.std.specs.Prelude.{◌≡◌, [], ◌∷◌, ◌++◌, length, OnOk, OnErr};
+ghost use Rattle.record_form.specs.Entry.{entry_of, entries_of};
+
+use crate::{Entry, Memory};
+use std::alloc::Global;
+use std::marker::Model;
+
+/// Entries in order, seen by contracts as the list of them in the archive's terms.
+#[derive(Debug, Drop)]
+pub struct Entries {
+    held: Vec<Entry>,
+}
+
+impl Model for Entries {
+    ghost use Rattle.std.specs.Prelude.{List, vec_items};
+    ghost use Rattle.archive_terms.specs.Archive.{Entry};
+    ghost use Rattle.record_form.specs.Entry.{entries_of};
+
+    ghost Value = { List Entry };
+
+    ghost view = { λ entries. entries_of (vec_items entries.held) };
+}
+
+impl Entries {
+    /// No entries. It takes no memory.
+    pub fn new(alloc: Global) -> Entries
+        ensures { result ≡ [] }
+    {
+        Entries {
+            held: Vec::new(alloc),
+        }
+    }
+
+    /// Puts an entry behind the others.
+    pub fn push(&mut self, entry: Entry) -> Result<(), Memory>
+        ensures ok { OnOk result (self.new ≡ self.old ++ entry_of entry ∷ []) }
+        ensures err { OnErr result (self.new ≡ self.old) }
+    {
+        self.held.push(entry)?;
+        Ok(())
+    }
+
+    /// The entries.
+    pub fn as_slice(&self) -> &[Entry]
+        ensures { entries_of result.now ≡ self.now }
+    {
+        &self.held
+    }
+
+    /// How many there are.
+    pub fn len(&self) -> usize
+        ensures { result ≡ length self.now }
+    {
+        self.held.len()
+    }
+}
