@@ -1,0 +1,13 @@
+pub mod Entries
+pub mod Growth
+pub mod Header
+pub mod Damage
+pub mod Writes
+pub mod Unique
+pub mod Adding
+pub mod Storable
+pub mod Journals
+pub mod Creating
+pub mod Passing
+pub mod Following
+pub mod Again

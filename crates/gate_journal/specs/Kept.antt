@@ -1,0 +1,70 @@
+-- A journal on a disk: what is kept there, and what its calls make.
+use Rattle.std.specs.Prelude.{ℕ, ◌+◌, ◌≤◌, ◌≡◌, length, ◌⊎◌, Bool, Option, Some, IfSome, IsSomeAnd, List, [], ◌∷◌, ◌++◌}
+use Rattle.archive_terms.specs.Archive.{Entry, IsArchive}
+use Rattle.disk_model.specs.Images.{Pending, all_synced, overwritten}
+use Rattle.disk_model.specs.Moments.{Elapses}
+use Rattle.disk_model.specs.declared.call.Call.{Call}
+use Rattle.disk_model.specs.declared.call.Call.TheVariants.{Write, Sync}
+use Rattle.octet_core.specs.Fault.{Rose}
+use Rattle.gate_journal.specs.declared.fault.JournalFault.{JournalFault}
+use Rattle.gate_journal.specs.declared.fault.JournalFault.TheVariants.{DiskFault}
+use Rattle.gate_journal.specs.File.{header, StandsFor, StandsAt, IsBatch, batch_octets}
+use Rattle.gate_journal.specs.Reading.{Refuses}
+
+-- a disk that tells holds a file that stands for these entries, all synced
+abbrev pub Keeps : Option Pending → List Entry → Type 0
+Keeps pending entries = IsSomeAnd pending (λ told. (told ≡ all_synced told.content) × StandsFor entries told.content)
+
+-- a disk that tells keeps entries, and the gate behind them stands at this place
+abbrev pub IsAtRest : Option Pending → ℕ → Type 0
+IsAtRest pending gate = IfSome pending (λ told. (told ≡ all_synced told.content) × (entries : List Entry) × StandsAt entries gate told.content)
+
+-- nothing but reads: what is pending stays, also where one fails
+pub record OnlyReads {D : Type 0} (pending : D → Option Pending) (moment : D → ℕ) (images_since : D → ℕ → List ℕ → Type 0) (old new : D) : Type 0 where
+  pub same : pending new ≡ pending old
+  pub time : Elapses (moment old) (moment new) (images_since old) (images_since new) (pending new)
+
+-- an image stands for the old entries, or for these and the batch, whole
+abbrev pub IsOldOrNew : List Entry → List Entry → List ℕ → Type 0
+IsOldOrNew entries batch image = StandsFor entries image ⊎ StandsFor (entries ++ batch) image
+
+-- a batch with the next closed gate, as it is written
+abbrev pub closed_batch : List Entry → List ℕ
+closed_batch batch = batch_octets batch ++ 0 ∷ []
+
+-- the counted calls that put octets behind a gate and open it
+abbrev pub appending_octets : ℕ → List ℕ → List Call
+appending_octets gate octets = Write (gate + 1) octets ∷ Sync ∷ Write gate (165 ∷ []) ∷ Sync ∷ []
+
+-- the counted calls that append a batch
+abbrev pub appending : ℕ → List Entry → List Call
+appending gate batch = appending_octets gate (closed_batch batch)
+
+-- what octets become that were written and synced
+abbrev pub written_and_synced : ℕ → List ℕ → Pending → Pending
+written_and_synced place octets told = all_synced (overwritten told.content place octets)
+
+-- a journal on a disk, as contracts see it: the gate behind its batches, and whether an append has failed
+pub record JournalState (D : Type 0) : Type 0 where
+  pub disk : D
+  pub gate : ℕ
+  pub is_stale : Bool
+
+-- These octets are a batch that may be appended to what a disk keeps, with the next closed gate.
+pub record IsReady (pending : Option Pending) (batch : List Entry) (octets : List ℕ) : Type 0 where
+  pub spelled : octets ≡ closed_batch batch
+  pub is_batch : IsBatch batch
+  pub archive : (entries : List Entry) → Keeps pending entries → IsArchive (entries ++ batch)
+
+-- why a disk's file is refused, by what it holds and how often it had failed before and after
+abbrev pub RefusesDisk : JournalFault → Option Pending → ℕ → ℕ → Type 0
+RefusesDisk DiskFault pending before after = Rose before after
+RefusesDisk fault pending before after = IfSome pending (λ told. Refuses fault told.content)
+
+-- the counted calls that make a journal
+abbrev pub creating : List Call
+creating = Write 0 (header ++ 0 ∷ []) ∷ Sync ∷ []
+
+-- at most as long as a new journal
+abbrev pub IsShort : List ℕ → Type 0
+IsShort image = length image ≤ 9

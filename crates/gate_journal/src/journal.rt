@@ -1,0 +1,275 @@
+// A journal on a disk.
+ghost use Rattle.std.specs.Prelude.{◌≡◌, ◌≢◌, ◌+◌, ◌-◌, ◌*◌, ◌<◌, ◌≤◌, ◌^◌, ◌++◌, ◌⊎◌, ℕ, true, false, List, length, max, [], ◌∷◌, Some, option_map, IfSome, IsTrue, OnOk, OnErr, IfOk, IfErr, IsOk, IsErrOf, Ok, Err};
+ghost use Rattle.std.specs.List.{list_all};
+ghost use Rattle.octet_core.specs.Fault.{FailsOnlyByFault, Rose};
+ghost use Rattle.archive_terms.specs.Archive.{Entry, IsArchive, is_storable};
+ghost use Rattle.disk_model.specs.Images.{with_range, all_synced};
+ghost use Rattle.disk_model.specs.Moments.{IsImageOf, HoldsThroughout};
+ghost use Rattle.disk_model.specs.Calls.{AllMade, FailedAtOne, RunsCalls};
+ghost use Rattle.disk_model.specs.MemoryDisk.{steered};
+ghost use Rattle.disk_model.specs.declared.call.Call.TheVariants.{Write, Sync};
+ghost use Rattle.gate_journal.specs.File.{StandsFor, StandsAt, entries_octets};
+ghost use Rattle.gate_journal.specs.Kept.{Keeps, IsAtRest, IsOldOrNew, IsReady, IsShort, OnlyReads, RefusesDisk, appending, appending_octets, creating, written_and_synced};
+ghost use Rattle.gate_journal.specs.declared.fault.JournalFault.TheVariants as JournalFault;
+
+use crate::JournalFault;
+use crate::loading::{HEADER, OPEN, load};
+use crate::writing::{entries_length, write_batch};
+use disk_model::{Disk, MemoryDisk, Orders};
+use octet_core::{Failed, Octets};
+use record_form::Entries;
+use std::alloc::Global;
+use std::marker::Model;
+
+// The header, and a closed gate.
+const NEW_FILE: [u8; 9] = *b"SLEA\x00\x00\x00\x01\x00";
+
+/// A journal of entries on a disk: batches, each behind an open gate (A5), and then a gate that
+/// isn't open. Anything may follow that one.
+#[derive(Drop)]
+pub struct Journal<D: Disk> {
+    disk: D,
+    // Where the gate behind the batches stands.
+    gate: u64,
+    is_stale: bool,
+    // Where a batch's octets are put together.
+    batch: Octets,
+}
+
+impl<D: Disk> Model for Journal<D> {
+    ghost use Rattle.std.specs.Prelude.{◌≡◌, ◌+◌, ◌^◌, ◌<◌, false};
+    ghost use Rattle.gate_journal.specs.Kept.{JournalState, IsAtRest};
+
+    ghost Value = { JournalState D };
+
+    ghost view = { λ journal. record {
+      disk = journal.disk;
+      gate = journal.gate;
+      is_stale = journal.is_stale;
+    } };
+
+    ghost invariant = { λ journal. (journal.gate + 1 < 2 ^ 64)
+        × (journal.is_stale ≡ false → (journal.gate < D.extent journal.disk)
+        × IsAtRest (D.pending journal.disk) journal.gate) };
+}
+
+impl<D: Disk> Journal<D> {
+    /// A journal of no entries on an empty disk. It costs one write and one sync. A refusal hands the
+    /// disk back; after a fault of the disk the file may hold a part of the header.
+    pub fn create(alloc: Global, mut disk: D) -> Result<Journal<D>, (JournalFault, D)>
+        ensures keeps { IfOk result (λ journal. IfSome (D.pending disk) (λ _. Keeps
+            (D.pending journal.disk) [])) }
+        ensures gate { IfOk result (λ journal. journal.gate ≡ 8) }
+        ensures fresh { IfOk result (λ journal. journal.is_stale ≡ false) }
+        ensures any_moment { IfOk result (λ journal. IfSome (D.pending disk)
+            (λ told. told.greatest ≤ 9) → HoldsThroughout D.moment D.images_since disk journal.disk
+            IsShort) }
+        ensures any_moment_refused { IfErr result (λ fault. IfSome (D.pending disk)
+            (λ told. told.greatest ≤ 9) → HoldsThroughout D.moment D.images_since disk fault.1
+            IsShort) }
+        ensures calls { IfOk result (λ journal. AllMade D.makes disk creating journal.disk) }
+        ensures occupied { 0 < D.extent disk
+            → result ≡ Err (JournalFault.NotJournal 0, disk) }
+        ensures cause { IfErr result (λ fault. D.extent disk ≡ 0
+            → (fault.0 ≡ JournalFault.DiskFault) × Rose (D.faults disk) (D.faults fault.1)) }
+    {
+        disk_model::laws::images_at_a_moment::<D>();
+        if disk.size() > 0 {
+            return Err((JournalFault::NotJournal { place: 0 }, disk));
+        }
+        if write_synced(&mut disk, 0, &NEW_FILE).is_err() {
+            return Err((JournalFault::DiskFault, disk));
+        }
+        Ok(Journal {
+            disk,
+            gate: HEADER.len() as u64,
+            is_stale: false,
+            batch: Octets::new(alloc),
+        })
+    }
+
+    /// The journal of the file of a disk, and the entries that it stands for, whatever calls failed
+    /// or stopped there before: the disk is synced, and then read. A refusal hands the disk back.
+    pub fn recover(alloc: Global, mut disk: D) -> Result<(Journal<D>, Entries), (JournalFault, D)>
+        ensures stands { IfOk result (λ read. IfSome (D.pending disk)
+            (λ pending. StandsAt read.1 read.0.gate pending.content)) }
+        ensures keeps { IfOk result (λ read. IfSome (D.pending disk) (λ _. Keeps
+            (D.pending read.0.disk) read.1)) }
+        ensures fresh { IfOk result (λ read. read.0.is_stale ≡ false) }
+        ensures any_moment { IfOk result (λ read. HoldsThroughout D.moment D.images_since disk
+            read.0.disk (IsImageOf (D.pending disk))) }
+        ensures any_moment_refused { IfErr result (λ fault. HoldsThroughout D.moment D.images_since
+            disk fault.1 (IsImageOf (D.pending disk))) }
+        ensures calls { IfOk result (λ read. AllMade D.makes disk (Sync ∷ []) read.0.disk) }
+        ensures refused { IfErr result (λ fault. RefusesDisk fault.0 (D.pending disk) (D.faults disk)
+            (D.faults fault.1)) }
+    {
+        if disk.sync().is_err() {
+            return Err((JournalFault::DiskFault, disk));
+        }
+        match read_all(alloc, &mut disk) {
+            Ok((entries, gate)) => {
+                let journal = Journal {
+                    disk,
+                    gate,
+                    is_stale: false,
+                    batch: Octets::new(alloc),
+                };
+                Ok((journal, entries))
+            }
+            Err(fault) => Err((fault, disk)),
+        }
+    }
+
+    /// Appends a batch of 1 to 256 entries, in four calls of the disk, where with it and the gate
+    /// behind it the file has at most `capacity` octets. After `DiskFault` the file may hold it or
+    /// not: then each call answers `Stale` and leaves the disk alone, until it is recovered.
+    pub fn append(&mut self, batch: &Entries, capacity: u64) -> Result<(), JournalFault>
+        requires some { 1 ≤ length batch.now }
+        requires most { length batch.now ≤ 256 }
+        requires storable { IsTrue (list_all is_storable batch.now) }
+        requires archive { (entries : List Entry) → Keeps (D.pending self.old.disk) entries
+            → IsArchive (entries ++ batch.now) }
+        requires capacity { capacity ≤ 268435456 }
+        ensures appended { OnOk result ((entries : List Entry) → Keeps (D.pending self.old.disk) entries
+            → Keeps (D.pending self.new.disk) (entries ++ batch.now)) }
+        ensures gate { OnOk result (self.new.gate ≡ self.old.gate + (length (entries_octets batch.now) + 7)) }
+        ensures any_moment { (entries : List Entry) → Keeps (D.pending self.old.disk) entries
+            → HoldsThroughout D.moment D.images_since self.old.disk self.new.disk
+            (IsOldOrNew entries batch.now) }
+        ensures calls { OnOk result (AllMade D.makes self.old.disk
+            (appending self.old.gate batch.now) self.new.disk) }
+        ensures failed { IsErrOf result JournalFault.DiskFault → FailedAtOne D.makes D.fails
+            self.old.disk (appending self.old.gate batch.now) self.new.disk }
+        ensures cause { IsErrOf result JournalFault.DiskFault → Rose (D.faults self.old.disk)
+            (D.faults self.new.disk) }
+        ensures stale { IsErrOf result JournalFault.DiskFault → self.new.is_stale ≡ true }
+        ensures fresh { OnOk result (self.new.is_stale ≡ false) }
+        ensures stays_stale { self.old.is_stale ≡ true → (result ≡ Err JournalFault.Stale) ×
+            (self.new ≡ self.old) }
+        ensures full { self.old.is_stale ≡ false
+            → capacity - (self.old.gate + 1) < length (entries_octets batch.now) + 7
+            → (result ≡ Err (JournalFault.Full (length (entries_octets batch.now) + 7) (capacity - (self.old.gate + 1)))) × (self.new ≡ self.old) }
+        ensures memory { IsErrOf result JournalFault.Memory → self.new ≡ self.old }
+        ensures fault { self.old.is_stale ≡ false
+            → length (entries_octets batch.now) + 7 ≤ capacity - (self.old.gate + 1)
+            → IsOk result ⊎ IsErrOf result JournalFault.DiskFault ⊎ IsErrOf result JournalFault.Memory }
+    {
+        disk_model::laws::images_at_a_moment::<D>();
+        record_form::laws::read_back();
+        if self.is_stale {
+            return Err(JournalFault::Stale);
+        }
+        let size = entries_length(batch.as_slice());
+        let need = size + 7;
+        let free = capacity.saturating_sub(self.used());
+        if free < need {
+            return Err(JournalFault::Full { need, free });
+        }
+        self.batch.clear();
+        write_batch(batch.as_slice(), size, &mut self.batch)?;
+        self.is_stale = true;
+        put(&mut self.disk, self.gate, self.batch.as_slice())?;
+        self.gate += need;
+        self.is_stale = false;
+        Ok(())
+    }
+
+    /// How many octets of the file are used: those up to the gate behind the batches, and that one.
+    pub fn used(&self) -> u64
+        ensures { result ≡ self.now.gate + 1 }
+    {
+        self.gate + 1
+    }
+
+    /// The disk, to be looked at.
+    pub fn disk(&self) -> &D
+        ensures { result.now ≡ self.now.disk }
+    {
+        &self.disk
+    }
+
+    /// Hands the disk back as it is.
+    pub fn into_disk(self) -> D
+        ensures { result ≡ self.disk }
+    {
+        self.disk
+    }
+}
+
+impl Journal<MemoryDisk> {
+    /// Steers the disk in memory, and changes nothing else.
+    pub fn steer(&mut self, orders: Orders)
+        ensures { self.new ≡ record self.old { disk = steered self.old.disk orders } }
+    {
+        self.disk.steer(orders);
+    }
+}
+
+// Puts a batch behind those of a disk at rest, whose gate stands at this place.
+fn put<D: Disk>(disk: &mut D, gate: u64, octets: &[u8]) -> Result<(), Failed>
+    requires at_rest { IsAtRest (D.pending disk.old) gate }
+    requires size { gate < D.extent disk.old }
+    requires room { gate + 1 + length octets.now < 2 ^ 64 }
+    ensures added { OnOk result ((batch : List Entry) → IsReady (D.pending disk.old) batch octets.now → (entries : List Entry) → Keeps (D.pending disk.old) entries → Keeps
+        (D.pending disk.new) (entries ++ batch)) }
+    ensures at_rest { OnOk result ((batch : List Entry) → IsReady (D.pending disk.old) batch octets.now → IsAtRest (D.pending disk.new) (gate + length octets.now)) }
+    ensures size { OnOk result (gate + length octets.now < D.extent disk.new) }
+    ensures any_moment { (batch : List Entry) → IsReady (D.pending disk.old) batch octets.now → (entries : List Entry) → Keeps (D.pending disk.old) entries
+        → HoldsThroughout D.moment D.images_since disk.old disk.new (IsOldOrNew entries batch) }
+    ensures calls { RunsCalls D.makes D.fails disk.old (appending_octets gate octets.now) disk.new result }
+    ensures cause { FailsOnlyByFault (D.faults disk.old) (D.faults disk.new) result }
+{
+    record_form::laws::read_back();
+    write_synced(disk, gate + 1, octets)?;
+    write_synced(disk, gate, &[OPEN])
+}
+
+// Writes octets and syncs them. At every moment each image is an old one, but for the range.
+fn write_synced<D: Disk>(disk: &mut D, place: u64, octets: &[u8]) -> Result<(), Failed>
+    requires { place ≤ D.extent disk.old }
+    ensures written { OnOk result (D.pending disk.new ≡ option_map
+        (written_and_synced place octets.now) (D.pending disk.old)) }
+    ensures size { OnOk result (D.extent disk.new ≡ max (D.extent disk.old)
+        (place + length octets.now)) }
+    ensures any_moment { HoldsThroughout D.moment D.images_since disk.old disk.new (IsImageOf
+        (option_map (with_range place (length octets.now) []) (D.pending disk.old))) }
+    ensures calls { RunsCalls D.makes D.fails disk.old (Write place octets.now ∷ Sync ∷ []) disk.new
+        result }
+    ensures cause { FailsOnlyByFault (D.faults disk.old) (D.faults disk.new) result }
+{
+    disk_model::laws::a_write_frees_its_range();
+    disk_model::laws::a_sync_leaves_one_image();
+    disk_model::laws::images_at_a_moment::<D>();
+    disk.write_at(place, octets)?;
+    disk.sync()
+}
+
+// Reads the entries that the file stands for, and where the gate behind them stands.
+fn read_all<D: Disk>(alloc: Global, disk: &mut D) -> Result<(Entries, u64), JournalFault>
+    ensures stands { IfOk result (λ read. IfSome (D.pending disk.old)
+        (λ pending. StandsAt read.0 read.1 pending.content)) }
+    ensures within { IfOk result (λ read. read.1 < D.extent disk.old) }
+    ensures fits { IfOk result (λ read. read.1 + 1 < 2 ^ 64) }
+    ensures same { OnOk result (disk.new ≡ disk.old) }
+    ensures reads { OnlyReads D.pending D.moment D.images_since disk.old disk.new }
+    ensures refused { IfErr result (λ fault. RefusesDisk fault (D.pending disk.old) (D.faults disk.old) (D.faults disk.new)) }
+{
+    let file = read_file(alloc, disk)?;
+    load(alloc, &file)
+}
+
+// Reads all octets of the file.
+fn read_file<D: Disk>(alloc: Global, disk: &mut D) -> Result<Vec<u8>, JournalFault>
+    ensures content { IfOk result (λ file. IfSome (D.pending disk.old) (λ told. file.items ≡ told.content)) }
+    ensures size { IfOk result (λ file. length file.items ≡ D.extent disk.old) }
+    ensures same { OnOk result (disk.new ≡ disk.old) }
+    ensures reads { OnlyReads D.pending D.moment D.images_since disk.old disk.new }
+    ensures refused { IfErr result (λ fault. RefusesDisk fault (D.pending disk.old) (D.faults disk.old) (D.faults disk.new)) }
+{
+    disk_model::laws::images_at_a_moment::<D>();
+    let mut file = Vec::new(alloc);
+    file.resize(disk.size() as usize, 0)?;
+    disk.read_at(0, &mut file)?;
+    Ok(file)
+}

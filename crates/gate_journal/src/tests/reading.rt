@@ -1,0 +1,127 @@
+// Files as they are recovered: the first fault of some, and each of many as a second reading has it.
+
+use super::*;
+use std::alloc::Global;
+use std::test::Fail;
+
+// A second batch: a loss of synchronisation, a production status, a frame of one octet with an
+// antenna of two and picoseconds, and a seal at its time.
+const MIXED: &[u8] =
+    b"\xa5\x00\x00\x00\x34\x00\x04\x02\x00\x4e\x20\x00\x00\x07\xd0\x00\x07\x03\x02\x00\x03\x02\x01\x01\x4e\x20\x00\x00\x07\xd0\x00\x00\x00\x07\x02\x02AB\x00\x00\x01\x00\x00\x00\x00\x01\xff\x04\x01\x4e\x20\x00\x00\x07\xd0\x00\x00\x00\x07";
+
+#[test]
+fn a_file_is_recovered_as_its_form_says(rt: HostRuntime) -> Result<(), Fail> {
+    let Ok((journal, entries)) = recover(rt.alloc(), holding(rt.alloc(), FILE)?) else {
+        return Err(Fail::from("refused"));
+    };
+    assert_eq!(rt; journal.used(), 40);
+    let first = frames(rt.alloc(), &[1])?;
+    assert_eq!(rt; entries.as_slice(), first.as_slice());
+    assert_eq!(rt; journal.disk().log().len(), 1);
+    Ok(())
+}
+
+// A file of this many of the octets of `FILE`, and the fault of it.
+#[test]
+fn a_file_that_is_cut_is_refused_at_its_end(rt: HostRuntime) -> Result<(), Fail> {
+    for length in 0..40 {
+        let disk = holding(rt.alloc(), &FILE[..length])?;
+        let place = length as u64;
+        let fault = if length < 8 {
+            JournalFault::NotJournal { place }
+        } else {
+            JournalFault::Damaged { place }
+        };
+        let refused = recover(rt.alloc(), disk).map(|_| ());
+        assert_eq!(rt; refused, Err(fault));
+    }
+    Ok(())
+}
+
+#[test]
+fn the_first_fault_of_a_file_is_named_by_its_place(rt: HostRuntime) -> Result<(), Fail> {
+    let damaged = |place| JournalFault::Damaged { place };
+    let table = [
+        (2, 0x44, JournalFault::NotJournal { place: 2 }),
+        // The stated end lies before and behind that of the entry; no entry; 257 of them.
+        (12, 0x17, damaged(38)),
+        (12, 0x19, damaged(39)),
+        (14, 0, damaged(13)),
+        (13, 1, damaged(13)),
+        // A second entry would begin at the next gate.
+        (14, 2, damaged(39)),
+        (15, 5, damaged(15)),
+        (16, 2, damaged(16)),
+        (25, 3, damaged(25)),
+    ];
+    for (place, value, fault) in table {
+        let mut file = Vec::from_slice(rt.alloc(), FILE)?;
+        if let Some(octet) = file.get_mut(place) {
+            *octet = value;
+        }
+        let refused = recover(rt.alloc(), holding(rt.alloc(), &file)?).map(|_| ());
+        assert_eq!(rt; refused, Err(fault), "octet {place} is {value}");
+    }
+    Ok(())
+}
+
+// A file of two batches, and what may stand behind its gate.
+fn two_batches(alloc: Global) -> Result<Vec<u8>, JournalFault> {
+    let mut file = Vec::from_slice(alloc, &FILE[..39])?;
+    file.extend_from_slice(MIXED)?;
+    file.extend_from_slice(b"\x00\xa5\x00")?;
+    Ok(file)
+}
+
+// Whether a file is recovered as the second reading has it.
+fn is_read_plainly(alloc: Global, file: &[u8]) -> Result<bool, JournalFault> {
+    let found = recover(alloc, holding(alloc, file)?);
+    Ok(match (found, plain::read(alloc, file)) {
+        (Ok((journal, entries)), Ok((others, used))) => {
+            journal.used() == used && entries.as_slice() == others.as_slice()
+        }
+        (Err(fault), Err(other)) => fault == other,
+        _ => false,
+    })
+}
+
+#[test]
+fn files_that_are_cut_are_read_plainly(rt: HostRuntime) -> Result<(), Fail> {
+    let file = two_batches(rt.alloc())?;
+    let (_, all) = recover(rt.alloc(), holding(rt.alloc(), &file)?)?;
+    assert_eq!(rt; all.len(), 5);
+    for length in 0..=file.len() {
+        assert!(rt; is_read_plainly(rt.alloc(), &file[..length])?, "{length}");
+    }
+    Ok(())
+}
+
+// Kinds, forms, lengths, counts, an open gate, and values past each range.
+const VALUES: [u8; 16] = [
+    0, 1, 2, 3, 4, 5, 6, 8, 9, 16, 17, 0x1f, 0x4e, 0x80, 0xa5, 0xff,
+];
+
+// Whether a file is recovered as the second reading has it, with each of the values at a place.
+fn is_read_plainly_with(alloc: Global, file: &[u8], place: usize) -> Result<bool, JournalFault> {
+    let mut changed = Vec::from_slice(alloc, file)?;
+    for value in VALUES {
+        if let Some(octet) = changed.get_mut(place) {
+            *octet = value;
+        }
+        if !is_read_plainly(alloc, &changed)? {
+            return Ok(false);
+        }
+    }
+    Ok(true)
+}
+
+#[test]
+fn files_with_an_octet_changed_are_read_plainly(rt: HostRuntime) -> Result<(), Fail> {
+    let file = two_batches(rt.alloc())?;
+    for file in [FILE, file.as_slice()] {
+        for place in 0..file.len() {
+            assert!(rt; is_read_plainly_with(rt.alloc(), file, place)?, "{place}");
+        }
+    }
+    Ok(())
+}
