@@ -1,0 +1,9 @@
+pub mod Ends
+pub mod Marks
+pub mod Picks
+pub mod Told
+pub mod Indexed
+pub mod Giving
+pub mod Entries
+pub mod Glimpses
+pub mod Added

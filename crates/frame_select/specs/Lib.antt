@@ -1,0 +1,4 @@
+pub mod Selection
+pub mod Item
+pub mod Want
+pub mod Glimpse

@@ -1,0 +1,34 @@
+// What a START asks of a frame's quality or channel.
+ghost use Rattle.std.specs.Prelude.{◌≡◌, option_map};
+ghost use Rattle.archive_terms.specs.Archive.{Frame};
+ghost use Rattle.archive_terms.specs.Selection.{channel_of, fits};
+ghost use Rattle.frame_select.specs.Selection.{id_of};
+
+use crate::channel::is_of_channel;
+use sle_common::Gvcid;
+
+/// Which frames a START asks for.
+#[derive(Clone, Copy, Debug, PartialEq, Eq)]
+pub enum Filter {
+    /// RAF: 0 good frames, 1 erred ones, 2 all (CCSDS 911.1-B, requested-frame-quality).
+    Quality(u8),
+    /// RCF: the good frames of a channel (CCSDS 911.2-B, requested-global-VCID).
+    Channel(Gvcid),
+}
+
+impl Filter {
+    ghost use Rattle.frame_select.specs.Selection.{filter_of};
+
+    // Whether a frame of this quality and channel is asked for.
+    pub(crate) fn fits(&self, quality: u8, channel: Option<Gvcid>) -> bool
+        ensures { (f : Frame) → f.quality ≡ quality → channel_of f.octets ≡ option_map id_of channel
+            → result ≡ fits (filter_of self.now) f }
+    {
+        match self {
+            Filter::Quality(wanted) => *wanted == 2 || quality == *wanted,
+            Filter::Channel(wanted) => {
+                quality == 0 && channel.is_some_and(|found| is_of_channel(wanted, &found))
+            }
+        }
+    }
+}
