@@ -1,0 +1,5 @@
+pub mod Mode
+pub mod Item
+pub mod Holding
+pub mod Course
+pub mod Standing
