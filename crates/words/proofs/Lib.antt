@@ -1,0 +1,5 @@
+pub mod Digits
+pub mod Each
+pub mod Fitting
+pub mod Identifiers
+pub mod Parts
