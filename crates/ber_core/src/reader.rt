@@ -77,6 +77,7 @@ impl<'a> Reader<'a> {
     }
 
     // The end of the innermost entered element, or where none is entered, of the octets.
+    #[inline(always)]
     #[tactic(auto, using(crate::specs::Facts::Ends::end_at_within))]
     fn end(&self) -> usize
         ensures exact { result ≡ end_of self.now }
@@ -91,6 +92,7 @@ impl<'a> Reader<'a> {
     }
 
     // The octets from the place to that end.
+    #[inline(always)]
     fn left(&self) -> &'a [u8]
         ensures { result.now ≡ left self.now }
     {
@@ -289,6 +291,7 @@ impl<'a> Reader<'a> {
     }
 
     /// Whether the next element has this identifier, which is a whole one.
+    #[inline(always)]
     pub fn next_is(&self, identifier: &[u8]) -> bool
         ensures { result ≡ is_next identifier.now self.now }
     {
@@ -296,6 +299,7 @@ impl<'a> Reader<'a> {
     }
 
     /// Whether the innermost entered element, or where none is entered, the octets, have no further octet.
+    #[inline(always)]
     pub fn at_end(&self) -> bool
         ensures { IsTrue result ↔ (self.now.place ≡ end_of self.now) }
     {
@@ -316,6 +320,7 @@ impl<'a> Reader<'a> {
     }
 
     /// Leaves the innermost entered element, or where none is entered, tests that the octets end here.
+    #[inline(always)]
     #[tactic(auto, using(crate::specs::Facts::Ends::leaving))]
     pub fn leave(&mut self) -> Result<(), BerFault>
         ensures exact { Reads (λ _. tt) self.old self.new result (leave self.old) }
@@ -393,6 +398,7 @@ impl<'a> Reader<'a> {
     }
 
     /// Reads a NULL (X.690 8.8).
+    #[inline(always)]
     pub fn null(&mut self, identifier: &[u8]) -> Result<(), BerFault>
         ensures exact { Reads (λ _. tt) self.old self.new result (primitive_at null_of self.old identifier.now) }
         ensures octets { self.new.octets ≡ self.old.octets }

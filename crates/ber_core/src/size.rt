@@ -1,6 +1,6 @@
 // How many octets an element takes, and the fewest octets of a number.
 
-ghost use Rattle.std.specs.Prelude.{◌≡◌, ℕ, ◌+◌, ◌^◌, ◌<◌, ◌≤◌, length};
+ghost use Rattle.std.specs.Prelude.{◌≡◌, ℕ, ◌+◌, ◌*◌, ◌^◌, ◌<◌, ◌≤◌, ◌↔◌, IsTrue, ℤ, pos, negsuc, ◌≤ℤ◌, length};
 ghost use Rattle.std.specs.Int.{w128, to_be_bytes, cast_unsigned};
 ghost use Rattle.ber_core.specs.Length.{without_zeros, shortest_length};
 ghost use Rattle.ber_core.specs.Integer.{is_redundant, without_redundant, integer_octets};
@@ -55,6 +55,46 @@ pub(crate) fn integer_content(octets: &[u8], value: i128) -> &[u8]
     shortest_complement(octets)
 }
 
+// Whether a length is written behind its first octet in two more.
+#[inline(always)]
+pub(crate) fn has_two_octets(content: usize) -> bool
+    ensures { IsTrue result ↔ ((256 ≤ content) × (content < 65536)) }
+{
+    256 <= content && content < 65_536
+}
+
+// The octets of such a length.
+#[inline(always)]
+pub(crate) fn two_octet_length(content: usize) -> [u8; 3]
+    requires several { 256 ≤ content }
+    requires few { content < 65536 }
+    ensures { result ≡ shortest_length content }
+{
+    [130, (content / 256) as u8, (content % 256) as u8]
+}
+
+// Whether an INTEGER has one content octet.
+#[inline(always)]
+pub(crate) fn has_one_octet(value: i128) -> bool
+    ensures { IsTrue result ↔ ((negsuc 127 ≤ℤ value) × (value ≤ℤ pos 127)) }
+{
+    -128 <= value && value <= 127
+}
+
+// The content octet of such an INTEGER.
+#[inline(always)]
+pub(crate) fn one_octet(value: i128) -> [u8; 1]
+    requires least { negsuc 127 ≤ℤ value }
+    requires greatest { value ≤ℤ pos 127 }
+    ensures { result ≡ integer_octets value }
+{
+    if value < 0 {
+        [(value + 256) as u8]
+    } else {
+        [value as u8]
+    }
+}
+
 #[tactic(auto, unfolding(crate::specs::Length::shortest_length))]
 fn length_octets(content: usize) -> usize
     ensures exact { result ≡ length (shortest_length content) }
@@ -62,6 +102,8 @@ fn length_octets(content: usize) -> usize
 {
     if content < 128 {
         1
+    } else if has_two_octets(content) {
+        two_octet_length(content).len()
     } else {
         1 + significant(&content.to_be_bytes()).len()
     }
@@ -82,5 +124,8 @@ pub fn integer_length(value: i128) -> usize
     ensures exact { result ≡ length (integer_octets value) }
     ensures small { result ≤ 16 }
 {
+    if has_one_octet(value) {
+        return one_octet(value).len();
+    }
     shortest_complement(&value.to_be_bytes()).len()
 }

@@ -1,13 +1,16 @@
 use super::*;
+use std::alloc::Global;
+use std::process::Abort;
 use std::test::Fail;
 
 /// INTEGERs and their elements, made with Python: `n.to_bytes(k, "big", signed=True)` at the least `k` that takes `n`.
-const INTEGERS: [(i128, &[u8]); 9] = [
+const INTEGERS: [(i128, &[u8]); 10] = [
     (0, &[2, 1, 0]),
     (-1, &[2, 1, 0xff]),
     (127, &[2, 1, 0x7f]),
     (128, &[2, 2, 0, 0x80]),
     (-128, &[2, 1, 0x80]),
+    (-129, &[2, 2, 0xff, 0x7f]),
     (997, &[2, 2, 3, 0xe5]),
     (4294967295, &[2, 5, 0, 0xff, 0xff, 0xff, 0xff]),
     (-9223372036854775808, &[2, 8, 0x80, 0, 0, 0, 0, 0, 0, 0]),
@@ -33,30 +36,46 @@ fn integers_have_the_fewest_octets(rt: HostRuntime) -> Result<(), Fail> {
     Ok(())
 }
 
-/// Lengths and their octets: the examples of X.690 8.1.3.4 and 8.1.3.5, and the least of several numbers of octets.
-const LENGTHS: [(usize, &[u8]); 8] = [
+/// Lengths and their octets: the examples of X.690 8.1.3.4 and 8.1.3.5, and the least and the greatest of several
+/// numbers of octets.
+const LENGTHS: [(usize, &[u8]); 10] = [
     (0, &[0]),
     (38, &[38]),
     (127, &[0x7f]),
     (128, &[0x81, 0x80]),
     (201, &[0x81, 0xc9]),
+    (255, &[0x81, 0xff]),
     (256, &[0x82, 1, 0]),
+    (65535, &[0x82, 0xff, 0xff]),
     (65536, &[0x83, 1, 0, 0]),
     (1099511627776, &[0x86, 1, 0, 0, 0, 0, 0]),
 ];
 
+// An element with this identifier and so many content octets begins with the identifier and these length octets.
+fn begins_with(
+    rt: &impl Abort,
+    alloc: Global,
+    identifier: &[u8],
+    content: usize,
+    octets: &[u8],
+) -> Result<(), Fail> {
+    let mut writer = Writer::new(alloc, 16).ok().ok_or("memory")?;
+    assert!(rt; identifier.len() <= 2 && content <= 1099511627776);
+    let length = element_length(identifier, content);
+    assert!(rt; length - content <= writer.room());
+    writer.head(identifier, content);
+    assert_eq!(rt; length, content + writer.octets().len());
+    assert!(rt; identifier.len() <= writer.octets().len());
+    let (front, rest) = writer.octets().split_at(identifier.len());
+    assert_eq!(rt; (front, rest), (identifier, octets));
+    Ok(())
+}
+
 #[test]
 fn lengths_are_the_shortest(rt: HostRuntime) -> Result<(), Fail> {
     for (content, octets) in LENGTHS {
-        let mut writer = Writer::new(rt.alloc(), 16).ok().ok_or("memory")?;
-        assert!(rt; content <= 1099511627776);
-        let length = element_length(&[0xbf, 0x64], content);
-        assert!(rt; length - content <= writer.room());
-        writer.head(&[0xbf, 0x64], content);
-        assert_eq!(rt; length, content + writer.octets().len());
-        assert!(rt; writer.octets().len() > 2);
-        assert_eq!(rt; &writer.octets()[..2], [0xbf, 0x64].as_slice());
-        assert_eq!(rt; &writer.octets()[2..], octets);
+        begins_with(&rt, rt.alloc(), &[0x30], content, octets)?;
+        begins_with(&rt, rt.alloc(), &[0xbf, 0x64], content, octets)?;
     }
     Ok(())
 }

@@ -5,7 +5,9 @@ ghost use Rattle.ber_core.specs.Tree.{primitive};
 ghost use Rattle.ber_core.specs.Spelling.{canonical};
 
 use crate::memory::Memory;
-use crate::size::{shortest_complement, significant};
+use crate::size::{
+    has_one_octet, has_two_octets, one_octet, shortest_complement, significant, two_octet_length,
+};
 use std::alloc::Global;
 use std::marker::Model;
 
@@ -77,6 +79,27 @@ impl Writer {
         ensures octets { self.new.octets ≡ self.old.octets ++ identifier.now ++ shortest_length content }
         ensures room { self.new.room + length identifier.now + length (shortest_length content) ≡ self.old.room }
     {
+        let [octet] = identifier else {
+            return self.any_head(identifier, content);
+        };
+        if content < 128 {
+            self.raw(&[*octet, content as u8]);
+        } else if has_two_octets(content) {
+            let [form, high, low] = two_octet_length(content);
+            self.raw(&[*octet, form, high, low]);
+        } else {
+            self.any_head(identifier, content);
+        }
+    }
+
+    // The same of any element; `head` has a path of its own for those that are most.
+    #[inline(never)]
+    #[tactic(auto, unfolding(crate::specs::Length::shortest_length))]
+    fn any_head(&mut self, identifier: &[u8], content: usize)
+        requires { length identifier.now + length (shortest_length content) ≤ self.old.room }
+        ensures octets { self.new.octets ≡ self.old.octets ++ identifier.now ++ shortest_length content }
+        ensures room { self.new.room + length identifier.now + length (shortest_length content) ≡ self.old.room }
+    {
         self.raw(identifier);
         if content < 128 {
             self.raw(&[content as u8]);
@@ -89,8 +112,23 @@ impl Writer {
     }
 
     /// Appends an INTEGER (X.690 8.3).
-    #[tactic(auto, unfolding(crate::specs::Integer::integer_octets))]
     pub fn integer(&mut self, identifier: &[u8], value: i128)
+        requires value { Has64Bits value }
+        requires fits { length (canonical (primitive identifier.now (integer_octets value))) ≤ self.old.room }
+        ensures octets { self.new.octets ≡ self.old.octets ++ canonical (primitive identifier.now (integer_octets value)) }
+        ensures room { self.new.room + length (canonical (primitive identifier.now (integer_octets value))) ≡ self.old.room }
+    {
+        if has_one_octet(value) {
+            self.octet_string(identifier, &one_octet(value));
+        } else {
+            self.any_integer(identifier, value);
+        }
+    }
+
+    // The same of any number; `integer` has a path of its own for those that are most.
+    #[inline(never)]
+    #[tactic(auto, unfolding(crate::specs::Integer::integer_octets))]
+    fn any_integer(&mut self, identifier: &[u8], value: i128)
         requires value { Has64Bits value }
         requires fits { length (canonical (primitive identifier.now (integer_octets value))) ≤ self.old.room }
         ensures octets { self.new.octets ≡ self.old.octets ++ canonical (primitive identifier.now (integer_octets value)) }

@@ -1,20 +1,18 @@
 -- Lists that are gone over, and lent.
-use Rattle.std.proofs.Common.{◌≡◌, ℕ, zero, suc, ◌+◌, ◌-◌, ◌<◌, ◌≤◌, ◌↔◌, IsTrue, IsOk, Bool, true, false, List, [], ◌∷◌, length, take, drop, ◌==◌, nat_le, Result, Ok, Err, refl, sym, ◌∙◌, ap, subst, eq-eqb, arith, inl, inr, append-nil, append_assoc, ◌++◌, length-append}
+use Rattle.std.proofs.Common.{◌≡◌, ℕ, zero, suc, ◌+◌, ◌-◌, ◌<◌, ◌≤◌, ◌↔◌, IsTrue, IsOk, Bool, true, false, List, [], ◌∷◌, length, take, drop, ◌==◌, nat_le, Result, Ok, Err, refl, sym, ◌∙◌, ap, subst, eq-eqb, arith, append-nil, append_assoc, ◌++◌}
 use Rattle.std.specs.List.{AllByRecursion}
-use Rattle.ber_core.specs.Tree.{tree_and}
 use Rattle.ber_core.specs.Spelling.{canonical, canonical_all}
 use Rattle.ber_core.specs.Parts.{spelled-tree_and, spelled-no_trees, length-tree_and, length-no_trees}
 use Rattle.std.proofs.lemmas.Bool.{eqb-true}
 use Rattle.ber_core.specs.declared.fault.BerFault.{BerFault}
-use Rattle.ber_core.specs.View.{View, view_before, end_of, left}
+use Rattle.ber_core.specs.View.{View, view_before, end_of}
 use Rattle.ber_core.specs.Reading.{◌>>=◌, leave}
 use Rattle.ber_core.specs.Length.{IsSlice}
-use Rattle.ber_shape.specs.Results.{bind_ok, ok_is, err_ok, chosen}
+use Rattle.ber_shape.specs.Results.{bind_ok, ok_is, err_ok}
 use Rattle.ber_shape.specs.Steps.{left_at_end}
-use Rattle.ber_shape.specs.Element.{Element, kept}
-use Rattle.ber_shape.specs.Members.{Members}
-use Rattle.ber_shape.specs.List.{list_of, one_or_more, many_at, each_tree, times, AreFew, each_few, many_ok}
-use Rattle.ber_shape.specs.Exact.{whole, all_left, members_are, members_again}
+use Rattle.ber_shape.specs.Element.{Element}
+use Rattle.ber_shape.specs.List.{list_of, one_or_more, many_at, each_tree, times, AreFew, each_few}
+use Rattle.ber_shape.specs.Exact.{whole, members_are, members_again}
 use Rattle.ber_shape.specs.Lent.{passed, between, lent_whole, some_whole, values, or_none}
 use Rattle.ber_core.specs.Facts.Found.{IsOctets-take, IsOctets-drop}
 use Rattle.ber_core.specs.Facts.Whole.{read_tree-ok, read_trees-ok}

@@ -1,7 +1,6 @@
 -- CHOICE (X.690 8.13): the alternative whose identifier stands next. One of more alternatives is an alternative and the
 -- CHOICE of the others.
-use Rattle.std.proofs.Common.{◌≡◌, ℕ, ◌+◌, ◌≤◌, max, Bool, true, false, if◌then◌else◌, List, [], ◌∷◌, length, nat_eq, Option, Some, None, Result, Ok, Err, ◌⊎◌, inl, inr, refl, sym, ◌∙◌, ap, subst, arith}
-use Rattle.std.specs.List.{starts_with}
+use Rattle.std.proofs.Common.{◌≡◌, ℕ, ◌≤◌, max, Bool, true, false, if◌then◌else◌, List, [], ◌∷◌, length, Option, Some, None, Result, Ok, ◌⊎◌, inl, inr, refl, subst, arith}
 use Rattle.ber_core.specs.declared.fault.BerFault.{BerFault}
 use Rattle.ber_core.specs.Length.{IsSlice}
 use Rattle.ber_core.specs.Tree.{Tree}
@@ -13,7 +12,7 @@ use Rattle.ber_shape.specs.Results.{taken, taken_ok, taken_again, chosen, if_tru
 use Rattle.ber_shape.specs.Identifier.{is_apart, apart_so, begin_with, or_more, or_first, or_alone}
 use Rattle.ber_shape.specs.Content.{null}
 use Rattle.ber_shape.specs.Element.{Element, WasRead, simple}
-use Rattle.ber_shape.specs.Same.{Same, element_as}
+use Rattle.ber_shape.specs.Same.{element_as}
 
 abbrev pub either_tree : {X Y : Type 0} → (X → Tree) → (Y → Tree) → X ⊎ Y → Tree
 either_tree f g (inl x) = f x

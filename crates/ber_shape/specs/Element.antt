@@ -1,10 +1,9 @@
 -- The shape of one element: how it is read, which tree a value has, and that both agree.
-use Rattle.std.proofs.Common.{◌≡◌, ℕ, ◌+◌, ◌-◌, ◌<◌, ◌≤◌, Bool, true, false, List, [], ◌∷◌, length, take, drop, Result, Ok, Err, refl, sym, ◌∙◌, ap, subst, arith}
-use Rattle.std.specs.List.{starts_with}
+use Rattle.std.proofs.Common.{◌≡◌, ℕ, ◌+◌, ◌-◌, ◌≤◌, true, false, List, [], ◌∷◌, length, drop, Result, Ok, sym, ◌∙◌, ap, subst, arith}
 use Rattle.std.proofs.lemmas.List.{length-take, length-drop}
 use Rattle.ber_core.specs.declared.fault.BerFault.{BerFault}
 use Rattle.ber_core.specs.Length.{IsOctets, IsSlice}
-use Rattle.ber_core.specs.Tree.{Tree, primitive, constructed, IsWellFormed}
+use Rattle.ber_core.specs.Tree.{Tree, primitive, IsWellFormed}
 use Rattle.ber_core.specs.Spelling.{canonical}
 use Rattle.ber_core.specs.Parts.{length-primitive, few-shortest_length}
 use Rattle.ber_core.specs.View.{View, left}

@@ -1,12 +1,11 @@
 -- What decoding octets answers, and that reading, trees and the canonical spelling of a shape agree.
-use Rattle.std.proofs.Common.{◌≡◌, ◌↔◌, ℕ, suc, ◌+◌, ◌-◌, ◌<◌, ◌≤◌, ◌^◌, true, false, ◌==◌, List, [], ◌∷◌, ◌++◌, length, take, drop, nat_le, nat_lt, Result, Ok, Err, refl, sym, ◌∙◌, ap, subst, eq-eqb, arith, append-nil, length-append}
-use Rattle.std.specs.Prelude.{IsOk}
+use Rattle.std.proofs.Common.{◌≡◌, ◌↔◌, ℕ, suc, ◌+◌, ◌<◌, ◌≤◌, ◌^◌, true, List, [], ◌++◌, length, take, nat_le, nat_lt, Result, Ok, Err, refl, sym, ◌∙◌, ap, subst, eq-eqb, arith, append-nil, length-append}
 use Rattle.std.proofs.lemmas.List.{nil_from_length}
 use Rattle.std.proofs.Math.Seq.{take-length}
 use Rattle.ber_core.specs.declared.fault.BerFault.{BerFault}
 use Rattle.ber_core.specs.Length.{IsOctets, IsSlice}
 use Rattle.ber_core.specs.Tree.{Tree, Trees, no_trees, tree_and, IsWellFormed}
-use Rattle.ber_core.specs.Spelling.{Spells, SpellsAll, canonical, canonical_all}
+use Rattle.ber_core.specs.Spelling.{Spells, SpellsAll, canonical}
 use Rattle.ber_core.specs.View.{View, view_before, end_of, left}
 use Rattle.ber_core.specs.Reading.{◌>>=◌, leave, Gives}
 use Rattle.ber_core.specs.Whole.{depth_all, read_trees}
@@ -14,7 +13,7 @@ use Rattle.ber_core.specs.Facts.Canonical.{canonical-Spells}
 use Rattle.ber_core.specs.Facts.Whole.{read_trees-ok, read_trees-at}
 use Rattle.ber_shape.specs.Results.{bind_ok, ok_is, err_ok}
 use Rattle.ber_shape.specs.Steps.{left_at_end}
-use Rattle.ber_shape.specs.Element.{Element, WasRead}
+use Rattle.ber_shape.specs.Element.{Element}
 use Rattle.ber_shape.specs.Identifier.{is_identifier}
 use Rattle.ber_shape.specs.Members.{Members, WereRead, last, structured}
 

@@ -1,5 +1,5 @@
 -- Identifier octets (X.690 8.1.2): what is one, and which of several stands next.
-use Rattle.std.proofs.Common.{◌≡◌, ℕ, suc, ◌+◌, ◌<◌, ◌%◌, Bool, true, false, not, ◌&&◌, ◌||◌, ◌==◌, if◌then◌else◌, nat_eq, nat_lt, List, [], ◌∷◌, ◌++◌, length, drop, get_or, Option, Some, None, Result, Ok, Err, ◌⊎◌, inl, inr, refl, sym, ◌∙◌, ap, subst, arith}
+use Rattle.std.proofs.Common.{◌≡◌, ℕ, ◌%◌, Bool, true, false, not, ◌&&◌, ◌||◌, ◌==◌, if◌then◌else◌, nat_eq, nat_lt, List, [], ◌∷◌, ◌++◌, length, drop, get_or, Some, Result, Ok, Err, ◌⊎◌, inl, inr, refl, sym, ◌∙◌, ap, arith}
 use Rattle.std.specs.List.{starts_with, list_all}
 use Rattle.std.proofs.lemmas.Bool.{ltb-true}
 use Rattle.std.proofs.lemmas.Bool.Decides.{nat_tests}
@@ -9,7 +9,6 @@ use Rattle.ber_core.specs.Tree.{first_identifier, begins_number, through_last, i
 use Rattle.ber_core.specs.View.{View, left}
 use Rattle.ber_core.specs.Reading.{next_content}
 use Rattle.ber_core.specs.Facts.Found.{front_of}
-use Rattle.ber_core.specs.Facts.Identifiers.{first_identifier-append, same_tag}
 use Rattle.ber_shape.specs.Results.{err_ok, chosen}
 
 -- ---- what is one

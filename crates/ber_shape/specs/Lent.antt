@@ -5,7 +5,7 @@ use Rattle.std.proofs.lemmas.List.{length-take, take-take, take_at}
 use Rattle.ber_core.specs.declared.fault.BerFault.{BerFault}
 use Rattle.ber_core.specs.Length.{IsSlice}
 use Rattle.ber_core.specs.Spelling.{SpellsAll}
-use Rattle.ber_core.specs.View.{View, view_before, end_of, left}
+use Rattle.ber_core.specs.View.{View, end_of, left}
 use Rattle.ber_core.specs.Reading.{◌>>=◌}
 use Rattle.ber_core.specs.Facts.Whole.{read_trees-ok}
 use Rattle.ber_shape.specs.Element.{Element}

@@ -1,12 +1,12 @@
 -- The shape of elements of one type, one behind the other up to the end of the element around them (X.690 8.10, 8.12).
-use Rattle.std.proofs.Common.{◌≡◌, ℕ, zero, suc, ◌+◌, ◌*◌, ◌-◌, ◌<◌, ◌≤◌, ◌^◌, Bool, true, false, if◌then◌else◌, ◌==◌, List, [], ◌∷◌, length, take, drop, nat_eq, Result, Ok, Err, inl, inr, refl, sym, ◌∙◌, ap, subst, eq-eqb, arith}
-use Rattle.std.specs.List.{AllByRecursion, starts_with}
+use Rattle.std.proofs.Common.{◌≡◌, ℕ, zero, suc, ◌+◌, ◌*◌, ◌-◌, ◌<◌, ◌≤◌, ◌^◌, true, false, if◌then◌else◌, ◌==◌, List, [], ◌∷◌, length, drop, Result, Ok, inl, inr, refl, sym, ap, subst, eq-eqb, arith}
+use Rattle.std.specs.List.{AllByRecursion}
 use Rattle.std.proofs.lemmas.Bool.{eqb-true}
 use Rattle.std.proofs.lemmas.List.{length-take, nil_from_length}
 use Rattle.ber_core.specs.declared.fault.BerFault.{BerFault}
 use Rattle.ber_core.specs.Length.{IsSlice}
 use Rattle.ber_core.specs.Tree.{Tree, Trees, primitive, constructed, no_trees, tree_and, AreWellFormed}
-use Rattle.ber_core.specs.Spelling.{canonical, canonical_all}
+use Rattle.ber_core.specs.Spelling.{canonical_all}
 use Rattle.ber_core.specs.Parts.{length-tree_and, length-no_trees}
 use Rattle.ber_core.specs.View.{View, end_of, left}
 use Rattle.ber_core.specs.Reading.{◌>>=◌, next_content, inside}

@@ -1,5 +1,5 @@
 -- The shape of what stands in an element, one behind the other up to its end, and of the element around it.
-use Rattle.std.proofs.Common.{◌≡◌, ℕ, suc, ◌+◌, ◌≤◌, max, Bool, true, false, List, [], ◌∷◌, length, Result, Ok, Err, refl, sym, ◌∙◌, ap, subst, arith}
+use Rattle.std.proofs.Common.{◌≡◌, ℕ, suc, ◌+◌, ◌≤◌, max, true, false, List, [], ◌∷◌, length, Result, Ok, refl, sym, ◌∙◌, subst, arith}
 use Rattle.ber_core.specs.declared.fault.BerFault.{BerFault}
 use Rattle.ber_core.specs.Length.{IsSlice}
 use Rattle.ber_core.specs.Tree.{Trees, constructed, no_trees, tree_and, AreWellFormed}

@@ -1,5 +1,5 @@
 -- Readings that answer Ok, and what they went through.
-use Rattle.std.proofs.Common.{◌≡◌, true, false, if◌then◌else◌, Result, Ok, Err, Bool, refl, ◌∙◌, ap, ◌⊎◌, inl, inr}
+use Rattle.std.proofs.Common.{◌≡◌, true, false, if◌then◌else◌, Result, Ok, Err, Bool, refl, ap, ◌⊎◌, inl, inr}
 use Rattle.ber_core.specs.declared.fault.BerFault.{BerFault}
 use Rattle.ber_core.specs.View.{View}
 use Rattle.ber_core.specs.Reading.{◌>>=◌}

@@ -1,6 +1,5 @@
 -- Shapes whose values are seen as another type.
-use Rattle.std.proofs.Common.{◌≡◌, List, Result, Ok, Err, refl, sym, ◌∙◌, ap, subst}
-use Rattle.ber_core.specs.declared.fault.BerFault.{BerFault}
+use Rattle.std.proofs.Common.{◌≡◌, Ok, sym, ◌∙◌, ap, subst}
 use Rattle.ber_core.specs.Length.{IsSlice}
 use Rattle.ber_core.specs.View.{View, end_of}
 use Rattle.ber_core.specs.Whole.{read_tree, read_trees}

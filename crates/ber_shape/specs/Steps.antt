@@ -1,11 +1,11 @@
 -- What reading an element went through.
-use Rattle.std.proofs.Common.{◌≡◌, ℕ, List, nat_eq, ◌==◌, drop, Result, Ok, Err, refl, sym, ◌∙◌, ap}
+use Rattle.std.proofs.Common.{◌≡◌, ℕ, List, nat_eq, ◌==◌, drop, Result, Ok, refl, sym, ◌∙◌, ap}
 use Rattle.std.specs.Cmp.Lexicographic.{pointwise, same_text}
 use Rattle.std.proofs.lemmas.Bool.{eqb-true}
 use Rattle.std.proofs.lemmas.Cmp.{nat_list_eq_equiv}
 use Rattle.ber_core.specs.declared.fault.BerFault.{BerFault}
 use Rattle.ber_core.specs.declared.fault.BerFault.TheVariants.{BadContent, BadLength}
-use Rattle.ber_core.specs.Tree.{Tree, Trees, primitive, constructed}
+use Rattle.ber_core.specs.Tree.{Trees, primitive, constructed}
 use Rattle.ber_core.specs.View.{View, end_of}
 use Rattle.ber_core.specs.Reading.{◌>>=◌, next_content, primitive_at, enter, leave, inside, behind}
 use Rattle.ber_core.specs.Whole.{exactly, read_tree, read_trees}

@@ -46,6 +46,7 @@ pub trait Members<'a> {
 }
 
 /// Reads a constructed element and what stands in it.
+#[inline(always)]
 pub fn read_within<'a, M: Members<'a>>(
     identifier: &[u8],
     reader: &mut Reader<'a>,

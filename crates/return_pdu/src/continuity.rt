@@ -18,6 +18,7 @@ impl<'a> Element<'a> for Continuity {
 
     ghost seen = { λ continuity. continuity };
 
+    #[inline(always)]
     fn read(reader: &mut Reader<'a>) -> Result<i32, BerFault> {
         let continuity = reader.integer(&[0x02], -1, 16777215)?;
         Ok(continuity as i32)

@@ -18,6 +18,7 @@ impl<'a> Element<'a> for FrameOctets {
 
     ghost seen = { λ octets. octets.now };
 
+    #[inline(always)]
     fn read(reader: &mut Reader<'a>) -> Result<&'a [u8], BerFault> {
         reader.octet_string(&[0x04], 1, 65536)
     }

@@ -18,6 +18,7 @@ impl<'a> Element<'a> for FrameQuality {
 
     ghost seen = { λ quality. quality };
 
+    #[inline(always)]
     fn read(reader: &mut Reader<'a>) -> Result<u8, BerFault> {
         let quality = reader.integer(&[0x02], 0, 2)?;
         Ok(quality as u8)

@@ -8,6 +8,8 @@ use std::process::Abort;
 use std::test::Fail;
 
 mod buffers;
+mod dialogue;
+mod longest;
 mod pdus;
 
 const MIDNIGHT: Cds = Cds {
@@ -51,6 +53,50 @@ fn both_ways<'a, P: Pdu<'a>>(rt: &impl Abort, alloc: Global, octets: &'a [u8]) -
     pdu.encode(&mut writer);
     assert_eq!(rt; writer.octets(), octets);
     Ok(pdu)
+}
+
+// The buffer of RAF that these octets spell gives so many items, which are written as the same octets.
+fn rewritten(rt: &impl Abort, alloc: Global, count: usize, octets: &[u8]) -> Result<(), Fail> {
+    let mut buffer = TransferBuffer::decode_raf(octets)?;
+    let mut items = TransferBuffer::decode_raf(octets)?;
+    written(rt, alloc, count, &mut buffer, &mut items, octets)
+}
+
+// So many items of the buffer are written, behind a head for these items, as these octets.
+fn written(
+    rt: &impl Abort,
+    alloc: Global,
+    count: usize,
+    measured: &mut TransferBuffer,
+    buffer: &mut TransferBuffer,
+    octets: &[u8],
+) -> Result<(), Fail> {
+    let mut content: usize = 0;
+    for _ in 0..count {
+        if let Some(item) = measured.next() {
+            content = content.wrapping_add(item.length());
+        }
+    }
+    let mut writer = Writer::new(alloc, octets.len())?;
+    assert!(rt; content < 1 << 21);
+    assert!(rt; buffer_length(content) - content <= writer.room());
+    buffer_head(content, &mut writer);
+    for _ in 0..count {
+        if let Some(item) = buffer.next() {
+            assert!(rt; item.length() <= writer.room());
+            item.encode(&mut writer);
+        }
+    }
+    assert_eq!(rt; writer.octets(), octets);
+    Ok(())
+}
+
+// The items that the buffer gives, and that it gives no more.
+fn gives(rt: &impl Abort, buffer: &mut TransferBuffer, items: &[TransferItem]) {
+    for item in items {
+        assert_eq!(rt; buffer.next(), Some(*item));
+    }
+    assert_eq!(rt; buffer.next(), None);
 }
 
 fn at(millis: u32) -> Cds {

@@ -19,6 +19,7 @@ impl<'a> Element<'a> for Annotation {
 
     ghost seen = { λ note. option_map (λ octets. octets.now) note };
 
+    #[inline(always)]
     fn read(reader: &mut Reader<'a>) -> Result<Option<&'a [u8]>, BerFault> {
         if reader.next_is(&[0x81]) {
             let octets = reader.octet_string(&[0x81], 1, 128)?;

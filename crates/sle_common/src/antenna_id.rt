@@ -24,6 +24,7 @@ impl<'a> Element<'a> for AntennaId<'a> {
 
     ghost seen = { antenna_of };
 
+    #[inline(always)]
     fn read(reader: &mut Reader<'a>) -> Result<AntennaId<'a>, BerFault> {
         if reader.next_is(&[0x81]) {
             let octets = reader.octet_string(&[0x81], 1, 16)?;

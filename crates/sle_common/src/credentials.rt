@@ -24,6 +24,7 @@ impl<'a> Element<'a> for Credentials<'a> {
 
     ghost seen = { credentials_of };
 
+    #[inline(always)]
     fn read(reader: &mut Reader<'a>) -> Result<Credentials<'a>, BerFault> {
         if reader.next_is(&[0x81]) {
             let octets = reader.octet_string(&[0x81], 8, 256)?;

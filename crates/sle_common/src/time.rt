@@ -24,6 +24,7 @@ impl<'a> Element<'a> for Time {
 
     ghost seen = { λ t. t };
 
+    #[inline(always)]
     fn read(reader: &mut Reader<'a>) -> Result<Cds, BerFault> {
         if reader.next_is(&[0x81]) {
             let octets = reader.octet_string(&[0x81], 10, 10)?;

@@ -1,8 +1,8 @@
 -- The shortest length is one of the lengths.
-use Rattle.std.proofs.Common.{◌≡◌, ℕ, zero, suc, ◌^◌, ◌<◌, inl, inr, List, [], ◌∷◌, length, refl, sym, ◌∙◌, arith, true, false, rules, nat_lt, if◌then◌else◌}
+use Rattle.std.proofs.Common.{◌≡◌, ℕ, zero, suc, ◌/◌, ◌%◌, ◌^◌, ◌<◌, ◌≤◌, inl, inr, List, [], ◌∷◌, length, refl, sym, ◌∙◌, arith, true, false, rules, nat_lt, if◌then◌else◌}
 use Rattle.std.specs.Int.{w64, to_be_bytes}
 use Rattle.std.proofs.lemmas.Nat.{from_be_bytes-to_be_bytes_8, mod_below}
-use Rattle.std.proofs.lemmas.Bool.{ltb-true, ltb-false}
+use Rattle.std.proofs.lemmas.Bool.{ltb-true, ltb-false, le-ltb}
 use Rattle.ber_core.specs.Length.{IsOctets, number_of, long_form, IsLength, without_zeros, shortest_length}
 use Rattle.ber_core.specs.Parts.{length-without_zeros}
 
@@ -43,3 +43,20 @@ shortest_length-IsLength n h =
         refl,
       )
     ] refl
+
+-- a length of two octets behind the first one
+nonzero_kept : (high : ℕ) (octets : List ℕ) → 0 < high → without_zeros (high ∷ octets) ≡ high ∷ octets
+nonzero_kept zero octets h = absurd (omega arith)
+nonzero_kept (suc n) octets h = refl
+
+consed : {first other : ℕ} {octets others : List ℕ} → first ≡ other → octets ≡ others → first ∷ octets ≡ other ∷ others
+consed e f = cc
+
+two_bytes : (n : ℕ) → n < 65536 → to_be_bytes w64 n ≡ 0 ∷ 0 ∷ 0 ∷ 0 ∷ 0 ∷ 0 ∷ n / 256 ∷ n % 256 ∷ []
+two_bytes n h =
+    consed (omega arith) (consed (omega arith) (consed (omega arith) (consed (omega arith) (consed (omega arith) (consed (omega arith) (consed (omega arith) refl))))))
+
+pub two_octets : (n : ℕ) → 256 ≤ n → n < 65536 → shortest_length n ≡ 130 ∷ n / 256 ∷ n % 256 ∷ []
+unfolding shortest_length
+two_octets n several few =
+    rw (le-ltb n 128 (omega arith), two_bytes n few, nonzero_kept (n / 256) (n % 256 ∷ []) (omega arith)) refl

@@ -11,10 +11,10 @@ use Rattle.ber_core.specs.Integer.{is_redundant, without_redundant, signed_of, i
 use Rattle.ber_core.specs.Facts.Numbers.{pow-256, number_of-below}
 
 -- the sign and the number of content octets
-signed_low : (first : ℕ) (rest : List ℕ) → first < 128 → signed_of (first ∷ rest) ≡ pos (number_of (first ∷ rest))
+pub signed_low : (first : ℕ) (rest : List ℕ) → first < 128 → signed_of (first ∷ rest) ≡ pos (number_of (first ∷ rest))
 signed_low first rest low = rw (lt-ltb first 128 low) refl
 
-signed_high : (first : ℕ) (rest : List ℕ) → 128 ≤ first → signed_of (first ∷ rest) ≡ pos (number_of (first ∷ rest)) -ℤ pos (256 ^ suc (length rest))
+pub signed_high : (first : ℕ) (rest : List ℕ) → 128 ≤ first → signed_of (first ∷ rest) ≡ pos (number_of (first ∷ rest)) -ℤ pos (256 ^ suc (length rest))
 signed_high first rest high = rw (le-ltb first 128 high) refl
 
 -- a redundant first octet says nothing

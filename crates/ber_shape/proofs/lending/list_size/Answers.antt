@@ -1,4 +1,4 @@
-use Rattle.std.proofs.Common.{refl, arith}
+use Rattle.std.proofs.Common.{arith}
 use Rattle.ber_shape.specs.List.{list_of}
 use Rattle.ber_shape.specs.Lent.{values}
 use Rattle.ber_shape.proofs.Lists.{each_fits, size_few, size_more, size_none, fits_more}
