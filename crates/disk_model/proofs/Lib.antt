@@ -2,3 +2,4 @@ pub mod Patched
 pub mod Replay
 pub mod Calls
 pub mod Runs
+pub mod Writes

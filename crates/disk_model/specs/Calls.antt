@@ -47,3 +47,8 @@ module _ {D : Type 0} (makes fails : D → Call → D → Type 0) where
       → RunsCalls makes fails old (call ∷ []) new result
   runs_one (Ok value) call old new made failed = (new, made, refl)
   runs_one (Err error) call old new made failed = inl failed
+
+-- what follows from the success of a call, where it succeeded
+pub follows_if_ok : {T E : Type 0} → {P Q : Type 0} (result : Result T E) → OnOk result P → (P → Q) → OnOk result Q
+follows_if_ok (Ok value) good follows = follows good
+follows_if_ok (Err error) good follows = good

@@ -66,6 +66,10 @@ after_cut size pending = with_cut size (take size pending.content) pending
 abbrev pub after_sync : Pending → Pending
 after_sync pending = all_synced pending.content
 
+-- what octets become that were written and synced
+abbrev pub written_and_synced : ℕ → List ℕ → Pending → Pending
+written_and_synced place octets told = all_synced (overwritten told.content place octets)
+
 -- The old octets, but free in a range and past their end, and no longer than the range reaches.
 pub record IsTorn (place count : ℕ) (old new : List ℕ) : Type 0 where
   pub no_shorter : length old ≤ length new

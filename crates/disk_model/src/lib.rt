@@ -4,6 +4,7 @@
 // pending after it, also where it fails, and which images there are at every moment since it began.
 // A disk that doesn't tell what is pending has no images to speak of, and only its size, its count
 // of faults and what it tells of its calls are claimed. `laws` says what the definitions mean.
+// `write_synced` is a write and a sync in one, at any disk.
 //
 // `MemoryDisk` tells all of its octets. It is a double for tests and scripts: it counts its writes,
 // cuts and syncs, logs those that took effect, fails and stops as its owner steers it, and leaves
@@ -20,6 +21,7 @@ pub mod laws;
 mod memory;
 mod memory_disk;
 mod orders;
+mod synced;
 
 pub use call::Call;
 pub use disk::Disk;
@@ -28,3 +30,4 @@ pub use file_disk::FileDisk;
 pub use memory::Memory;
 pub use memory_disk::MemoryDisk;
 pub use orders::{Orders, Pick, Stop};
+pub use synced::write_synced;

@@ -3,9 +3,9 @@ use Rattle.std.proofs.Common.{◌≡◌, ◌≢◌, ◌⊎◌, inl, inr, ℕ, �
 use Rattle.std.proofs.lemmas.Bool.Decides.{nat_tests}
 use Rattle.std.proofs.lemmas.Bool.{cases_eq}
 use Rattle.std.proofs.lemmas.List.{take_at, set_at, ext_get_or, get_or-take, get_or-set_same, get_or-set_other, take-append-drop, length-append, length-take-le, length-set}
-use Rattle.disk_model.specs.Images.{Pending, IsImage, all_synced, with_range, overwritten, is_written}
+use Rattle.disk_model.specs.Images.{Pending, IsImage, all_synced, with_range, overwritten, is_written, written_and_synced}
 use Rattle.disk_model.specs.Moments.{IsImageOf}
-use Rattle.disk_sample.specs.Gated.{gated, StandsFor, Keeps, IsAtRest, IsOldOrNew, written_and_synced}
+use Rattle.disk_sample.specs.Gated.{gated, StandsFor, Keeps, IsAtRest, IsOldOrNew}
 use Rattle.disk_sample.proofs.Files.{length-gated, gated-append, written_behind, stands_for_one}
 
 before_range : (k place count : ℕ) → k < place → is_written ((place, count) ∷ []) k ≡ false

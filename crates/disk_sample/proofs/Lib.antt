@@ -1,4 +1,3 @@
-pub mod Writes
 pub mod Files
 pub mod Recovery
 pub mod Adding

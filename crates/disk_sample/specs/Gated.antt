@@ -1,6 +1,6 @@
 -- Octets behind gates, and what a file of them stands for.
 use Rattle.std.specs.Prelude.{ℕ, ◌+◌, ◌*◌, ◌≡◌, ◌≢◌, ◌⊎◌, Bool, Option, Some, None, IfSome, IsSomeAnd, List, [], ◌∷◌, ◌++◌, length}
-use Rattle.disk_model.specs.Images.{Pending, all_synced, overwritten}
+use Rattle.disk_model.specs.Images.{Pending, all_synced}
 use Rattle.disk_model.specs.Moments.{Elapses}
 use Rattle.disk_model.specs.declared.call.Call.{Call}
 use Rattle.disk_model.specs.declared.call.Call.TheVariants.{Write, Sync}
@@ -51,10 +51,6 @@ IsOldOrNew octets octet image = StandsFor octets image ⊎ StandsFor (octets ++ 
 -- the counted calls that add an octet at a gate
 abbrev pub adding : ℕ → ℕ → List Call
 adding gate octet = Write (gate + 1) (octet ∷ 0 ∷ []) ∷ Sync ∷ Write gate (165 ∷ []) ∷ Sync ∷ []
-
--- what octets become that were written and synced
-abbrev pub written_and_synced : ℕ → List ℕ → Pending → Pending
-written_and_synced place octets told = all_synced (overwritten told.content place octets)
 
 -- octets behind gates on a disk, as contracts see them: the gate behind them, and whether adding one has failed
 pub record GatesState (D : Type 0) : Type 0 where

@@ -6,10 +6,10 @@ ghost use Rattle.disk_model.specs.Moments.{IsImageOf, HoldsThroughout};
 ghost use Rattle.disk_model.specs.Calls.{AllMade, FailedAtOne, RunsCalls};
 ghost use Rattle.disk_model.specs.MemoryDisk.{steered};
 ghost use Rattle.disk_model.specs.declared.call.Call.TheVariants.{Write, Sync};
-ghost use Rattle.disk_sample.specs.Gated.{StandsFor, Keeps, IsAtRest, IsOldOrNew, IsCut, IsBehind, IsFirst, OnlyReads, adding, written_and_synced};
+ghost use Rattle.disk_sample.specs.Gated.{StandsFor, Keeps, IsAtRest, IsOldOrNew, IsCut, IsBehind, IsFirst, OnlyReads, adding};
 
 use crate::GateFault;
-use disk_model::{Disk, MemoryDisk, Orders};
+use disk_model::{Disk, MemoryDisk, Orders, write_synced};
 use octet_core::{Failed, Octets};
 use std::alloc::Global;
 use std::marker::Model;
@@ -168,26 +168,6 @@ fn put<D: Disk>(disk: &mut D, gate: u64, octet: u8) -> Result<(), Failed>
 {
     write_synced(disk, gate + 1, &[octet, CLOSED])?;
     write_synced(disk, gate, &[OPEN])
-}
-
-// Writes octets and syncs them. At every moment each image is an old one, but for the range.
-fn write_synced<D: Disk>(disk: &mut D, place: u64, octets: &[u8]) -> Result<(), Failed>
-    requires { place ≤ D.extent disk.old }
-    ensures written { OnOk result (D.pending disk.new ≡ option_map
-        (written_and_synced place octets.now) (D.pending disk.old)) }
-    ensures size { OnOk result (D.extent disk.new ≡ max (D.extent disk.old)
-        (place + length octets.now)) }
-    ensures any_moment { HoldsThroughout D.moment D.images_since disk.old disk.new (IsImageOf
-        (option_map (with_range place (length octets.now) []) (D.pending disk.old))) }
-    ensures calls { RunsCalls D.makes D.fails disk.old (Write place octets.now ∷ Sync ∷ []) disk.new
-        result }
-    ensures cause { FailsOnlyByFault (D.faults disk.old) (D.faults disk.new) result }
-{
-    disk_model::laws::a_write_frees_its_range();
-    disk_model::laws::a_sync_leaves_one_image();
-    disk_model::laws::images_at_a_moment::<D>();
-    disk.write_at(place, octets)?;
-    disk.sync()
 }
 
 // Reads the octets that the file stands for, and where the gate behind them stands.

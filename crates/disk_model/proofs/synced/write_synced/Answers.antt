@@ -1,11 +1,12 @@
-use Rattle.std.proofs.Common.{[], ◌∷◌, length, option_map, refl}
+use Rattle.std.proofs.Common.{[], ◌∷◌, length, option_map, refl, ◌∙◌}
 use Rattle.disk_model.specs.declared.call.Call.TheVariants.{Write, Sync}
-use Rattle.disk_model.specs.Images.{with_range}
+use Rattle.disk_model.specs.Images.{FailsToWrite, after_write, with_range}
 use Rattle.disk_model.specs.Moments.{IsImageOf}
 use Rattle.disk_model.specs.Throughout.{started, goes_on}
 use Rattle.disk_model.specs.Calls.{runs_and, runs_one}
-use Rattle.disk_sample.proofs.Writes.{before_write, during_write, during_sync}
-use Rattle.disk_sample.proofs.gates.write_synced.Goals as goal
+use Rattle.disk_model.proofs.Writes.{before_write, during_write, during_sync}
+use Rattle.disk_model.specs.Telling.{still_tells, mapped_tells, synced_tells}
+use Rattle.disk_model.proofs.synced.write_synced.Goals as goal
 
 pub returns-in_err-write_at-clause-any_moment : goal.returns-in_err-write_at-clause-any_moment
 returns-in_err-write_at-clause-any_moment g c =
@@ -38,3 +39,12 @@ returns-clause-calls g c =
     runs_and g.D.Disk.makes g.D.Disk.fails c.sync.result (Write c.args.place c.args.octets.now ∷ []) (Sync ∷ []) c.args.disk.now c.write_at.new.self c.sync.new.self
     (c.write_at.new.self, c.in_ok-write_at.ensures.made, refl)
     (runs_one g.D.Disk.makes g.D.Disk.fails c.sync.result Sync c.write_at.new.self c.sync.new.self c.sync.ensures.made c.sync.ensures.failed)
+
+pub returns-in_err-write_at-clause-tells : goal.returns-in_err-write_at-clause-tells
+returns-in_err-write_at-clause-tells g c =
+    still_tells (FailsToWrite c.args.place (length c.args.octets.now)) (g.D.Disk.pending c.args.disk.now) (g.D.Disk.pending c.write_at.new.self) c.in_err-write_at.ensures.torn
+
+pub returns-clause-tells : goal.returns-clause-tells
+returns-clause-tells g c =
+    synced_tells c.sync.result (g.D.Disk.pending c.write_at.new.self) (g.D.Disk.pending c.sync.new.self) c.sync.ensures.synced c.sync.ensures.unsynced
+    ∙ mapped_tells (after_write c.args.place c.args.octets.now) (g.D.Disk.pending c.args.disk.now) (g.D.Disk.pending c.write_at.new.self) c.in_ok-write_at.ensures.written

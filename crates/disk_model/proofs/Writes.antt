@@ -1,9 +1,8 @@
 -- The images of a disk that is written and synced.
 use Rattle.std.proofs.Common.{◌≡◌, inl, inr, ℕ, List, [], length, Option, Some, None, option_map, IfSome, Result, Ok, Err, OnOk, OnErr, ap, subst, sym, ◌∙◌}
 use Rattle.octet_core.specs.declared.failed.Failed.{Failed}
-use Rattle.disk_model.specs.Images.{Pending, IsImage, IsCoherent, FailsToWrite, with_range, after_write, after_sync}
+use Rattle.disk_model.specs.Images.{Pending, IsImage, IsCoherent, FailsToWrite, with_range, after_write, after_sync, written_and_synced}
 use Rattle.disk_model.specs.Moments.{IsImageOf, Becomes}
-use Rattle.disk_sample.specs.Gated.{written_and_synced}
 
 -- what a read gives is no matter
 of_range : (place count : ℕ) (content : List ℕ) (pending : Pending) (image : List ℕ)
@@ -54,8 +53,3 @@ pub both_done : {T : Type 0} → (result : Result T Failed) (old mid new : Optio
 both_done (Ok value) (Some told) mid new place octets written synced = synced ∙ ap (option_map after_sync) written
 both_done (Ok value) None mid new place octets written synced = synced ∙ ap (option_map after_sync) written
 both_done (Err error) old mid new place octets written synced = synced
-
--- what follows from the success follows where the call succeeded
-pub where_good : {T E : Type 0} → {P Q : Type 0} (result : Result T E) → OnOk result P → (P → Q) → OnOk result Q
-where_good (Ok value) good follows = follows good
-where_good (Err error) good follows = good
