@@ -1,97 +1,94 @@
-"""Times the built bench_journal at full size, in real time: appends beside plain writes and syncs, and a recovery."""
+"""Times the built bench_journal at full size beside the same work in plain Rust: appends, and a recovery."""
 import os
 import subprocess
 import sys
 import tempfile
 import time
 
-RUNS = 5
+RUNS = 7
 ENTRY = 1_136
-NEW_FILE = b"SLEA\0\0\0\1\0"
-
-
-def seconds(work):
-    """How long it takes."""
-    begin = time.perf_counter()
-    work()
-    return time.perf_counter() - begin
 
 
 def run(program, *words):
-    """What a run of the program writes."""
-    told = subprocess.run([program, *map(str, words)], stdout=subprocess.PIPE, text=True, check=True)
-    return told.stdout
-
-
-def write_plainly(path, entries, batches):
-    """The calls of as many appends alone: a batch and a closed gate are written and synced, and an open gate."""
-    file = os.open(path, os.O_RDWR | os.O_CREAT)
-    os.pwrite(file, NEW_FILE, 0)
-    os.fsync(file)
-    octets = b"Z" * (entries * ENTRY + 7)
-    gate = 8
-    for _ in range(batches):
-        os.pwrite(file, octets, gate + 1)
-        os.fsync(file)
-        os.pwrite(file, b"\xa5", gate)
-        os.fsync(file)
-        gate += len(octets)
-    os.close(file)
+    """What a run of the program writes, and the seconds that it takes: in real time, and of a processor."""
+    begin = time.perf_counter()
+    process = subprocess.Popen([program, *map(str, words)], stdout=subprocess.PIPE, text=True)
+    told = process.stdout.read()
+    _, status, usage = os.wait4(process.pid, 0)
+    taken = time.perf_counter() - begin
+    assert status == 0, f"{words} ended with {status}"
+    return told, (taken, usage.ru_utime + usage.ru_stime)
 
 
 def append(program, path, entries, batches):
-    """A run that appends."""
+    """How long as many appends to a new file take."""
     used = 9 + batches * (entries * ENTRY + 7)
-    told = run(program, "append", path, entries, batches)
+    told, taken = run(program, "append", path, entries, batches)
     assert told == f"{batches} batches of {entries} appended, {used} octets used\n", told
     assert os.path.getsize(path) == used, path
+    return taken
 
 
-def on_a_new_file(folder, work):
-    """How long it takes on a file that isn't there yet, and that is removed then."""
-    path = os.path.join(folder, "appended")
-    taken = seconds(lambda: work(path))
+def append_anew(program, path, entries, batches):
+    """The same, and the file is removed then."""
+    taken = append(program, path, entries, batches)
     os.remove(path)
     return taken
 
 
-def time_appends(program, folder, entries, batches):
-    ours, plain = [], []
-    for _ in range(RUNS):
-        ours.append(on_a_new_file(folder, lambda path: append(program, path, entries, batches)))
-        plain.append(on_a_new_file(folder, lambda path: write_plainly(path, entries, batches)))
-    count = entries * batches
-    print(
-        f"batches of {entries}: {count / min(ours):,.0f} entries a second, the calls alone {count / min(plain):,.0f},"
-        f" {min(ours) / min(plain):.2f} times their time"
-    )
-
-
 def recover(program, path):
-    told = run(program, "recover", path)
-    assert told.startswith("200000 entries recovered, "), told
+    told, taken = run(program, "recover", path)
+    assert told == f"200000 entries recovered, {os.path.getsize(path)} octets used\n", told
+    return taken
 
 
-def read_plainly(path):
-    with open(path, "rb") as file:
-        file.read()
+def in_turns(programs, work):
+    """The best times of each program, which are run in turns."""
+    times = [[work(program) for program in programs] for _ in range(RUNS)]
+    return [[min(run[which][kind] for run in times) for kind in range(2)] for which in range(len(programs))]
 
 
-def time_recovery(program, folder):
+def told(what, ours, plain, say):
+    for kind, name in enumerate(("real time", "processor time")):
+        print(f"{what}, {name}: {say(ours[kind])}, plain Rust {say(plain[kind])}, {ours[kind] / plain[kind]:.2f} times its time")
+
+
+def time_appends(programs, folder, entries, batches):
+    path = os.path.join(folder, "appended")
+    ours, plain = in_turns(programs, lambda program: append_anew(program, path, entries, batches))
+    told(f"batches of {entries}", ours, plain, lambda taken: f"{entries * batches / taken:,.0f} entries a second")
+
+
+def time_recovery(programs, folder):
     path = os.path.join(folder, "recovered")
-    append(program, path, 250, 800)
-    ours = min(seconds(lambda: recover(program, path)) for _ in range(RUNS))
-    plain = min(seconds(lambda: read_plainly(path)) for _ in range(RUNS))
-    print(f"recovery of 200,000: {ours:.3f} s, a read of the {os.path.getsize(path):,} octets alone {plain:.3f} s")
+    append(programs[0], path, 250, 800)
+    ours, plain = in_turns(programs, lambda program: recover(program, path))
+    told("recovery of 200,000", ours, plain, lambda taken: f"{taken:.3f} s")
+
+
+def same_octets(programs, folder):
+    """Both programs write the same file."""
+    files = []
+    for program in programs:
+        path = os.path.join(folder, "same")
+        append(program, path, 3, 2)
+        with open(path, "rb") as file:
+            files.append(file.read())
+        os.remove(path)
+    assert files[0] == files[1]
 
 
 def main():
-    program = os.path.abspath(sys.argv[1])
-    within = sys.argv[2] if len(sys.argv) > 2 else "."
+    ours, source = map(os.path.abspath, sys.argv[1:3])
+    within = sys.argv[3] if len(sys.argv) > 3 else "."
     with tempfile.TemporaryDirectory(dir=within) as folder:
-        time_appends(program, folder, 1, 1_000)
-        time_appends(program, folder, 256, 100)
-        time_recovery(program, folder)
+        plain = os.path.join(folder, "plain")
+        subprocess.run(["rustc", "-O", "--edition", "2024", "-o", plain, source], check=True)
+        programs = [ours, plain]
+        same_octets(programs, folder)
+        time_appends(programs, folder, 1, 1_000)
+        time_appends(programs, folder, 256, 100)
+        time_recovery(programs, folder)
     print("load: %.1f %.1f %.1f" % os.getloadavg())
 
 

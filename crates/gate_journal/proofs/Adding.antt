@@ -6,10 +6,10 @@ use Rattle.std.proofs.lemmas.List.{take_at, set_at, ext_get_or, get_or-take, get
 use Rattle.std.proofs.Math.Seq.{take-append_seam, drop-append-add}
 use Rattle.archive_terms.specs.Archive.{Entry, IsArchive}
 use Rattle.record_form.specs.Reading.{ReadBack}
-use Rattle.disk_model.specs.Images.{Pending, IsImage, all_synced, with_range, overwritten, is_written}
+use Rattle.disk_model.specs.Images.{Pending, IsImage, all_synced, with_range, overwritten, is_written, written_and_synced}
 use Rattle.disk_model.specs.Moments.{IsImageOf}
 use Rattle.gate_journal.specs.File.{header, gated, joined, batch_octets, IsBatch, Leads, StandsAt, StandsFor}
-use Rattle.gate_journal.specs.Kept.{Keeps, IsAtRest, IsOldOrNew, IsReady, closed_batch, written_and_synced}
+use Rattle.gate_journal.specs.Kept.{Keeps, IsAtRest, IsOldOrNew, IsReady, closed_batch}
 use Rattle.gate_journal.proofs.Growth.{all-append, gated_more, joined_more}
 use Rattle.gate_journal.proofs.Unique.{stands_for_one}
 
@@ -20,7 +20,7 @@ but_one : (k place : ℕ) → k ≢ place → is_written ((place, 1) ∷ []) k �
 but_one k place other = grind (arith, nat_tests)
 
 -- octets written behind a front
-written_behind : (front rest octets : List ℕ) (place : ℕ) → length front ≡ place → overwritten (front ++ rest) place octets ≡ front ++ octets ++ drop (length octets) rest
+pub written_behind : (front rest octets : List ℕ) (place : ℕ) → length front ≡ place → overwritten (front ++ rest) place octets ≡ front ++ octets ++ drop (length octets) rest
 written_behind front rest octets place there =
     subst (λ (p : ℕ). overwritten (front ++ rest) p octets ≡ front ++ octets ++ drop (length octets) rest) there
     (rw (take-append_seam front rest, drop-append-add front rest (length octets)) refl)
@@ -52,7 +52,7 @@ module _ (file image : List ℕ) (place : ℕ) (there : place < length file) (is
 
 -- a file with a gate behind a front, and octets that are written behind the gate
 module _ (front rest octets : List ℕ) (shut gate : ℕ) (place : length front ≡ gate) where
-  abbrev behind : List ℕ
+  abbrev pub behind : List ℕ
   behind = octets ++ drop (length octets) rest
 
   front_length : length (front ++ shut ∷ []) ≡ gate + 1
@@ -67,7 +67,7 @@ module _ (front rest octets : List ℕ) (shut gate : ℕ) (place : length front 
   split_old : front ++ shut ∷ rest ≡ (front ++ shut ∷ []) ++ rest
   split_old = sym (append_assoc front (shut ∷ []) rest)
 
-  octets_written : overwritten (front ++ shut ∷ rest) (gate + 1) octets ≡ front ++ shut ∷ behind
+  pub octets_written : overwritten (front ++ shut ∷ rest) (gate + 1) octets ≡ front ++ shut ∷ behind
   octets_written =
       ap (λ (file : List ℕ). overwritten file (gate + 1) octets) split_old
       ∙ written_behind (front ++ shut ∷ []) rest octets (gate + 1) front_length
@@ -90,10 +90,10 @@ module _ (front rest octets : List ℕ) (shut gate : ℕ) (place : length front 
 
 -- ---- what such files stand for
 
-abbrev front_of : List (List Entry) → List ℕ
+abbrev pub front_of : List (List Entry) → List ℕ
 front_of batches = header ++ gated batches
 
-stands_closed : (batches : List (List Entry)) (entries : List Entry) (gate shut : ℕ) (rest file : List ℕ) → Leads batches entries gate → shut ≢ 165
+pub stands_closed : (batches : List (List Entry)) (entries : List Entry) (gate shut : ℕ) (rest file : List ℕ) → Leads batches entries gate → shut ≢ 165
     → file ≡ front_of batches ++ shut ∷ rest → StandsAt entries gate file
 stands_closed batches entries gate shut rest file leads closed is = record {
   batches = batches;
@@ -144,13 +144,13 @@ module _ (told : Pending) (gate : ℕ) (at_rest : IsAtRest (Some told) gate) whe
   abbrev held : StandsAt at_rest.1 gate told.content
   held = at_rest.2
 
-  front_there : length (front_of held.batches) ≡ gate
+  pub front_there : length (front_of held.batches) ≡ gate
   front_there = omega (arith, held.leads.there, length-append header (gated held.batches))
 
-  content_is : told.content ≡ front_of held.batches ++ held.gate ∷ held.rest
+  pub content_is : told.content ≡ front_of held.batches ++ held.gate ∷ held.rest
   content_is = held.is ∙ sym (append_assoc header (gated held.batches) (held.gate ∷ held.rest))
 
-  entries_are : ReadBack → (entries : List Entry) → Keeps (Some told) entries → at_rest.1 ≡ entries
+  pub entries_are : ReadBack → (entries : List Entry) → Keeps (Some told) entries → at_rest.1 ≡ entries
   entries_are law entries keeps = (stands_for_one law at_rest.1 entries gate keeps.1.0 told.content held keeps.1.1).0
 
   module _ (octets : List ℕ) where
@@ -207,7 +207,7 @@ module _ (told : Pending) (gate : ℕ) (at_rest : IsAtRest (Some told) gate) whe
       abbrev new_file : List ℕ
       new_file = front_of held.batches ++ 165 ∷ behind (front_of held.batches) held.rest octets held.gate gate front_there
 
-      stands_whole : StandsAt (entries ++ batch) (gate + length octets) new_file
+      pub stands_whole : StandsAt (entries ++ batch) (gate + length octets) new_file
       stands_whole = subst (λ (l : List Entry). StandsAt (l ++ batch) (gate + length octets) new_file) same_entries (stands_new new_file refl)
 
 -- ---- the whole of it over what a disk tells

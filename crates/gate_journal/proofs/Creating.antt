@@ -1,10 +1,10 @@
 -- A new journal on an empty disk.
 use Rattle.std.proofs.Common.{◌≡◌, ℕ, ◌+◌, ◌≤◌, List, [], ◌∷◌, ◌++◌, length, Option, Some, None, IfSome, option_map, Result, Ok, Err, OnOk, is_err, false, refl, sym, ap, subst, ◌∙◌, arith}
 use Rattle.std.proofs.lemmas.List.{nil_from_length}
-use Rattle.disk_model.specs.Images.{Pending, all_synced, overwritten, with_range}
+use Rattle.disk_model.specs.Images.{Pending, all_synced, overwritten, with_range, written_and_synced}
 use Rattle.disk_model.specs.Moments.{IsImageOf}
 use Rattle.gate_journal.specs.File.{header, StandsAt}
-use Rattle.gate_journal.specs.Kept.{Keeps, IsAtRest, IsShort, written_and_synced}
+use Rattle.gate_journal.specs.Kept.{Keeps, IsAtRest, IsShort}
 
 abbrev pub new_octets : List ℕ
 new_octets = header ++ 0 ∷ []

@@ -5,7 +5,7 @@ use Rattle.record_form.specs.declared.fault.EntryFault.{EntryFault}
 use Rattle.record_form.specs.Reading.{entry_from}
 use Rattle.gate_journal.specs.declared.fault.JournalFault.{JournalFault}
 use Rattle.gate_journal.specs.declared.fault.JournalFault.TheVariants.{NotJournal, Damaged, Full, DiskFault, Stale, Memory}
-use Rattle.gate_journal.specs.Reading.{◌>>=◌, with_next, fault_place, next_entry, entries_at, ending_at, lesser, size_at, count_at, batch_at, gate_at, LedTo, Refuses}
+use Rattle.gate_journal.specs.Reading.{◌>>=◌, with_next, first_fault, next_entry, entries_at, ending_at, lesser, size_at, count_at, batch_at, gate_at, LedTo, Refuses}
 use Rattle.std.proofs.Common.{drop}
 
 abbrev IsDamage : JournalFault → Type 0
@@ -46,7 +46,7 @@ bound {A} {B} (Err other) f fault first second e = first (ap (λ (x : JournalFau
 of_next : (before : List Entry) (file : List ℕ) (place : ℕ) (read : Result (Entry × ℕ) EntryFault) (fault : JournalFault) → with_next before file place read ≡ Err fault → IsDamage fault
 of_next before file place (Ok read) fault e =
     tested (keeps_order before read.0) (Ok (before ++ read.0 ∷ [], read.1)) (place + 1) fault (λ wrong. absurd (good (before ++ read.0 ∷ [], read.1) fault wrong)) e
-of_next before file place (Err read) fault e = damaged {A = List Entry × ℕ} (fault_place file place read) fault e
+of_next before file place (Err read) fault e = damaged {A = List Entry × ℕ} (first_fault before file place read) fault e
 
 of_entry : (before : List Entry) (file : List ℕ) (place : ℕ) (fault : JournalFault) → next_entry before file place ≡ Err fault → IsDamage fault
 unfolding next_entry

@@ -1,10 +1,11 @@
 -- A batch that follows what is kept.
-use Rattle.std.proofs.Common.{◌≡◌, ◌++◌, ◌&&◌, Bool, true, false, List, Option, Some, None, IsTrue, refl, sym, subst, ◌∙◌}
+use Rattle.std.proofs.Common.{◌≡◌, ◌++◌, ◌&&◌, Bool, true, false, ℕ, List, Option, Some, None, IfSome, IsTrue, refl, sym, subst, ◌∙◌}
 use Rattle.std.specs.List.{list_all}
 use Rattle.std.proofs.lemmas.List.Folds.{list_all-append}
 use Rattle.archive_terms.specs.Archive.{Entry, IsArchive, is_storable, is_ordered}
 use Rattle.record_form.specs.Reading.{ReadBack}
 use Rattle.disk_model.specs.Images.{Pending}
+use Rattle.gate_journal.specs.File.{StandsAt}
 use Rattle.gate_journal.specs.Kept.{Keeps}
 use Rattle.gate_journal.proofs.Unique.{stands_for_one}
 
@@ -21,3 +22,7 @@ pub follows_kept : ReadBack → (pending : Option Pending) (stored batch entries
 follows_kept law (Some told) stored batch entries kept archive keeps =
     subst (λ (l : List Entry). IsArchive (l ++ batch)) (stands_for_one law stored entries kept.1.0 keeps.1.0 told.content kept.1.1 keeps.1.1).0 archive
 follows_kept law None stored batch entries kept archive keeps = absurd kept
+
+pub found_is_kept : ReadBack → (pending : Option Pending) (entries found : List Entry) (gate : ℕ) → Keeps pending entries → IfSome pending (λ told. StandsAt found gate told.content) → found ≡ entries
+found_is_kept law (Some told) entries found gate keeps stands = (stands_for_one law found entries gate keeps.1.0 told.content stands keeps.1.1).0
+found_is_kept law None entries found gate keeps stands = absurd keeps

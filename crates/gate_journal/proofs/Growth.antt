@@ -14,7 +14,7 @@ use Rattle.record_form.specs.Reading.{AreOctets, ReadWhereSpelled, StandsFrom, e
 use Rattle.gate_journal.specs.declared.fault.JournalFault.{JournalFault}
 use Rattle.gate_journal.specs.declared.fault.JournalFault.TheVariants.{Damaged}
 use Rattle.gate_journal.specs.File.{header, entries_octets, batch_octets, IsBatch, gated, joined, Leads, StandsAt}
-use Rattle.gate_journal.specs.Reading.{◌>>=◌, with_next, fault_place, next_entry, entries_at, ending_at, lesser, size_at, count_at, batch_at, gate_at, LedTo}
+use Rattle.gate_journal.specs.Reading.{◌>>=◌, with_next, first_fault, next_entry, entries_at, ending_at, lesser, size_at, count_at, batch_at, gate_at, LedTo}
 
 -- ---- readings that answer Ok
 
@@ -72,7 +72,7 @@ with_next_ok before file place (Ok read) after end law e =
         stands = subst (StandsFrom place file read.0) (ap (λ (p : List Entry × ℕ). p.1) made) (law read.0 read.1 refl);
       },
     )
-with_next_ok before file place (Err fault) after end law e = absurd (err_ok (Damaged (fault_place file place fault)) (after, end) e)
+with_next_ok before file place (Err fault) after end law e = absurd (err_ok (Damaged (first_fault before file place fault)) (after, end) e)
 
 next_ok : ReadWhereSpelled → (before : List Entry) (file : List ℕ) (place : ℕ) (after : List Entry) (end : ℕ) → AreOctets file
     → next_entry before file place ≡ Ok (after, end) → (entry : Entry) × One before after entry file place end

@@ -26,8 +26,8 @@ refuses_told Stale (Some told) before after file same refused = absurd refused
 refuses_told Memory (Some told) before after file same refused = tt
 refuses_told (NotJournal place) None before after file same refused = tt
 refuses_told (Damaged place) None before after file same refused = tt
-refuses_told (Full need free) None before after file same refused = tt
-refuses_told Stale None before after file same refused = tt
+refuses_told (Full need free) None before after file same refused = absurd refused
+refuses_told Stale None before after file same refused = absurd refused
 refuses_told Memory None before after file same refused = tt
 
 read_as : (pending : Option Pending) (file items : List ℕ) → file ≡ items → IfSome pending (λ told. items ≡ told.content) → IfSome pending (λ told. file ≡ told.content)

@@ -2,7 +2,6 @@ pub mod Entries
 pub mod Growth
 pub mod Header
 pub mod Damage
-pub mod Writes
 pub mod Unique
 pub mod Adding
 pub mod Storable
@@ -11,3 +10,5 @@ pub mod Creating
 pub mod Passing
 pub mod Following
 pub mod Again
+pub mod Stopping
+pub mod Standing

@@ -1,13 +1,18 @@
 -- A journal on a disk: what is kept there, and what its calls make.
-use Rattle.std.specs.Prelude.{ℕ, ◌+◌, ◌≤◌, ◌≡◌, length, ◌⊎◌, Bool, Option, Some, IfSome, IsSomeAnd, List, [], ◌∷◌, ◌++◌}
+use Rattle.std.specs.Prelude.{ℕ, ◌+◌, ◌<◌, ◌≤◌, ◌≡◌, length, ◌⊎◌, Bool, false, IsFalse, nat_le, if◌then◌else◌, Option, Some, None, IfSome, IsSomeAnd, List, [], ◌∷◌, ◌++◌}
 use Rattle.archive_terms.specs.Archive.{Entry, IsArchive}
-use Rattle.disk_model.specs.Images.{Pending, all_synced, overwritten}
+use Rattle.disk_model.specs.Images.{Pending, all_synced}
 use Rattle.disk_model.specs.Moments.{Elapses}
 use Rattle.disk_model.specs.declared.call.Call.{Call}
 use Rattle.disk_model.specs.declared.call.Call.TheVariants.{Write, Sync}
+use Rattle.disk_model.specs.Calls.{FailedAtOne}
+use Rattle.disk_model.specs.MemoryDisk.{DiskState, IsMadeCall, IsFailedCall, pending_of, restarted}
+use Rattle.disk_model.specs.declared.orders.Pick.{Pick}
+use Rattle.disk_model.specs.declared.orders.Pick.TheVariants.{Old, New, Torn}
+use Rattle.disk_model.specs.declared.orders.Stop.{Stop}
 use Rattle.octet_core.specs.Fault.{Rose}
 use Rattle.gate_journal.specs.declared.fault.JournalFault.{JournalFault}
-use Rattle.gate_journal.specs.declared.fault.JournalFault.TheVariants.{DiskFault}
+use Rattle.gate_journal.specs.declared.fault.JournalFault.TheVariants.{DiskFault, Full, Stale, Memory}
 use Rattle.gate_journal.specs.File.{header, StandsFor, StandsAt, IsBatch, batch_octets}
 use Rattle.gate_journal.specs.Reading.{Refuses}
 
@@ -40,10 +45,6 @@ appending_octets gate octets = Write (gate + 1) octets ∷ Sync ∷ Write gate (
 abbrev pub appending : ℕ → List Entry → List Call
 appending gate batch = appending_octets gate (closed_batch batch)
 
--- what octets become that were written and synced
-abbrev pub written_and_synced : ℕ → List ℕ → Pending → Pending
-written_and_synced place octets told = all_synced (overwritten told.content place octets)
-
 -- a journal on a disk, as contracts see it: the gate behind its batches, and whether an append has failed
 pub record JournalState (D : Type 0) : Type 0 where
   pub disk : D
@@ -59,7 +60,13 @@ pub record IsReady (pending : Option Pending) (batch : List Entry) (octets : Lis
 -- why a disk's file is refused, by what it holds and how often it had failed before and after
 abbrev pub RefusesDisk : JournalFault → Option Pending → ℕ → ℕ → Type 0
 RefusesDisk DiskFault pending before after = Rose before after
+RefusesDisk (Full need free) pending before after = ⊥
+RefusesDisk Stale pending before after = ⊥
 RefusesDisk fault pending before after = IfSome pending (λ told. Refuses fault told.content)
+
+-- the file wasn't read: the disk failed, or memory was refused
+abbrev pub IsUnread : JournalFault → Type 0
+IsUnread fault = (fault ≡ DiskFault) ⊎ (fault ≡ Memory)
 
 -- the counted calls that make a journal
 abbrev pub creating : List Call
@@ -68,3 +75,33 @@ creating = Write 0 (header ++ 0 ∷ []) ∷ Sync ∷ []
 -- at most as long as a new journal
 abbrev pub IsShort : List ℕ → Type 0
 IsShort image = length image ≤ 9
+
+-- a disk in memory that runs, fails at no call, and is to stop there
+pub record IsToStop (disk : DiskState) (stop : Stop) : Type 0 where
+  pub runs : disk.stopped ≡ None
+  pub stops : disk.stop ≡ Some stop
+  pub succeeds : disk.calls.failing ≡ []
+
+-- An append of a batch behind a gate of a disk in memory that was to stop at one of its four calls: it failed, and not for
+-- want of memory.
+pub record StopsIn (disk : DiskState) (gate : ℕ) (batch : List Entry) (stop : Stop) (after : DiskState) : Type 0 where
+  pub ordered : IsToStop disk stop
+  pub some : 0 < stop.calls
+  pub within : stop.calls ≤ 4
+  pub failed : FailedAtOne IsMadeCall IsFailedCall disk (appending gate batch) after
+  pub ample : IsFalse after.memory_refused
+
+-- Whether a stop at the k-th of an append's four calls leaves the batch in the file: at the gate's write or at the sync
+-- behind it, where the pick keeps all that was written.
+abbrev pub leaves_batch : ℕ → Pick → Bool
+leaves_batch k New = nat_le 3 k
+leaves_batch k Old = false
+leaves_batch k Torn = false
+
+-- the entries that such a stop leaves
+abbrev pub entries_left : List Entry → List Entry → Stop → List Entry
+entries_left entries batch stop = if leaves_batch stop.calls stop.pick then entries ++ batch else entries
+
+-- once it is restarted by the stop's pick a disk in memory keeps these entries
+abbrev pub KeepsOnRestart : DiskState → Stop → List Entry → Type 0
+KeepsOnRestart stopped stop entries = Keeps (Some (pending_of (restarted stopped stop.pick))) entries

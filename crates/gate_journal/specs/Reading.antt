@@ -1,11 +1,12 @@
 -- Reading a file batch by batch, and the place at which it stops being of its form. A place counts from the file's first
 -- octet.
-use Rattle.std.specs.Prelude.{◌≡◌, ◌≢◌, ◌⊎◌, ℕ, ◌+◌, zero, suc, ◌==◌, ◌<◌, Bool, ◌&&◌, nat_lt, nat_le, min, List, [], ◌∷◌, ◌++◌, length, take, drop, slice_index, if◌then◌else◌, Option, Some, None, Result, Ok, Err}
+use Rattle.std.specs.Prelude.{◌≡◌, ◌≢◌, ◌⊎◌, ℕ, ◌+◌, zero, suc, ◌==◌, ◌<◌, Bool, false, not, ◌&&◌, nat_lt, nat_le, min, List, [], ◌∷◌, ◌++◌, length, take, drop, slice_index, if◌then◌else◌, Option, Some, None, Result, Ok, Err}
 use Rattle.std.specs.Int.{w16, w32, from_be_bytes}
-use Rattle.archive_terms.specs.Archive.{Entry, keeps_order}
+use Rattle.archive_terms.specs.Archive.{Entry, frame, keeps_order}
+use Rattle.cds_time.specs.declared.cds.Cds.{Cds}
 use Rattle.record_form.specs.declared.fault.EntryFault.{EntryFault}
 use Rattle.record_form.specs.declared.fault.EntryFault.TheVariants as entry_faults
-use Rattle.record_form.specs.Reading.{entry_from}
+use Rattle.record_form.specs.Reading.{entry_from, ert_from}
 use Rattle.gate_journal.specs.declared.fault.JournalFault.{JournalFault}
 use Rattle.gate_journal.specs.declared.fault.JournalFault.TheVariants.{NotJournal, Damaged, Full, DiskFault, Stale, Memory}
 use Rattle.gate_journal.specs.File.{header, gated, Leads}
@@ -28,12 +29,27 @@ fault_place file place (entry_faults.BadKind found) = place
 fault_place file place (entry_faults.BadField field) = field
 fault_place file place entry_faults.Memory = place
 
+-- a frame of which the time alone is known
+abbrev pub frame_at : Cds → Entry
+frame_at ert = frame (record { ert = ert; quality = 0; antenna = []; lost = 0; octets = [] })
+
+-- whether a frame's time, where there is one, breaks the order behind others
+abbrev pub is_late : List Entry → Option Cds → Bool
+is_late before None = false
+is_late before (Some ert) = not (keeps_order before (frame_at ert))
+
+-- The place of the first fault of an entry that is no whole one: a frame's time that breaks the order stands before its
+-- other fields.
+abbrev pub first_fault : List Entry → List ℕ → ℕ → EntryFault → ℕ
+first_fault before file place fault =
+    if is_late before (ert_from place file) then place + 1 else fault_place file place fault
+
 -- An entry behind others, and the place behind it. One that breaks the order of times is named by its time's first octet,
 -- which follows its kind.
 abbrev pub with_next : List Entry → List ℕ → ℕ → Result (Entry × ℕ) EntryFault → Result (List Entry × ℕ) JournalFault
 with_next before file place (Ok read) =
     if keeps_order before read.0 then Ok (before ++ read.0 ∷ [], read.1) else Err (Damaged (place + 1))
-with_next before file place (Err fault) = Err (Damaged (fault_place file place fault))
+with_next before file place (Err fault) = Err (Damaged (first_fault before file place fault))
 
 unfoldable pub next_entry : List Entry → List ℕ → ℕ → Result (List Entry × ℕ) JournalFault
 next_entry before file place = with_next before file place (entry_from place file)

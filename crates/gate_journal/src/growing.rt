@@ -2,8 +2,10 @@
 ghost use Rattle.std.specs.Prelude.{◌≡◌, [], ◌∷◌, ◌++◌, IsTrue, if◌then◌else◌, IfOk};
 ghost use Rattle.archive_terms.specs.Archive.{is_storable, keeps_order};
 ghost use Rattle.record_form.specs.Entry.{entry_of};
+ghost use Rattle.gate_journal.specs.Reading.{is_late};
 
 use crate::order::Times;
+use cds_time::Cds;
 use record_form::{Entries, Entry, Memory};
 use std::alloc::Global;
 use std::marker::Model;
@@ -57,6 +59,17 @@ impl Growing {
         self.entries.push(entry)?;
         self.times = times;
         Ok(true)
+    }
+
+    /// Whether a frame's time, where there is one, breaks the order behind the others.
+    pub fn is_late(&self, ert: Option<Cds>) -> bool
+        ensures { result ≡ is_late self.now ert }
+    {
+        archive_terms::laws::follows_by_last_times();
+        match ert {
+            Some(ert) => !self.times.admit_frame(ert.moment()),
+            None => false,
+        }
     }
 
     /// The entries.

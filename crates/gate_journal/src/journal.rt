@@ -1,5 +1,5 @@
 // A journal on a disk.
-ghost use Rattle.std.specs.Prelude.{◌≡◌, ◌≢◌, ◌+◌, ◌-◌, ◌*◌, ◌<◌, ◌≤◌, ◌^◌, ◌++◌, ◌⊎◌, ℕ, true, false, List, length, max, [], ◌∷◌, Some, option_map, IfSome, IsTrue, OnOk, OnErr, IfOk, IfErr, IsOk, IsErrOf, Ok, Err};
+ghost use Rattle.std.specs.Prelude.{◌≡◌, ◌≢◌, ◌+◌, ◌-◌, ◌*◌, ◌<◌, ◌≤◌, ◌^◌, ◌++◌, ◌⊎◌, ℕ, true, false, List, length, max, [], ◌∷◌, Some, option_map, IfSome, IsSomeAnd, is_some, IsTrue, OnOk, OnErr, IfOk, IfErr, IsOk, IsErrOf, Ok, Err};
 ghost use Rattle.std.specs.List.{list_all};
 ghost use Rattle.octet_core.specs.Fault.{FailsOnlyByFault, Rose};
 ghost use Rattle.archive_terms.specs.Archive.{Entry, IsArchive, is_storable};
@@ -9,13 +9,13 @@ ghost use Rattle.disk_model.specs.Calls.{AllMade, FailedAtOne, RunsCalls};
 ghost use Rattle.disk_model.specs.MemoryDisk.{steered};
 ghost use Rattle.disk_model.specs.declared.call.Call.TheVariants.{Write, Sync};
 ghost use Rattle.gate_journal.specs.File.{StandsFor, StandsAt, entries_octets};
-ghost use Rattle.gate_journal.specs.Kept.{Keeps, IsAtRest, IsOldOrNew, IsReady, IsShort, OnlyReads, RefusesDisk, appending, appending_octets, creating, written_and_synced};
+ghost use Rattle.gate_journal.specs.Kept.{Keeps, IsAtRest, IsOldOrNew, IsReady, IsShort, OnlyReads, RefusesDisk, appending, appending_octets, creating, IsUnread};
 ghost use Rattle.gate_journal.specs.declared.fault.JournalFault.TheVariants as JournalFault;
 
-use crate::JournalFault;
 use crate::loading::{HEADER, OPEN, load};
 use crate::writing::{entries_length, write_batch};
-use disk_model::{Disk, MemoryDisk, Orders};
+use crate::{JournalFault, laws};
+use disk_model::{Disk, MemoryDisk, Orders, write_synced};
 use octet_core::{Failed, Octets};
 use record_form::Entries;
 use std::alloc::Global;
@@ -100,14 +100,15 @@ impl<D: Disk> Journal<D> {
             read.0.disk (IsImageOf (D.pending disk))) }
         ensures any_moment_refused { IfErr result (λ fault. HoldsThroughout D.moment D.images_since
             disk fault.1 (IsImageOf (D.pending disk))) }
+        ensures tells { IfOk result (λ read. is_some (D.pending read.0.disk)
+            ≡ is_some (D.pending disk)) }
         ensures calls { IfOk result (λ read. AllMade D.makes disk (Sync ∷ []) read.0.disk) }
         ensures refused { IfErr result (λ fault. RefusesDisk fault.0 (D.pending disk) (D.faults disk)
             (D.faults fault.1)) }
+        ensures standing { IfErr result (λ fault. (entries : List Entry) → IsSomeAnd (D.pending disk)
+            (λ told. StandsFor entries told.content) → IsUnread fault.0) }
     {
-        if disk.sync().is_err() {
-            return Err((JournalFault::DiskFault, disk));
-        }
-        match read_all(alloc, &mut disk) {
+        match load_synced(alloc, &mut disk) {
             Ok((entries, gate)) => {
                 let journal = Journal {
                     disk,
@@ -118,6 +119,35 @@ impl<D: Disk> Journal<D> {
                 Ok((journal, entries))
             }
             Err(fault) => Err((fault, disk)),
+        }
+    }
+
+    /// The same in place, whatever appends failed: the disk is synced, and then read. After a refusal
+    /// the journal is stale.
+    pub fn recover_again(&mut self, alloc: Global) -> Result<Entries, JournalFault>
+        ensures stands { IfOk result (λ entries. IfSome (D.pending self.old.disk)
+            (λ told. StandsAt entries self.new.gate told.content)) }
+        ensures keeps { IfOk result (λ entries. IfSome (D.pending self.old.disk) (λ _. Keeps
+            (D.pending self.new.disk) entries)) }
+        ensures fresh { OnOk result (self.new.is_stale ≡ false) }
+        ensures stale { OnErr result (self.new.is_stale ≡ true) }
+        ensures any_moment { HoldsThroughout D.moment D.images_since self.old.disk self.new.disk
+            (IsImageOf (D.pending self.old.disk)) }
+        ensures tells { is_some (D.pending self.new.disk) ≡ is_some (D.pending self.old.disk) }
+        ensures calls { OnOk result (AllMade D.makes self.old.disk (Sync ∷ []) self.new.disk) }
+        ensures refused { IfErr result (λ fault. RefusesDisk fault (D.pending self.old.disk)
+            (D.faults self.old.disk) (D.faults self.new.disk)) }
+        ensures standing { IfErr result (λ fault. (entries : List Entry) → IsSomeAnd
+            (D.pending self.old.disk) (λ told. StandsFor entries told.content) → IsUnread fault) }
+    {
+        self.is_stale = true;
+        match load_synced(alloc, &mut self.disk) {
+            Ok((entries, gate)) => {
+                self.gate = gate;
+                self.is_stale = false;
+                Ok(entries)
+            }
+            Err(fault) => Err(fault),
         }
     }
 
@@ -137,6 +167,7 @@ impl<D: Disk> Journal<D> {
         ensures any_moment { (entries : List Entry) → Keeps (D.pending self.old.disk) entries
             → HoldsThroughout D.moment D.images_since self.old.disk self.new.disk
             (IsOldOrNew entries batch.now) }
+        ensures tells { is_some (D.pending self.new.disk) ≡ is_some (D.pending self.old.disk) }
         ensures calls { OnOk result (AllMade D.makes self.old.disk
             (appending self.old.gate batch.now) self.new.disk) }
         ensures failed { IsErrOf result JournalFault.DiskFault → FailedAtOne D.makes D.fails
@@ -182,6 +213,16 @@ impl<D: Disk> Journal<D> {
         self.gate + 1
     }
 
+    /// Whether an append answered `DiskFault`, so that each one answers `Stale`. While none has, the
+    /// gate stands behind what the disk keeps.
+    pub fn is_stale(&self) -> bool
+        ensures stale { result ≡ self.now.is_stale }
+        ensures at_rest { self.now.is_stale ≡ false → IsAtRest (D.pending self.now.disk)
+            self.now.gate }
+    {
+        self.is_stale
+    }
+
     /// The disk, to be looked at.
     pub fn disk(&self) -> &D
         ensures { result.now ≡ self.now.disk }
@@ -217,6 +258,7 @@ fn put<D: Disk>(disk: &mut D, gate: u64, octets: &[u8]) -> Result<(), Failed>
     ensures size { OnOk result (gate + length octets.now < D.extent disk.new) }
     ensures any_moment { (batch : List Entry) → IsReady (D.pending disk.old) batch octets.now → (entries : List Entry) → Keeps (D.pending disk.old) entries
         → HoldsThroughout D.moment D.images_since disk.old disk.new (IsOldOrNew entries batch) }
+    ensures tells { is_some (D.pending disk.new) ≡ is_some (D.pending disk.old) }
     ensures calls { RunsCalls D.makes D.fails disk.old (appending_octets gate octets.now) disk.new result }
     ensures cause { FailsOnlyByFault (D.faults disk.old) (D.faults disk.new) result }
 {
@@ -225,24 +267,30 @@ fn put<D: Disk>(disk: &mut D, gate: u64, octets: &[u8]) -> Result<(), Failed>
     write_synced(disk, gate, &[OPEN])
 }
 
-// Writes octets and syncs them. At every moment each image is an old one, but for the range.
-fn write_synced<D: Disk>(disk: &mut D, place: u64, octets: &[u8]) -> Result<(), Failed>
-    requires { place ≤ D.extent disk.old }
-    ensures written { OnOk result (D.pending disk.new ≡ option_map
-        (written_and_synced place octets.now) (D.pending disk.old)) }
-    ensures size { OnOk result (D.extent disk.new ≡ max (D.extent disk.old)
-        (place + length octets.now)) }
-    ensures any_moment { HoldsThroughout D.moment D.images_since disk.old disk.new (IsImageOf
-        (option_map (with_range place (length octets.now) []) (D.pending disk.old))) }
-    ensures calls { RunsCalls D.makes D.fails disk.old (Write place octets.now ∷ Sync ∷ []) disk.new
-        result }
-    ensures cause { FailsOnlyByFault (D.faults disk.old) (D.faults disk.new) result }
+// Syncs the disk, and reads the entries that its file stands for, and where the gate behind them
+// stands.
+fn load_synced<D: Disk>(alloc: Global, disk: &mut D) -> Result<(Entries, u64), JournalFault>
+    ensures stands { IfOk result (λ read. IfSome (D.pending disk.old)
+        (λ told. StandsAt read.0 read.1 told.content)) }
+    ensures keeps { IfOk result (λ read. IfSome (D.pending disk.old) (λ _. Keeps
+        (D.pending disk.new) read.0)) }
+    ensures at_rest { IfOk result (λ read. IsAtRest (D.pending disk.new) read.1) }
+    ensures within { IfOk result (λ read. read.1 < D.extent disk.new) }
+    ensures fits { IfOk result (λ read. read.1 + 1 < 2 ^ 64) }
+    ensures any_moment { HoldsThroughout D.moment D.images_since disk.old disk.new
+        (IsImageOf (D.pending disk.old)) }
+    ensures tells { is_some (D.pending disk.new) ≡ is_some (D.pending disk.old) }
+    ensures calls { OnOk result (AllMade D.makes disk.old (Sync ∷ []) disk.new) }
+    ensures refused { IfErr result (λ fault. RefusesDisk fault (D.pending disk.old)
+        (D.faults disk.old) (D.faults disk.new)) }
+    ensures standing { IfErr result (λ fault. (entries : List Entry) → IsSomeAnd
+        (D.pending disk.old) (λ told. StandsFor entries told.content) → IsUnread fault) }
 {
-    disk_model::laws::a_write_frees_its_range();
-    disk_model::laws::a_sync_leaves_one_image();
-    disk_model::laws::images_at_a_moment::<D>();
-    disk.write_at(place, octets)?;
-    disk.sync()
+    if disk.sync().is_err() {
+        return Err(JournalFault::DiskFault);
+    }
+    let (entries, gate) = read_all(alloc, disk)?;
+    Ok((entries, gate))
 }
 
 // Reads the entries that the file stands for, and where the gate behind them stands.
@@ -254,9 +302,14 @@ fn read_all<D: Disk>(alloc: Global, disk: &mut D) -> Result<(Entries, u64), Jour
     ensures same { OnOk result (disk.new ≡ disk.old) }
     ensures reads { OnlyReads D.pending D.moment D.images_since disk.old disk.new }
     ensures refused { IfErr result (λ fault. RefusesDisk fault (D.pending disk.old) (D.faults disk.old) (D.faults disk.new)) }
+    ensures standing { IfErr result (λ fault. (entries : List Entry) → IsSomeAnd (D.pending disk.old)
+        (λ told. StandsFor entries told.content) → IsUnread fault) }
 {
+    laws::a_refused_file_stands_for_nothing();
     let file = read_file(alloc, disk)?;
-    load(alloc, &file)
+    let octets = file.as_slice();
+    record_form::laws::slice(octets);
+    load(alloc, octets)
 }
 
 // Reads all octets of the file.
@@ -266,6 +319,7 @@ fn read_file<D: Disk>(alloc: Global, disk: &mut D) -> Result<Vec<u8>, JournalFau
     ensures same { OnOk result (disk.new ≡ disk.old) }
     ensures reads { OnlyReads D.pending D.moment D.images_since disk.old disk.new }
     ensures refused { IfErr result (λ fault. RefusesDisk fault (D.pending disk.old) (D.faults disk.old) (D.faults disk.new)) }
+    ensures unread { IfErr result IsUnread }
 {
     disk_model::laws::images_at_a_moment::<D>();
     let mut file = Vec::new(alloc);

@@ -1,14 +1,18 @@
-// Laws of what a file stands for, each the contract of an empty function: a caller has the law by
+// Laws of what a file stands for and of what a stop leaves, each the contract of an empty function: a caller has the law by
 // the call.
-ghost use Rattle.std.specs.Prelude.{◌≡◌, ◌++◌, ℕ, List, Option, IsTrue};
+ghost use Rattle.std.specs.Prelude.{◌≡◌, ◌<◌, ◌≤◌, ◌++◌, ℕ, [], List, Option, None, Some, IfSome, IsTrue, IsFalse};
 ghost use Rattle.archive_terms.specs.Archive.{Entry, IsArchive, is_storable};
 ghost use Rattle.std.specs.List.{list_all};
 ghost use Rattle.disk_model.specs.Images.{Pending};
 ghost use Rattle.disk_model.specs.Moments.{IsImageOf};
-ghost use Rattle.gate_journal.specs.File.{StandsFor, StandsAt};
+ghost use Rattle.disk_model.specs.Calls.{AllMade, FailedAtOne};
+ghost use Rattle.disk_model.specs.MemoryDisk.{DiskState, IsMadeCall, IsFailedCall, pending_of, steered};
+ghost use Rattle.disk_model.specs.declared.orders.Orders.{Orders};
+ghost use Rattle.disk_model.specs.declared.orders.Stop.{Stop};
+ghost use Rattle.gate_journal.specs.File.{IsBatch, StandsFor, StandsAt};
 ghost use Rattle.record_form.specs.Reading.{AreOctets};
 ghost use Rattle.gate_journal.specs.Reading.{IsDamagedAt, IsNoJournal};
-ghost use Rattle.gate_journal.specs.Kept.{Keeps};
+ghost use Rattle.gate_journal.specs.Kept.{Keeps, IsAtRest, IsToStop, StopsIn, KeepsOnRestart, appending, entries_left};
 
 /// A file stands for one list of entries at most, and its gate stands at one place.
 pub fn a_file_stands_for_one_list()
@@ -48,5 +52,41 @@ pub fn a_refused_file_stands_for_nothing()
 {
     archive_terms::laws::archive_grows();
     record_form::laws::read_where_spelled();
+    record_form::laws::read_back();
+}
+
+/// What is kept is what a recovery finds.
+pub fn a_recovery_finds_what_is_kept()
+    ensures { (pending : Option Pending) (entries found : List Entry) (gate : ℕ)
+        → Keeps pending entries → IfSome pending (λ told. StandsAt found gate told.content)
+        → found ≡ entries }
+{
+    record_form::laws::read_back();
+}
+
+/// A stop at a counted call of an append, the K-th of its four: the append fails, and the disk in
+/// memory keeps, once it is restarted, the entries from before, with the batch exactly where K is 3
+/// or 4 and the pick is new. A stop past the fourth call lets the append be.
+pub fn a_stop_leaves_whole_batches()
+    ensures steered { (disk : DiskState) (orders : Orders) (stop : Stop) → disk.stopped ≡ None
+        → orders.stop ≡ Some stop → orders.failing.failing ≡ [] → 0 < stop.calls
+        → IsToStop (steered disk orders) stop }
+    ensures fails { (disk after : DiskState) (gate : ℕ) (batch : List Entry) (stop : Stop)
+        → IsToStop disk stop → 0 < stop.calls → stop.calls ≤ 4
+        → AllMade IsMadeCall disk (appending gate batch) after → ⊥ }
+    ensures stopped { (disk after : DiskState) (gate : ℕ) (batch : List Entry) (stop : Stop)
+        → StopsIn disk gate batch stop after → after.stopped ≡ Some stop.pick }
+    ensures left { (disk after : DiskState) (gate : ℕ) (entries batch : List Entry) (stop : Stop)
+        → IsAtRest (Some (pending_of disk)) gate → Keeps (Some (pending_of disk)) entries
+        → IsBatch batch → IsArchive (entries ++ batch) → StopsIn disk gate batch stop after
+        → KeepsOnRestart after stop (entries_left entries batch stop) }
+    ensures later { (disk after : DiskState) (gate : ℕ) (batch : List Entry) (stop : Stop)
+        → IsToStop disk stop → 4 < stop.calls
+        → FailedAtOne IsMadeCall IsFailedCall disk (appending gate batch) after
+        → IsFalse after.memory_refused → ⊥ }
+{
+    disk_model::laws::a_stop_comes_at_its_call();
+    disk_model::laws::a_run_is_as_ordered();
+    disk_model::laws::a_stop_leaves_an_image();
     record_form::laws::read_back();
 }

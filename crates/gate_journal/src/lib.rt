@@ -25,7 +25,7 @@ mod writing;
 
 pub use fault::JournalFault;
 pub use journal::Journal;
-pub use order::follows;
+pub use order::{Times, follows};
 
 // The octet of a gate behind which nothing of the journal stands. Any other than an open one is closed.
 const CLOSED: u8 = 0;

@@ -1,14 +1,14 @@
 // A journal's entries from the octets of its file.
 ghost use Rattle.std.specs.Prelude.{◌≡◌, ◌≤◌, ◌<◌, ◌+◌, ◌^◌, ◌⊎◌, ◌==◌, if◌then◌else◌, min, ◌++◌, drop, IfOk, IfErr, IfSome, IfNone, length, Ok, Err, option_map};
 ghost use Rattle.gate_journal.specs.File.{header, StandsAt};
-ghost use Rattle.gate_journal.specs.Reading.{Gives, IsNoJournal, Refuses, next_entry, entries_at, batch_at, gate_at, fault_place, lesser};
+ghost use Rattle.gate_journal.specs.Reading.{Gives, IsNoJournal, Refuses, next_entry, entries_at, batch_at, gate_at, fault_place, first_fault, lesser};
 ghost use Rattle.gate_journal.specs.declared.fault.JournalFault.TheVariants.{Damaged};
 ghost use Rattle.gate_journal.specs.declared.fault.JournalFault.TheVariants as JournalFault;
 ghost use Rattle.record_form.specs.declared.fault.EntryFault.TheVariants as EntryFault;
 
 use crate::JournalFault;
 use crate::growing::Growing;
-use record_form::{Entries, EntryFault, read_entry_at};
+use record_form::{Entries, EntryFault, read_entry_at, read_ert_at};
 use std::alloc::Global;
 
 /// The octet of a gate behind which a batch stands.
@@ -85,7 +85,7 @@ fn next_entry(
 {
     let (entry, end) = match read_entry_at(alloc, file, place) {
         Ok(read) => read,
-        Err(fault) => return Err(fault_at(file, place, fault)),
+        Err(fault) => return Err(first_fault(growing, file, place, fault)),
     };
     if !growing.push(entry)? {
         let place = place as u64 + 1;
@@ -94,7 +94,23 @@ fn next_entry(
     Ok(end)
 }
 
-// What a fault of the entry that begins at a place is for the file.
+// What a fault of the entry that begins at a place is for the file. A frame's time that breaks the
+// order stands before the field at fault.
+fn first_fault(growing: &Growing, file: &[u8], place: usize, fault: EntryFault) -> JournalFault
+    requires { place ≤ length file.now }
+    ensures memory { fault ≡ EntryFault.Memory → result ≡ JournalFault.Memory }
+    ensures place { (fault ≡ EntryFault.Memory) ⊎ (result ≡ Damaged (first_fault growing.now file.now place fault)) }
+{
+    let is_late = growing.is_late(read_ert_at(file, place));
+    match fault_at(file, place, fault) {
+        JournalFault::Damaged { .. } if is_late => JournalFault::Damaged {
+            place: place as u64 + 1,
+        },
+        fault => fault,
+    }
+}
+
+// What a fault of the entry that begins at a place is for the file, by itself.
 fn fault_at(file: &[u8], place: usize, fault: EntryFault) -> JournalFault
     ensures memory { fault ≡ EntryFault.Memory → result ≡ JournalFault.Memory }
     ensures place { (fault ≡ EntryFault.Memory) ⊎ (result ≡ Damaged (fault_place file.now place fault)) }

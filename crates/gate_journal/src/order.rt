@@ -28,9 +28,14 @@ impl Times {
     pub fn admit(&self, entry: &Entry) -> bool
         ensures { result ≡ is_in_order self.now.frame self.now.seal (entry_of entry.now) }
     {
-        let frame = frame_time(entry);
-        let seal = seal_time(entry);
-        is_from(self.frame, frame) && is_above(self.seal, frame) && is_from(self.seal, seal)
+        self.admit_frame(frame_time(entry)) && is_from(self.seal, seal_time(entry))
+    }
+
+    /// Whether a frame at this moment, where there is one, keeps the order.
+    pub fn admit_frame(&self, moment: Option<u128>) -> bool
+        ensures { result ≡ (is_from self.now.frame moment && is_above self.now.seal moment) }
+    {
+        is_from(self.frame, moment) && is_above(self.seal, moment)
     }
 
     /// The times with an entry behind the others.

@@ -1,5 +1,5 @@
 -- Reading an entry from its first octet on: the entry with what is left behind it, or the first fault.
-use Rattle.std.specs.Prelude.{◌≡◌, ◌⊎◌, ◌↔◌, ℕ, ◌+◌, ◌<◌, Bool, ◌==◌, ◌&&◌, nat_lt, nat_le, IsTrue, List, ◌++◌, length, take, drop, slice_index, if◌then◌else◌, Result, Ok, Err}
+use Rattle.std.specs.Prelude.{◌≡◌, ◌⊎◌, ◌↔◌, ℕ, ◌+◌, ◌<◌, Bool, ◌==◌, ◌&&◌, nat_lt, nat_le, IsTrue, List, ◌++◌, length, take, drop, slice_index, if◌then◌else◌, Option, Some, None, Result, Ok, Err}
 use Rattle.std.specs.Int.{w32, from_be_bytes}
 use Rattle.cds_time.specs.Moment.{of_micro_octets, of_pico_octets}
 use Rattle.cds_time.specs.declared.cds.Cds.{Cds}
@@ -111,6 +111,21 @@ unfoldable pub entry_from : ℕ → List ℕ → Result (Entry × ℕ) EntryFaul
 entry_from place octets = do
   read ← entry_at (from place octets)
   Ok (read.0, read.1.place)
+
+-- the earth receive time of a frame, whatever its later fields are
+unfoldable pub ert_at : Left → Result (Cds × Left) EntryFault
+ert_at left = do
+  kind ← octets_at 1 left
+  if slice_index kind.0 0 == FRAME then time_at kind.1 else Err (BadKind (slice_index kind.0 0))
+
+abbrev pub time_of : Result (Cds × Left) EntryFault → Option Cds
+time_of (Ok read) = Some read.0
+time_of (Err fault) = None
+
+-- the earth receive time of the frame that begins at a place of octets, or none where no frame begins there, or its time is
+-- cut or at fault
+unfoldable pub ert_from : ℕ → List ℕ → Option Cds
+ert_from place octets = time_of (ert_at (from place octets))
 
 -- What a call returned, seen by seen, is what reading gives, with what is left then.
 abbrev pub Reads : {X Y : Type 0} → (X → Y) → Left → Result X EntryFault → Result (Y × Left) EntryFault → Type 0

@@ -1,5 +1,5 @@
 // A list of entries.
-ghost use Rattle.std.specs.Prelude.{◌≡◌, [], ◌∷◌, ◌++◌, length, OnOk, OnErr};
+ghost use Rattle.std.specs.Prelude.{◌≡◌, ◌≤◌, [], ◌∷◌, ◌++◌, length, take, drop, OnOk, OnErr, IfOk, IfErr};
 ghost use Rattle.record_form.specs.Entry.{entry_of, entries_of};
 
 use crate::{Entry, Memory};
@@ -39,6 +39,26 @@ impl Entries {
     {
         self.held.push(entry)?;
         Ok(())
+    }
+
+    /// Puts an entry behind the others, or hands it back where memory is refused.
+    pub fn try_push(&mut self, entry: Entry) -> Result<(), Entry>
+        ensures ok { OnOk result (self.new ≡ self.old ++ entry_of entry ∷ []) }
+        ensures err { OnErr result (self.new ≡ self.old) }
+        ensures back { IfErr result (λ back. back ≡ entry) }
+    {
+        self.held.push(entry).map_err(|refused| refused.value)
+    }
+
+    /// Takes off the entries from this one on, with no copy of them. After want of memory all stay.
+    pub fn split_off(&mut self, at: usize) -> Result<Entries, Memory>
+        requires { at ≤ length self.old }
+        ensures front { OnOk result (self.new ≡ take at self.old) }
+        ensures rest { IfOk result (λ rest. rest ≡ drop at self.old) }
+        ensures err { OnErr result (self.new ≡ self.old) }
+    {
+        let held = self.held.split_off(at)?;
+        Ok(Entries { held })
     }
 
     /// The entries.

@@ -26,5 +26,5 @@ pub use entries::Entries;
 pub use entry::Entry;
 pub use fault::EntryFault;
 pub use memory::Memory;
-pub use reading::{read_entry, read_entry_at};
+pub use reading::{read_entry, read_entry_at, read_ert_at};
 pub use writing::{LONGEST_ENTRY, entry_length, write_entry};

@@ -1,12 +1,13 @@
 // Entries from their octets.
 ghost use Rattle.std.specs.Prelude.{◌≡◌, ◌≤◌, IfOk, length};
 ghost use Rattle.record_form.specs.Entry.{entry_of};
-ghost use Rattle.record_form.specs.Reading.{Reads, ReadsInto, Gives, StandsFrom, fields_at, frame_at, loss_at, production_at, seal_at, entry_at, entry_from};
+ghost use Rattle.record_form.specs.Reading.{Reads, ReadsInto, Gives, StandsFrom, fields_at, frame_at, loss_at, production_at, seal_at, entry_at, entry_from, ert_at, ert_from};
 
 use crate::fields::Fields;
 use crate::kind::{FRAME, LOSS_OF_SYNC, PRODUCTION, SEAL};
 use crate::{Entry, EntryFault, laws};
 use archive_terms::GREATEST_LOST;
+use cds_time::Cds;
 use octet_core::Octets;
 use std::alloc::Global;
 
@@ -35,6 +36,26 @@ pub fn read_entry_at(
     laws::slice(octets);
     laws::read_where_spelled();
     entry_from(alloc, octets, place)
+}
+
+/// The earth receive time of the frame that begins at a place of these octets, whatever its later
+/// fields are, or none where no frame begins there, or its time is cut or names no moment.
+#[tactic(auto, unfolding(crate::specs::Reading::ert_from))]
+pub fn read_ert_at(octets: &[u8], place: usize) -> Option<Cds>
+    requires { place ≤ length octets.now }
+    ensures { result ≡ ert_from place octets.now }
+{
+    ert(&mut Fields::new(octets, place)).ok()
+}
+
+#[tactic(auto, unfolding(crate::specs::Reading::ert_at))]
+fn ert(fields: &mut Fields) -> Result<Cds, EntryFault>
+    ensures { Reads (λ time. time) fields.new result (ert_at fields.old) }
+{
+    match fields.octets(1)?[0] {
+        FRAME => fields.time(),
+        found => Err(EntryFault::BadKind { found }),
+    }
 }
 
 #[tactic(auto, unfolding(crate::specs::Reading::entry_from))]

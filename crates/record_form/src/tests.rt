@@ -147,6 +147,32 @@ fn the_first_fault_is_named_by_its_place(rt: HostRuntime) -> Result<(), Fail> {
     Ok(())
 }
 
+// Its time has the octets 1 to 9.
+#[test]
+fn a_frame_gives_its_time_whatever_follows(rt: HostRuntime) -> Result<(), Fail> {
+    let time = at(20_000, 1_000, Rest::Micros(0));
+    let bad = changed(rt.alloc(), &FRAME, 10, 3)?;
+    let table = [
+        (FRAME.as_slice(), Some(time)),
+        (&FRAME[..10], Some(time)),
+        (&FRAME[..9], None),
+        (&FRAME[..0], None),
+        (bad.as_slice(), Some(time)),
+        (LOSS.as_slice(), None),
+        (PRODUCTION.as_slice(), None),
+        (SEAL.as_slice(), None),
+    ];
+    for (octets, ert) in table {
+        assert_eq!(rt; read_ert_at(octets, 0), ert, "{octets:?}");
+    }
+    let bad = changed(rt.alloc(), &FRAME, 4, 0x06)?;
+    assert_eq!(rt; read_ert_at(&bad, 0), None);
+    let mut behind = Vec::from_slice(rt.alloc(), &LOSS)?;
+    behind.extend_from_slice(&FRAME)?;
+    assert_eq!(rt; read_ert_at(&behind, 13), Some(time));
+    Ok(())
+}
+
 #[test]
 fn entries_are_kept_in_their_order(rt: HostRuntime) -> Result<(), Fail> {
     let mut entries = Entries::new(rt.alloc());

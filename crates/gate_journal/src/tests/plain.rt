@@ -68,8 +68,33 @@ fn copy(alloc: Global, octets: &[u8]) -> Result<Octets, Memory> {
     Ok(Octets::copy_of(alloc, octets)?)
 }
 
-fn frame(alloc: Global, file: &[u8], place: &mut usize) -> Result<Entry, JournalFault> {
-    let ert = time(file, place)?;
+// A time of a frame, or of a seal, behind those of earlier entries; one that breaks their order is
+// named by its first octet.
+fn time_behind(
+    file: &[u8],
+    place: &mut usize,
+    earlier: &Entries,
+    is_seal: bool,
+) -> Result<Cds, JournalFault> {
+    let begin = *place;
+    let time = time(file, place)?;
+    if !earlier
+        .as_slice()
+        .iter()
+        .all(|entry| may_precede(entry, &time, is_seal))
+    {
+        return Err(damaged(begin));
+    }
+    Ok(time)
+}
+
+fn frame(
+    alloc: Global,
+    file: &[u8],
+    place: &mut usize,
+    earlier: &Entries,
+) -> Result<Entry, JournalFault> {
+    let ert = time_behind(file, place, earlier, false)?;
     let quality = octet(file, place, 2)?;
     let length = within(file, place, 1, 1, 16)?;
     let antenna = copy(alloc, next(file, place, length as usize)?)?;
@@ -85,9 +110,14 @@ fn frame(alloc: Global, file: &[u8], place: &mut usize) -> Result<Entry, Journal
     })
 }
 
-fn entry(alloc: Global, file: &[u8], place: &mut usize) -> Result<Entry, JournalFault> {
+fn entry(
+    alloc: Global,
+    file: &[u8],
+    place: &mut usize,
+    earlier: &Entries,
+) -> Result<Entry, JournalFault> {
     match within(file, place, 1, 1, 4)? {
-        1 => frame(alloc, file, place),
+        1 => frame(alloc, file, place, earlier),
         2 => Ok(Entry::LossOfSync {
             at: time(file, place)?,
             carrier: octet(file, place, 3)?,
@@ -98,23 +128,18 @@ fn entry(alloc: Global, file: &[u8], place: &mut usize) -> Result<Entry, Journal
             status: octet(file, place, 2)?,
         }),
         _ => Ok(Entry::Seal {
-            at: time(file, place)?,
+            at: time_behind(file, place, earlier, true)?,
         }),
     }
 }
 
-// Whether an entry may stand before a later one: times don't fall, and a frame is above a seal.
-fn may_precede(earlier: &Entry, later: &Entry) -> bool {
-    match (earlier, later) {
-        (Entry::Frame { ert: earlier, .. }, Entry::Frame { ert: later, .. }) => {
-            earlier.moment() <= later.moment()
-        }
-        (Entry::Seal { at: earlier }, Entry::Frame { ert: later, .. }) => {
-            earlier.moment() < later.moment()
-        }
-        (Entry::Seal { at: earlier }, Entry::Seal { at: later }) => {
-            earlier.moment() <= later.moment()
-        }
+// Whether an entry may stand before a frame or a seal at a time: times of frames don't fall, nor do
+// those of seals, and a frame is above a seal.
+fn may_precede(earlier: &Entry, later: &Cds, is_seal: bool) -> bool {
+    match earlier {
+        Entry::Frame { ert, .. } => is_seal || ert.moment() <= later.moment(),
+        Entry::Seal { at } if is_seal => at.moment() <= later.moment(),
+        Entry::Seal { at } => at.moment() < later.moment(),
         _ => true,
     }
 }
@@ -127,15 +152,7 @@ fn entries(
     into: &mut Entries,
 ) -> Result<(), JournalFault> {
     for _ in 0..count {
-        let begin = *place;
-        let entry = entry(alloc, file, place)?;
-        if !into
-            .as_slice()
-            .iter()
-            .all(|earlier| may_precede(earlier, &entry))
-        {
-            return Err(damaged(begin.saturating_add(1)));
-        }
+        let entry = entry(alloc, file, place, into)?;
         into.push(entry)?;
     }
     Ok(())

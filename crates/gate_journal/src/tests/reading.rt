@@ -65,6 +65,52 @@ fn the_first_fault_of_a_file_is_named_by_its_place(rt: HostRuntime) -> Result<()
     Ok(())
 }
 
+// A second batch, of a frame at 20000 days: a second before the first frame.
+const LATE: &[u8] =
+    b"\xa5\x00\x00\x00\x18\x00\x01\x01\x00\x4e\x20\x00\x00\x00\x00\x00\x00\x00\x01A\x00\x00\x00\x00\x00\x00\x00\x03\x00\x10\xa2\x00";
+
+// So many octets of a file of the first frame and that batch, some of them changed.
+fn late_file(
+    alloc: Global,
+    length: usize,
+    changes: &[(usize, u8)],
+) -> Result<Vec<u8>, JournalFault> {
+    let mut file = Vec::from_slice(alloc, &FILE[..39])?;
+    file.extend_from_slice(LATE)?;
+    for (place, value) in changes {
+        if let Some(octet) = file.get_mut(*place) {
+            *octet = *value;
+        }
+    }
+    file.truncate(length);
+    Ok(file)
+}
+
+// Its time begins at octet 47 and its quality at 56; with a 4 at octet 52 it is behind the first.
+#[test]
+fn a_frame_out_of_order_is_named_by_its_time_before_later_fields(
+    rt: HostRuntime,
+) -> Result<(), Fail> {
+    let table: [(usize, &[(usize, u8)], u64); 9] = [
+        (71, &[], 47),
+        (71, &[(56, 3)], 47),
+        (71, &[(57, 0)], 47),
+        (57, &[], 47),
+        (56, &[], 47),
+        (55, &[], 55),
+        (71, &[(43, 0)], 46),
+        (71, &[(52, 4), (56, 3)], 56),
+        (56, &[(52, 4)], 56),
+    ];
+    for (length, changes, place) in table {
+        let file = late_file(rt.alloc(), length, changes)?;
+        let refused = recover(rt.alloc(), holding(rt.alloc(), &file)?).map(|_| ());
+        let damaged = JournalFault::Damaged { place };
+        assert_eq!(rt; refused, Err(damaged), "{length} {changes:?}");
+    }
+    Ok(())
+}
+
 // A file of two batches, and what may stand behind its gate.
 fn two_batches(alloc: Global) -> Result<Vec<u8>, JournalFault> {
     let mut file = Vec::from_slice(alloc, &FILE[..39])?;
@@ -96,15 +142,10 @@ fn files_that_are_cut_are_read_plainly(rt: HostRuntime) -> Result<(), Fail> {
     Ok(())
 }
 
-// Kinds, forms, lengths, counts, an open gate, and values past each range.
-const VALUES: [u8; 16] = [
-    0, 1, 2, 3, 4, 5, 6, 8, 9, 16, 17, 0x1f, 0x4e, 0x80, 0xa5, 0xff,
-];
-
-// Whether a file is recovered as the second reading has it, with each of the values at a place.
+// Whether a file is recovered as the second reading has it, with each other octet at a place.
 fn is_read_plainly_with(alloc: Global, file: &[u8], place: usize) -> Result<bool, JournalFault> {
     let mut changed = Vec::from_slice(alloc, file)?;
-    for value in VALUES {
+    for value in 0..=255 {
         if let Some(octet) = changed.get_mut(place) {
             *octet = value;
         }
@@ -118,7 +159,8 @@ fn is_read_plainly_with(alloc: Global, file: &[u8], place: usize) -> Result<bool
 #[test]
 fn files_with_an_octet_changed_are_read_plainly(rt: HostRuntime) -> Result<(), Fail> {
     let file = two_batches(rt.alloc())?;
-    for file in [FILE, file.as_slice()] {
+    let late = late_file(rt.alloc(), 71, &[])?;
+    for file in [FILE, file.as_slice(), late.as_slice()] {
         for place in 0..file.len() {
             assert!(rt; is_read_plainly_with(rt.alloc(), file, place)?, "{place}");
         }

@@ -1,9 +1,8 @@
 use Rattle.std.proofs.Common.{◌+◌, [], ◌∷◌}
-use Rattle.disk_model.specs.Calls.{runs_and}
+use Rattle.disk_model.specs.Calls.{runs_and, follows_if_ok}
 use Rattle.disk_model.specs.declared.call.Call.TheVariants.{Write, Sync}
 use Rattle.gate_journal.specs.Kept.{IsOldOrNew}
 use Rattle.disk_model.specs.Throughout.{weaker, and_then}
-use Rattle.gate_journal.proofs.Writes.{where_good}
 use Rattle.gate_journal.proofs.Adding.{first_holds, second_holds, added, rests_again}
 use Rattle.gate_journal.proofs.journal.put.Goals as goal
 
@@ -14,13 +13,13 @@ returns-in_err-write_synced-clause-any_moment g c batch ready entries keeps =
 
 pub returns-clause-added : goal.returns-clause-added
 returns-clause-added g c =
-    where_good c.write_synced-2.result c.write_synced-2.ensures.written
+    follows_if_ok c.write_synced-2.result c.write_synced-2.ensures.written
     (added c.read_back.ensures (g.D.Disk.pending c.args.disk.now) (g.D.Disk.pending c.write_synced.new.disk) (g.D.Disk.pending c.write_synced-2.new.disk)
     c.args.gate c.args.octets.now c.requires.at_rest c.in_ok-write_synced.ensures.written)
 
 pub returns-clause-at_rest : goal.returns-clause-at_rest
 returns-clause-at_rest g c =
-    where_good c.write_synced-2.result c.write_synced-2.ensures.written
+    follows_if_ok c.write_synced-2.result c.write_synced-2.ensures.written
     (rests_again c.read_back.ensures (g.D.Disk.pending c.args.disk.now) (g.D.Disk.pending c.write_synced.new.disk) (g.D.Disk.pending c.write_synced-2.new.disk)
     c.args.gate c.args.octets.now c.requires.at_rest c.in_ok-write_synced.ensures.written)
 
