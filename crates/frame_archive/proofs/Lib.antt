@@ -1,0 +1,4 @@
+pub mod LastTimes
+pub mod Offers
+pub mod Holding
+pub mod Running
