@@ -58,6 +58,10 @@ module _ (least most : ℕ) where
     clean = hex_clean;
   }
 
+-- octets, as many as a slice has
+abbrev pub all_octets : Kind (List ℕ)
+all_octets = hex 0 18446744073709551615
+
 -- a word of more digits than the longest value has is none
 pub too_long : (least most : ℕ) (w : List ℕ) → 2 * most < length w → hex_read least most w ≡ None
 too_long least most w long =

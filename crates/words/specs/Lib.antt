@@ -16,6 +16,7 @@ pub mod Suffixed
 pub mod Times
 pub mod Listed
 pub mod Channels
+pub mod Table
 pub mod Tested
 pub mod Maybe
 pub mod Many

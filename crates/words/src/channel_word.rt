@@ -11,6 +11,8 @@ use std::alloc::{AllocError, Global};
 
 const STAR: &[u8] = b"*";
 
+type VirtualChannel = Octet<0, 63>;
+
 /// A virtual channel, 0 to 63, or `*` for the master channel.
 pub struct OfMaster;
 
@@ -30,20 +32,22 @@ impl Word for OfMaster {
         if word == STAR {
             return Ok(Channel::Master);
         }
-        Ok(Channel::Virtual(Octet::<0, 63>::read(alloc, word)?))
+        Ok(Channel::Virtual(VirtualChannel::read(alloc, word)?))
     }
 
     fn write(value: &Channel, into: &mut Vec<u8>) -> Result<(), AllocError> {
         match value {
             Channel::Master => into.extend_from_slice(STAR),
-            Channel::Virtual(channel) => Octet::<0, 63>::write(channel, into),
+            Channel::Virtual(channel) => VirtualChannel::write(channel, into),
         }
     }
 }
 
+type Spacecraft = Short<0, 1_023>;
+
 type OfSpacecraft = Then<Octet<0, 3>, Last<OfMaster>>;
 
-type Fields = Then<Short<0, 1_023>, OfSpacecraft>;
+type Fields = Then<Spacecraft, OfSpacecraft>;
 
 /// A channel: spacecraft, version and virtual channel, as `S/V/C`, or `S/V/*` for the master
 /// channel.
@@ -71,7 +75,7 @@ impl Word for ChannelWord {
     }
 
     fn write(value: &Gvcid, into: &mut Vec<u8>) -> Result<(), AllocError> {
-        Short::<0, 1_023>::write(&value.spacecraft, into)?;
+        Spacecraft::write(&value.spacecraft, into)?;
         OfSpacecraft::put(b'/', (&value.version, &value.channel), into)
     }
 }

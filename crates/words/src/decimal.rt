@@ -6,7 +6,7 @@ ghost use Rattle.std.specs.Str.Parse.{digits_value};
 ghost use Rattle.words.specs.Number.{is_number, number_read};
 
 // The number of a range that a word is: decimal digits without sign and leading zeros.
-pub(crate) fn number(word: &[u8], least: u32, most: u32) -> Option<u32>
+pub(crate) fn number(word: &[u8], least: u64, most: u64) -> Option<u64>
     ensures exact { result ≡ number_read least most word.now }
     ensures most { IfSome result (λ value. value ≤ most) }
 {
@@ -32,18 +32,18 @@ fn all_digits(word: &[u8]) -> bool
 
 // The number that digits write, unless it is above the greatest one.
 #[tactic(auto, using(crate::proofs::Digits::value_grows_past))]
-fn value_of(digits: &[u8], most: u32) -> Option<u32>
+fn value_of(digits: &[u8], most: u64) -> Option<u64>
     requires { IsTrue (list_all is_ascii_digit digits.now) }
     ensures exact { result ≡ (if nat_le (digits_value 10 digits.now) most then Some (digits_value 10 digits.now) else None) }
     ensures most { IfSome result (λ value. value ≤ most) }
 {
-    let mut value = 0u32;
+    let mut value = 0u64;
     for digit in digits {
-        let wide = u64::from(value) * 10 + u64::from(*digit - b'0');
-        if wide > u64::from(most) {
+        let wide = u128::from(value) * 10 + u128::from(*digit - b'0');
+        if wide > u128::from(most) {
             return None;
         }
-        value = wide as u32;
+        value = wide as u64;
     }
     Some(value)
 }

@@ -1,9 +1,12 @@
 // Words that are octets in hexadecimal digits.
-ghost use Rattle.std.specs.Prelude.{◌≡◌, ◌++◌, ◌<◌, ◌^◌, OnOk, length};
+ghost use Rattle.std.specs.Prelude.{◌≡◌, ◌++◌, ◌*◌, ◌<◌, OnOk, IsErrOf, length};
 ghost use Rattle.hex.specs.Hex.{encode_lower};
+ghost use Rattle.words.specs.HexOctets.{hex_read};
+ghost use Rattle.words.specs.Reading.{Gives};
 
 use crate::unread::Unread;
 use crate::word::Word;
+use crate::words_row::WriteWords;
 use hex::FromHexError;
 use octet_core::Octets;
 use std::alloc::{AllocError, Global};
@@ -23,8 +26,13 @@ impl<const LEAST: u32, const MOST: u32> Word for Hex<LEAST, MOST> {
 
     ghost seen = { λ octets. octets };
 
+    /// The octets of a word. One of more digits than the longest value has is refused by its length,
+    /// so not for want of memory: nothing is decoded for it.
     #[tactic(auto, using(crate::specs::HexOctets::too_long))]
-    fn read(alloc: Global, word: &[u8]) -> Result<Octets, Unread> {
+    fn read(alloc: Global, word: &[u8]) -> Result<Octets, Unread>
+        ensures exact { Gives (λ octets. octets) result (hex_read LEAST MOST word.now) }
+        ensures too_long { 2 * MOST < length word.now → IsErrOf result Unread.Bad }
+    {
         if word.len() > 2 * MOST as usize {
             return Err(Unread::Bad);
         }
@@ -43,13 +51,35 @@ impl<const LEAST: u32, const MOST: u32> Word for Hex<LEAST, MOST> {
     }
 }
 
+/// The last word of a row, of octets that are lent, as many as there are.
+pub struct LentOctets;
+
+impl<'a> WriteWords<'a> for LentOctets {
+    ghost use Rattle.std.specs.Prelude.{ℕ, List};
+    ghost use Rattle.words.specs.HexOctets.{all_octets};
+    ghost use Rattle.words.specs.Last.{last};
+
+    type Lent = &'a [u8];
+
+    ghost Seen = { List ℕ };
+
+    ghost kinds = { last all_octets };
+
+    ghost lent = { λ octets. octets.now };
+
+    fn put(separator: u8, octets: &'a [u8], into: &mut Vec<u8>) -> Result<(), AllocError> {
+        into.push(separator)?;
+        append_digits(octets, into)
+    }
+}
+
 // Appends two digits for each octet.
 fn append_digits(octets: &[u8], into: &mut Vec<u8>) -> Result<(), AllocError>
-    requires { length octets.now < 2 ^ 40 }
     ensures { OnOk result (into.new.items ≡ into.old.items ++ encode_lower octets.now) }
 {
     let start = into.len();
-    into.resize(start + 2 * octets.len(), 0)?;
+    let digits = octets.len().checked_mul(2).ok_or(AllocError)?;
+    into.resize(start.checked_add(digits).ok_or(AllocError)?, 0)?;
     hex::encode_to_slice(octets, &mut into[start..]).unwrap();
     Ok(())
 }

@@ -67,6 +67,10 @@ const ROCF: &[u8] = b"rocf";
 
 const CLTU: &[u8] = b"cltu";
 
+const LONGEST_VALUE: usize = 256;
+
+const MOST_PARTS: u32 = 8;
+
 /// The value of an attribute: 1 to 256 characters from 21 to 7E but `.` and `=`.
 pub struct ValueWord;
 
@@ -98,7 +102,7 @@ impl Word for ValueWord {
 fn is_value(word: &[u8]) -> bool
     ensures { result ≡ is_value word.now }
 {
-    !word.is_empty() && word.len() <= 256 && all_of_value(word)
+    !word.is_empty() && word.len() <= LONGEST_VALUE && all_of_value(word)
 }
 
 fn all_of_value(word: &[u8]) -> bool
@@ -155,7 +159,7 @@ impl Word for Identifier {
     ghost seen = { λ id. id };
 
     fn read(alloc: Global, word: &[u8]) -> Result<InstanceId, Unread> {
-        let parts = Many::<PartWord, 1, 8>::read(alloc, b'.', Some(word))?;
+        let parts = Many::<PartWord, 1, MOST_PARTS>::read(alloc, b'.', Some(word))?;
         Ok(InstanceId::from_parts(parts))
     }
 

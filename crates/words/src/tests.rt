@@ -3,9 +3,9 @@
 ghost use Rattle.std.specs.Prelude.{List, ℕ, codes};
 
 use crate::{
-    Cause, ChannelWord, Fixed, Fraction, Hex, Identifier, Known, Last, LineFault, Many, Maybe,
-    Name, Nothing, Number, Octet, OneOf, PartWord, Short, Then, Time, Unread, ValueWord, When,
-    Word, Words, WriteWords, laws, read_line, read_row, read_word, write_line,
+    Cause, ChannelWord, Fixed, Fraction, Hex, Identifier, Known, Last, LentOctets, LineFault, Long,
+    Many, Maybe, Name, Nothing, Number, Octet, OneOf, PartWord, Short, Then, Time, Unread,
+    ValueWord, When, Word, Words, WriteWords, laws, read_line, read_row, read_word, write_line,
 };
 use cds_time::{Cds, Rest};
 use sle_common::{Attribute, Channel, Gvcid};
@@ -69,6 +69,53 @@ fn shorter_numbers_end_at_their_ranges(rt: HostRuntime) -> Result<(), Fail> {
     all_bad::<Short<0, 65_535>>(&rt, rt.alloc(), &[b"65536", b"01"])?;
     all_canonical::<Octet<1, 255>>(&rt, rt.alloc(), &[b"1", b"255"])?;
     all_bad::<Octet<1, 255>>(&rt, rt.alloc(), &[b"0", b"256", b"257"])
+}
+
+#[test]
+fn a_longer_number_ends_at_its_range(rt: HostRuntime) -> Result<(), Fail> {
+    type Any = Long<1, 18_446_744_073_709_551_615>;
+    all_canonical::<Any>(
+        &rt,
+        rt.alloc(),
+        &[b"1", b"4294967296", b"18446744073709551615"],
+    )?;
+    let bad = [
+        b"0".as_slice(),
+        b"18446744073709551616",
+        b"18446744073709551620",
+        b"99999999999999999999",
+        b"340282366920938463463374607431768211457",
+        b"01",
+    ];
+    all_bad::<Any>(&rt, rt.alloc(), &bad)
+}
+
+#[test]
+fn octets_that_are_lent_are_written_behind_a_separator(rt: HostRuntime) -> Result<(), Fail> {
+    let mut text = Vec::new(rt.alloc());
+    LentOctets::put(b' ', &[0xab, 0x0c], &mut text)?;
+    LentOctets::put(b'/', &[], &mut text)?;
+    assert_eq!(rt; text.as_slice(), b" ab0c/".as_slice());
+    Ok(())
+}
+
+#[test]
+fn faults_have_words_of_their_own(rt: HostRuntime) -> Result<(), Fail> {
+    let table = [
+        (LineFault::Line(Cause::FirstWord), "unknown first word"),
+        (LineFault::Line(Cause::Count), "wrong number of words"),
+        (
+            LineFault::Line(Cause::Word),
+            "a word malformed or out of range",
+        ),
+        (LineFault::Memory, "out of memory"),
+    ];
+    for (fault, words) in table {
+        assert_eq!(rt; format!(in rt.alloc(); "{}", fault)?.as_str(), words);
+    }
+    let unread = format!(in rt.alloc(); "{}, {}", Unread::Bad, Unread::Memory)?;
+    assert_eq!(rt; unread.as_str(), "outside the grammar, out of memory");
+    Ok(())
 }
 
 #[test]

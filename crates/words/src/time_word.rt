@@ -13,6 +13,10 @@ use cds_time::{Cds, Rest};
 use itoa::Buffer;
 use std::alloc::{AllocError, Global};
 
+const LAST_MICRO: u64 = 999;
+
+const LAST_PICO: u64 = 999_999_999;
+
 /// The part of a time below the millisecond: microseconds, or picoseconds and the letter p.
 pub struct Fraction;
 
@@ -29,12 +33,12 @@ impl Word for Fraction {
     ghost seen = { λ part. part };
 
     fn read(_: Global, word: &[u8]) -> Result<Rest, Unread> {
-        if let Some(micros) = number(word, 0, 999) {
+        if let Some(micros) = number(word, 0, LAST_MICRO) {
             return Ok(Rest::Micros(micros as u16));
         }
         let front = before_last(b'p', word).ok_or(Unread::Bad)?;
-        let picos = number(front, 0, 999_999_999).ok_or(Unread::Bad)?;
-        Ok(Rest::Picos(picos))
+        let picos = number(front, 0, LAST_PICO).ok_or(Unread::Bad)?;
+        Ok(Rest::Picos(picos as u32))
     }
 
     fn write(value: &Rest, into: &mut Vec<u8>) -> Result<(), AllocError> {
@@ -50,9 +54,13 @@ impl Word for Fraction {
     }
 }
 
-type OfDay = Then<Number<0, 86_399_999>, Last<Fraction>>;
+const LAST_MILLI: u32 = 86_399_999;
 
-type Fields = Then<Short<0, 65_535>, OfDay>;
+type OfDay = Then<Number<0, LAST_MILLI>, Last<Fraction>>;
+
+type Day = Short<0, 65_535>;
+
+type Fields = Then<Day, OfDay>;
 
 /// A time: days, milliseconds of the day and a fraction, as `D/M/U` or `D/M/Pp`.
 pub struct Time;
@@ -75,7 +83,7 @@ impl Word for Time {
     }
 
     fn write(value: &Cds, into: &mut Vec<u8>) -> Result<(), AllocError> {
-        Short::<0, 65_535>::write(&value.days, into)?;
+        Day::write(&value.days, into)?;
         OfDay::put(b'/', (&value.millis, &value.rest), into)
     }
 }
