@@ -1,0 +1,4 @@
+pub mod Scripts
+pub mod Entries
+pub mod Transcripts
+pub mod Forms

@@ -1,0 +1,40 @@
+// The rows of words behind the first words of script lines.
+
+use crate::ask_row::AskRow;
+use crate::pick::Pick;
+use words::{Hex, Last, Number, Octet, OneOf, Then, Time};
+
+type Connection = Number<1, 16>;
+
+type Times = Number<1, 1_000>;
+
+type Quality = Octet<0, 2>;
+
+type Lock = Octet<0, 3>;
+
+pub(crate) type Frame = Then<
+    Time,
+    Then<Quality, Then<Hex<1, 16>, Then<Number<0, 16_777_215>, Last<Hex<1, 4_294_967_295>>>>>,
+>;
+
+pub(crate) type Loss = Then<Time, Then<Lock, Then<Lock, Last<Lock>>>>;
+
+pub(crate) type Start = Then<Time, Then<Time, Last<Quality>>>;
+
+pub(crate) type Piece = Then<Connection, Last<Hex<1, 65_536>>>;
+
+pub(crate) type Uplink = Then<Octet<0, 3>, Last<Octet<0, 3>>>;
+
+pub(crate) type Crash = Then<Number<0, 1_000>, Last<OneOf<Pick>>>;
+
+pub(crate) type Production = Last<Quality>;
+
+pub(crate) type Mark = Last<Time>;
+
+pub(crate) type OfConnection = Last<Connection>;
+
+pub(crate) type Ask = Then<Connection, AskRow>;
+
+pub(crate) type Repeated = Then<Connection, Last<Times>>;
+
+pub(crate) type Fault = Last<Times>;
