@@ -1,0 +1,4 @@
+pub mod Identity
+pub mod Places
+pub mod Told
+pub mod Valid
