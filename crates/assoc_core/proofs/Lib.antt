@@ -1,0 +1,6 @@
+pub mod Told
+pub mod Secrets
+pub mod Identifiers
+pub mod Checks
+pub mod Steps
+pub mod Runs

@@ -1,0 +1,10 @@
+pub mod Numbers
+pub mod Kind
+pub mod Table
+pub mod State
+pub mod Access
+pub mod Association
+pub mod Bind
+pub mod OuterTag
+pub mod Run
+pub mod Laws
