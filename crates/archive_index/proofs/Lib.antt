@@ -1,4 +1,5 @@
 pub mod Ends
+pub mod Orders
 pub mod Marks
 pub mod Picks
 pub mod Told

@@ -96,6 +96,14 @@ has_closed t stop = option_map_or (λ moment. nat_lt moment (t.frames_end - 1) |
 abbrev pub tells : Totals → Selection → ℕ → Bool
 tells t s place = s.notices && nat_le s.first place && has_started t s.start && not (has_closed t s.stop)
 
+-- whether an entry keeps the order of times behind entries of these totals
+abbrev pub is_in_order : Totals → Entry → Bool
+is_in_order t (frame f) =
+    option_map_or (λ at. nat_le t.frames_end (at + 1) && nat_le t.seals_end at) (moment_of f.ert) true
+is_in_order t (seal time) = option_map_or (λ at. nat_le t.seals_end (at + 1)) (moment_of time) true
+is_in_order t (loss_of_sync _) = true
+is_in_order t (production _) = true
+
 -- ---- the program's marks
 
 abbrev pub kind_seen : kinds.Kind → Kind

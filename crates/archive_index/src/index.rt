@@ -2,7 +2,7 @@
 ghost use Rattle.std.specs.Prelude.{◌≡◌, ◌+◌, ◌≤◌, ◌<◌, [], ◌∷◌, ◌++◌, List, IsTrue, IfOk, OnOk, OnErr, take, length, slice_get, Some};
 ghost use Rattle.archive_terms.specs.declared.limits.TheConstants.{GREATEST_LOST};
 ghost use Rattle.archive_terms.specs.Archive as archive;
-ghost use Rattle.archive_terms.specs.Archive.{is_valid};
+ghost use Rattle.archive_terms.specs.Archive.{is_valid, keeps_order, may_follow};
 ghost use Rattle.archive_terms.specs.Selection.{is_picked};
 ghost use Rattle.archive_terms.specs.Continuity.{gap};
 ghost use Rattle.record_form.specs.Entry.{entry_of};
@@ -62,6 +62,23 @@ impl Index {
         })?;
         self.totals = self.totals.with(entry);
         Ok(())
+    }
+
+    /// Whether an archive of these entries goes on with another one: it may be stored, and it keeps
+    /// the order of times. It costs the same however many entries there are.
+    pub fn may_follow(&self, entry: &Entry) -> bool
+        ensures { (entries : List archive.Entry) → Indexes self.now entries
+            → result ≡ may_follow entries (entry_of entry.now) }
+    {
+        entry.is_storable() && self.keeps_order(entry)
+    }
+
+    // Whether an entry keeps the order of times.
+    fn keeps_order(&self, entry: &Entry) -> bool
+        ensures { (entries : List archive.Entry) → Indexes self.now entries
+            → result ≡ keeps_order entries (entry_of entry.now) }
+    {
+        self.totals().is_in_order(entry)
     }
 
     /// The least place at or after `place` whose entry the selection picks.

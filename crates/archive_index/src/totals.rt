@@ -33,7 +33,7 @@ pub(crate) const NONE: Totals = Totals {
 };
 
 impl Totals {
-    ghost use Rattle.archive_index.specs.Kept.{totals_with, has_started, has_closed};
+    ghost use Rattle.archive_index.specs.Kept.{totals_with, has_started, has_closed, is_in_order};
 
     // With one entry more behind them.
     pub(crate) fn with(&self, entry: &Entry) -> Totals
@@ -63,6 +63,19 @@ impl Totals {
         ensures { result ≡ has_started self.now start }
     {
         start.is_none_or(|start| start < self.frames_end)
+    }
+
+    // Whether an entry keeps the order of times behind these.
+    pub(crate) fn is_in_order(&self, entry: &Entry) -> bool
+        ensures { result ≡ is_in_order self.now (entry_of entry.now) }
+    {
+        match entry {
+            Entry::Frame { ert, .. } => ert
+                .moment()
+                .is_none_or(|at| self.frames_end <= at + 1 && self.seals_end <= at),
+            Entry::Seal { at } => at.moment().is_none_or(|at| self.seals_end <= at + 1),
+            _ => true,
+        }
     }
 
     // Whether a stop is known, and closed by a frame above it or a seal at it or later.

@@ -1,0 +1,6 @@
+pub mod Extending
+pub mod Histories
+pub mod Published
+pub mod Doors
+pub mod Bound
+pub mod Radiating

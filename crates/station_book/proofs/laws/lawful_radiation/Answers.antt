@@ -1,0 +1,6 @@
+use Rattle.station_book.proofs.Histories.{legal_goes_on}
+use Rattle.station_book.proofs.Radiating.{lawful_run, run_of_history}
+use Rattle.station_book.proofs.laws.lawful_radiation.Goals as goal
+
+pub returns : goal.returns
+returns c = λ s h k e first legal is one. run_of_history c.lawful_radiation.ensures s h e k first legal is one

@@ -1,0 +1,7 @@
+pub mod State
+pub mod History
+pub mod Called
+pub mod Parts
+pub mod Publishing
+pub mod Doors
+pub mod Radiation
