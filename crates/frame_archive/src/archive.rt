@@ -414,38 +414,3 @@ fn as_opening(fault: JournalFault) -> ArchiveFault
         JournalFault::Full { .. } | JournalFault::Stale => unreachable!(),
     }
 }
-
-#[cfg(test)]
-mod tests {
-    use super::*;
-    use crate::tests::{CAPACITY, frame, new_archive, offer};
-    use std::test::Fail;
-
-    // Of the list an archive keeps what the pattern names: numbers, the last times and what waits.
-    #[test]
-    fn an_archive_keeps_no_list_of_what_is_stored(rt: HostRuntime) -> Result<(), Fail> {
-        let alloc = rt.alloc();
-        let mut archive = new_archive(alloc, CAPACITY)?;
-        offer(&mut archive, frame(alloc, 1)?)?;
-        archive.store()?;
-        offer(&mut archive, frame(alloc, 2)?)?;
-        let FrameArchive {
-            alloc: _,
-            journal,
-            capacity,
-            count,
-            used,
-            times,
-            waiting,
-            octets,
-            failed,
-            is_stale,
-        } = archive;
-        assert_eq!(rt; (capacity, count, used, octets), (CAPACITY, 1, 40, 31));
-        assert_eq!(rt; (failed, is_stale), (0, false));
-        assert_eq!(rt; times.seal, None);
-        assert_eq!(rt; waiting.len(), 1);
-        assert_eq!(rt; journal.used(), 40);
-        Ok(())
-    }
-}

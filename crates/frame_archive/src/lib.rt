@@ -17,8 +17,6 @@
 mod archive;
 mod fault;
 pub mod laws;
-#[cfg(test)]
-mod tests;
 mod times;
 
 pub use archive::{FrameArchive, Landing, Stored, open_archive};
