@@ -15,13 +15,31 @@ use Rattle.archive_index.proofs.Ends.{is_stop_closed-ends}
 
 same_glimpse : (f g n m p q : ℕ) (is js : List Told) (a b c d : Bool) (k l : Locks)
     → f ≡ g → is ≡ js → n ≡ m → a ≡ b → c ≡ d → k ≡ l → p ≡ q →
-    let x : terms.Glimpse = record { front = f; items = is; next = n; more = a; closed = c; locks = k; production = p } in
-    let y : terms.Glimpse = record { front = g; items = js; next = m; more = b; closed = d; locks = l; production = q } in
+    let x : terms.Glimpse = record {
+      front = f;
+      items = is;
+      next = n;
+      more = a;
+      closed = c;
+      locks = k;
+      production = p;
+    } in
+    let y : terms.Glimpse = record {
+      front = g;
+      items = js;
+      next = m;
+      more = b;
+      closed = d;
+      locks = l;
+      production = q;
+    } in
     x ≡ y
 same_glimpse f g n m p q is js a b c d k l e1 e2 e3 e4 e5 e6 e7 = cc
 
-pub glimpse_given : (entries : List Entry) (s : Selection) (wanted : Cursor) (given : Given) (t : Totals) (front : ℕ) (closed : Bool)
-    → Gives entries (wanted_of s wanted) given → t ≡ totals_of entries → front ≡ length entries → closed ≡ has_closed t s.stop →
+pub glimpse_given : (entries : List Entry) (s : Selection) (wanted : Cursor) (given : Given)
+    (t : Totals) (front : ℕ) (closed : Bool)
+    → Gives entries (wanted_of s wanted) given → t ≡ totals_of entries → front ≡ length entries
+    → closed ≡ has_closed t s.stop →
     let seen : terms.Glimpse = record {
       front = front;
       items = given.items;
@@ -35,4 +53,5 @@ glimpse_given entries s wanted given t front closed gives totals all last =
     let is_last : closed ≡ is_stop_closed s entries =
     last ∙ ap (λ t. has_closed t s.stop) totals ∙ sym (is_stop_closed-ends s entries) in
     let lock : locks_of t.lock ≡ locks entries = ap (λ t. locks_of t.lock) totals in
-    same_glimpse _ _ _ _ _ _ _ _ _ _ _ _ _ _ all gives.items gives.next gives.more is_last lock (ap (λ t. t.production) totals)
+    same_glimpse _ _ _ _ _ _ _ _ _ _ _ _ _ _ all gives.items gives.next gives.more is_last lock
+    (ap (λ t. t.production) totals)

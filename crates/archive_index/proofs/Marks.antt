@@ -1,31 +1,38 @@
 -- Marks of entries, one more, so many of them, and the one at a place.
-use Rattle.std.proofs.Common.{◌≡◌, ℕ, zero, suc, ◌+◌, ◌*◌, ◌^◌, ◌<◌, ◌≤◌, true, List, [], ◌∷◌, ◌++◌, length, take, slice_get, Some, refl, ap, sym, ◌∙◌, arith}
+use Rattle.std.proofs.Common.{◌≡◌, ℕ, zero, suc, ◌+◌, ◌*◌, ◌^◌, ◌<◌, ◌≤◌, true, List, [], ◌∷◌, ◌++◌}
+use Rattle.std.proofs.Common.{length, take, slice_get, Some, refl, ap, sym, ◌∙◌, arith}
 use Rattle.std.specs.List.{sum_by, list_all}
 use Rattle.std.proofs.lemmas.List.{append-nil, append_assoc}
 use Rattle.std.proofs.lemmas.List.Sums.{fold-append, sum_by-append, sum_by-cons}
 use Rattle.std.proofs.lemmas.Bool.{and_parts, leb-true}
-use Rattle.archive_terms.specs.Archive.{Entry, frame, loss_of_sync, production, seal, frame_time, seal_time, is_valid}
+use Rattle.archive_terms.specs.Archive.{Entry, frame, loss_of_sync, production, seal, frame_time}
+use Rattle.archive_terms.specs.Archive.{seal_time, is_valid}
 use Rattle.archive_terms.specs.Continuity.{lost_of}
 use Rattle.archive_terms.specs.Glimpse.{all_locks, locks_after, production_after}
 use Rattle.archive_terms.specs.declared.limits.TheConstants.{GREATEST_LOST}
 use Rattle.archive_index.specs.declared.totals.Totals.{Totals}
-use Rattle.archive_index.specs.Kept.{mark_of, marks_behind, end_with, lock_list, lost_with, totals_of, totals_with}
+use Rattle.archive_index.specs.Kept.{mark_of, marks_behind, end_with, lock_list, lost_with}
+use Rattle.archive_index.specs.Kept.{totals_of, totals_with}
 
 pub marks-push : (before entries : List Entry) (e : Entry)
-    → marks_behind before (entries ++ e ∷ []) ≡ marks_behind before entries ++ mark_of (before ++ entries) e ∷ []
+    → marks_behind before (entries ++ e ∷ [])
+    ≡ marks_behind before entries ++ mark_of (before ++ entries) e ∷ []
 marks-push before [] e = ap (λ b. mark_of b e ∷ []) (sym (append-nil before))
 marks-push before (x ∷ entries) e =
     ap (λ marks. mark_of before x ∷ marks) (marks-push (before ++ x ∷ []) entries e
-    ∙ ap (λ b. marks_behind (before ++ x ∷ []) entries ++ mark_of b e ∷ []) (append_assoc before (x ∷ []) entries))
+    ∙ ap (λ b. marks_behind (before ++ x ∷ []) entries ++ mark_of b e ∷ [])
+    (append_assoc before (x ∷ []) entries))
 
 pub marks-take : (before entries : List Entry) (n : ℕ)
     → take n (marks_behind before entries) ≡ marks_behind before (take n entries)
 marks-take before [] zero = refl
 marks-take before [] (suc n) = refl
 marks-take before (x ∷ entries) zero = refl
-marks-take before (x ∷ entries) (suc n) = ap (λ marks. mark_of before x ∷ marks) (marks-take (before ++ x ∷ []) entries n)
+marks-take before (x ∷ entries) (suc n) = ap (λ marks. mark_of before x ∷ marks)
+    (marks-take (before ++ x ∷ []) entries n)
 
-pub length-marks : (before entries : List Entry) → length (marks_behind before entries) ≡ length entries
+pub length-marks : (before entries : List Entry)
+    → length (marks_behind before entries) ≡ length entries
 length-marks before [] = refl
 length-marks before (x ∷ entries) = ap suc (length-marks (before ++ x ∷ []) entries)
 
@@ -51,14 +58,28 @@ pub lost_small : (entries : List Entry) → list_all is_valid entries ≡ true
     → sum_by lost_of entries ≤ GREATEST_LOST * length entries
 lost_small [] valid = omega arith
 lost_small (e ∷ entries) valid =
-    let parts : (is_valid e ≡ true) × (list_all is_valid entries ≡ true) = and_parts (is_valid e) (list_all is_valid entries) valid in
+    let parts : (is_valid e ≡ true) × (list_all is_valid entries ≡ true) =
+    and_parts (is_valid e) (list_all is_valid entries) valid in
     let here : lost_of e ≤ GREATEST_LOST = lost_bound e parts.0 in
-    let rest : sum_by lost_of entries ≤ GREATEST_LOST * length entries = lost_small entries parts.1 in
+    let rest : sum_by lost_of entries ≤ GREATEST_LOST * length entries =
+    lost_small entries parts.1 in
     rw (sum_by-cons lost_of e entries) (omega arith)
 
 totals_same : (f g h k l m : ℕ) (ls ms : List ℕ) (p q : ℕ) → f ≡ g → h ≡ k → l ≡ m → ls ≡ ms → p ≡ q
-    → let t : Totals = record { frames_end = f; seals_end = h; lost = l; lock = ls; production = p } in
-    let u : Totals = record { frames_end = g; seals_end = k; lost = m; lock = ms; production = q } in t ≡ u
+    → let t : Totals = record {
+      frames_end = f;
+      seals_end = h;
+      lost = l;
+      lock = ls;
+      production = p;
+    } in
+    let u : Totals = record {
+      frames_end = g;
+      seals_end = k;
+      lost = m;
+      lock = ms;
+      production = q;
+    } in t ≡ u
 totals_same f g h k l m ls ms p q a b c d e = cc
 
 lost_push : (entries : List Entry) (e : Entry) → sum_by lost_of entries + lost_of e < 2 ^ 128

@@ -1,12 +1,15 @@
 -- What an index keeps of a list of entries.
-use Rattle.std.specs.Prelude.{◌≡◌, ℕ, ◌+◌, ◌-◌, ◌^◌, max, min, IsTrue, Bool, true, false, not, ◌&&◌, ◌||◌, nat_lt, nat_le, Option, List, [], ◌∷◌, ◌++◌, option_map}
+use Rattle.std.specs.Prelude.{◌≡◌, ℕ, ◌+◌, ◌-◌, ◌^◌, max, min, IsTrue, Bool, true, false, not, ◌&&◌}
+use Rattle.std.specs.Prelude.{◌||◌, nat_lt, nat_le, Option, List, [], ◌∷◌, ◌++◌, option_map}
 use Rattle.std.specs.List.{fold, sum_by, list_all}
 use Rattle.std.specs.Option.{option_map_or}
 use Rattle.cds_time.specs.Moment.{moment_of}
-use Rattle.archive_terms.specs.Archive.{Entry, frame, loss_of_sync, production, seal, frame_time, seal_time, is_valid}
+use Rattle.archive_terms.specs.Archive.{Entry, frame, loss_of_sync, production, seal, frame_time}
+use Rattle.archive_terms.specs.Archive.{seal_time, is_valid}
 use Rattle.archive_terms.specs.Selection.{ChannelId, channel_of, Selection}
 use Rattle.archive_terms.specs.Continuity.{lost_of}
-use Rattle.archive_terms.specs.Glimpse.{Locks, locks_after, locks, production_after, production_status}
+use Rattle.archive_terms.specs.Glimpse.{Locks, locks_after, locks, production_after}
+use Rattle.archive_terms.specs.Glimpse.{production_status}
 use Rattle.frame_select.specs.Selection.{id_of}
 use Rattle.frame_select.specs.Glimpse.{locks_of}
 use Rattle.archive_index.specs.declared.mark.Mark as code
@@ -14,7 +17,8 @@ use Rattle.archive_index.specs.declared.mark.Kind as kinds
 use Rattle.archive_index.specs.declared.mark.Kind.TheVariants as kind
 use Rattle.archive_index.specs.declared.totals.Totals.{Totals}
 
--- a frame with its moment, quality and channel; a loss of synchronisation or a change of the production status; a seal
+-- a frame with its moment, quality and channel; a loss of synchronisation or a change of the
+-- production status; a seal
 pub data Kind : Type 0 where
   of_frame : Option ℕ → ℕ → Option ChannelId → Kind
   of_notice : Kind
@@ -73,7 +77,8 @@ mark_of before entry = record { kind = kind_of entry; before = totals_of before 
 -- a mark of each entry behind some others
 abbrev pub marks_behind : List Entry → List Entry → List Mark
 marks_behind before [] = []
-marks_behind before (entry ∷ entries) = mark_of before entry ∷ marks_behind (before ++ entry ∷ []) entries
+marks_behind before (entry ∷ entries) = mark_of before entry
+    ∷ marks_behind (before ++ entry ∷ []) entries
 
 -- what is kept of a list of entries: a mark of each, and the totals of all
 pub record Kept : Type 0 where
@@ -85,21 +90,25 @@ pub record Indexes (index : Kept) (entries : List Entry) : Type 0 where
   pub kept : index ≡ record { marks = marks_behind [] entries; totals = totals_of entries }
   pub valid : IsTrue (list_all is_valid entries)
 
--- whether the totals tell that a start is unknown or reached by a frame, and that a stop is known and closed
+-- whether the totals tell that a start is unknown or reached by a frame, and that a stop is known
+-- and closed
 abbrev pub has_started : Totals → Option ℕ → Bool
 has_started t start = option_map_or (λ moment. nat_lt moment t.frames_end) start true
 
 abbrev pub has_closed : Totals → Option ℕ → Bool
-has_closed t stop = option_map_or (λ moment. nat_lt moment (t.frames_end - 1) || nat_lt moment t.seals_end) stop false
+has_closed t stop = option_map_or (λ moment. nat_lt moment (t.frames_end - 1)
+    || nat_lt moment t.seals_end) stop false
 
 -- whether a loss or a production change behind entries of these totals is told at a place
 abbrev pub tells : Totals → Selection → ℕ → Bool
-tells t s place = s.notices && nat_le s.first place && has_started t s.start && not (has_closed t s.stop)
+tells t s place = s.notices && nat_le s.first place && has_started t s.start
+    && not (has_closed t s.stop)
 
 -- whether an entry keeps the order of times behind entries of these totals
 abbrev pub is_in_order : Totals → Entry → Bool
 is_in_order t (frame f) =
-    option_map_or (λ at. nat_le t.frames_end (at + 1) && nat_le t.seals_end at) (moment_of f.ert) true
+    option_map_or (λ at. nat_le t.frames_end (at + 1) && nat_le t.seals_end at) (moment_of f.ert)
+    true
 is_in_order t (seal time) = option_map_or (λ at. nat_le t.seals_end (at + 1)) (moment_of time) true
 is_in_order t (loss_of_sync _) = true
 is_in_order t (production _) = true

@@ -1,5 +1,6 @@
 -- How a look goes on.
-use Rattle.std.specs.Prelude.{◌≡◌, ℕ, ◌+◌, ◌-◌, Bool, true, false, ◌||◌, ◌==◌, nat_lt, List, map, length}
+use Rattle.std.specs.Prelude.{◌≡◌, ℕ, ◌+◌, ◌-◌, Bool, true, false, ◌||◌, ◌==◌, nat_lt, List, map}
+use Rattle.std.specs.Prelude.{length}
 use Rattle.std.specs.Option.{option_or}
 use Rattle.archive_terms.specs.Archive.{Entry, seal}
 use Rattle.archive_terms.specs.Selection.{Selection}
@@ -12,7 +13,13 @@ use Rattle.archive_index.specs.declared.look.Given.{Given}
 
 -- what is wanted, and how far a look has come
 abbrev pub wanted_of : Selection → Cursor → Wanted
-wanted_of s c = record { selection = s; place = c.place; since = c.since; room = c.room; octets = c.octets }
+wanted_of s c = record {
+  selection = s;
+  place = c.place;
+  since = c.since;
+  room = c.room;
+  octets = c.octets;
+}
 
 abbrev pub is_full : Cursor → Bool
 is_full c = c.room == 0 || c.octets == 0
@@ -33,6 +40,8 @@ is_told_of _ = true
 
 -- what a look gives of what is wanted
 pub record Gives (entries : List Entry) (w : Wanted) (given : Given) : Type 0 where
-  pub items : given.items ≡ map said_of (told_items entries w.since (archived_items (given_of entries w)))
+  pub items : given.items ≡ map said_of (told_items entries w.since
+      (archived_items (given_of entries w)))
   pub next : given.next ≡ place_behind w.place (given_of entries w)
-  pub more : given.more ≡ nat_lt (length (given_of entries w)) (length (picked_from entries w.selection w.place))
+  pub more : given.more ≡ nat_lt (length (given_of entries w))
+      (length (picked_from entries w.selection w.place))

@@ -1,5 +1,6 @@
 // The index.
-ghost use Rattle.std.specs.Prelude.{◌≡◌, ◌+◌, ◌≤◌, ◌<◌, [], ◌∷◌, ◌++◌, List, IsTrue, IfOk, OnOk, OnErr, take, length, slice_get, Some};
+ghost use Rattle.std.specs.Prelude.{◌≡◌, ◌+◌, ◌≤◌, ◌<◌, [], ◌∷◌, ◌++◌, List, IsTrue, IfOk, OnOk};
+ghost use Rattle.std.specs.Prelude.{OnErr, take, length, slice_get, Some};
 ghost use Rattle.archive_terms.specs.declared.limits.TheConstants.{GREATEST_LOST};
 ghost use Rattle.archive_terms.specs.Archive as archive;
 ghost use Rattle.archive_terms.specs.Archive.{is_valid, keeps_order, may_follow};
@@ -35,7 +36,10 @@ impl Model for Index {
 
     ghost Value = { Kept };
 
-    ghost view = { λ index. record { marks = map mark_seen (vec_items index.marks); totals = index.totals } };
+    ghost view = { λ index. record {
+      marks = map mark_seen (vec_items index.marks);
+      totals = index.totals;
+    } };
 }
 
 impl Index {
@@ -97,7 +101,8 @@ impl Index {
     /// How many frames were lost after the entry at a place, up to and including another one's:
     /// 16,777,215 where there are more.
     pub fn lost_between(&self, after: u64, upto: u64) -> u32
-        ensures exact { (entries : List archive.Entry) → Indexes self.now entries → result ≡ gap entries after upto }
+        ensures exact { (entries : List archive.Entry) → Indexes self.now entries
+            → result ≡ gap entries after upto }
         ensures capped { result ≤ GREATEST_LOST }
     {
         lost_sums();
@@ -110,7 +115,8 @@ impl Index {
 
     /// Goes back to the first so many entries, or to all where there are fewer.
     pub fn cut(&mut self, entries: u64)
-        ensures { (all : List archive.Entry) → Indexes self.old all → Indexes self.new (take entries all) }
+        ensures { (all : List archive.Entry) → Indexes self.old all
+            → Indexes self.new (take entries all) }
     {
         self.totals = *self.totals_before(entries);
         self.marks.truncate(entries as usize);
@@ -118,14 +124,16 @@ impl Index {
 
     // What all entries tell together.
     pub(crate) fn totals(&self) -> &Totals
-        ensures { (entries : List archive.Entry) → Indexes self.now entries → result.now ≡ totals_of entries }
+        ensures { (entries : List archive.Entry) → Indexes self.now entries
+            → result.now ≡ totals_of entries }
     {
         &self.totals
     }
 
     // What the entries before a place tell together.
     fn totals_before(&self, place: u64) -> &Totals
-        ensures { (entries : List archive.Entry) → Indexes self.now entries → result.now ≡ totals_of (take place entries) }
+        ensures { (entries : List archive.Entry) → Indexes self.now entries
+            → result.now ≡ totals_of (take place entries) }
     {
         if place < self.marks.len() as u64 {
             &self.marks[place as usize].before
@@ -136,7 +144,8 @@ impl Index {
 
     // What the entries up to and including the one at a place tell together.
     fn totals_through(&self, place: u64) -> &Totals
-        ensures { (entries : List archive.Entry) → Indexes self.now entries → result.now ≡ totals_of (take (place + 1) entries) }
+        ensures { (entries : List archive.Entry) → Indexes self.now entries
+            → result.now ≡ totals_of (take (place + 1) entries) }
     {
         if place < self.marks.len() as u64 {
             self.totals_before(place + 1)

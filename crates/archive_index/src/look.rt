@@ -1,5 +1,6 @@
 // What a look gives.
-ghost use Rattle.std.specs.Prelude.{◌≡◌, ◌+◌, ◌<◌, ◌≤◌, ◌^◌, List, IfOk, IsTrue, Bool, ◌||◌, ◌==◌, length};
+ghost use Rattle.std.specs.Prelude.{◌≡◌, ◌+◌, ◌<◌, ◌≤◌, ◌^◌, List, IfOk, IsTrue, Bool, ◌||◌, ◌==◌};
+ghost use Rattle.std.specs.Prelude.{length};
 ghost use Rattle.archive_terms.specs.Archive as archive;
 ghost use Rattle.archive_terms.specs.Delivery.{archived};
 ghost use Rattle.archive_terms.specs.Continuity.{continuity, continuity_of};
@@ -31,7 +32,8 @@ impl Index {
     /// What a look at these entries gives, of which this is the index.
     pub fn glimpse(&self, alloc: Global, entries: &[Entry], want: &Want) -> Result<Glimpse, Memory>
         requires { Indexes self.now (entries_of entries.now) }
-        ensures { IfOk result (λ g. glimpse_of g ≡ as_said (glimpse (entries_of entries.now) (want_of want.now))) }
+        ensures { IfOk result (λ g. glimpse_of g
+            ≡ as_said (glimpse (entries_of entries.now) (want_of want.now))) }
     {
         let totals = self.totals();
         let front = entries.len() as u64;
@@ -80,7 +82,8 @@ impl Index {
         wanted: Cursor,
     ) -> Result<Given, Memory>
         requires { Indexes self.now (entries_of entries.now) }
-        ensures { IfOk result (Gives (entries_of entries.now) (wanted_of (selection_of selection.now) wanted)) }
+        ensures { IfOk result (Gives (entries_of entries.now)
+            (wanted_of (selection_of selection.now) wanted)) }
     {
         let mut cursor = wanted;
         let mut items = Items::new(alloc);
@@ -147,7 +150,8 @@ impl Index {
 
     // The continuity of the frame at a place: -1 where none was handed over before it.
     fn continuity(&self, since: Option<u64>, place: u64) -> i32
-        ensures { (entries : List archive.Entry) → Indexes self.now entries → result ≡ continuity entries since place }
+        ensures { (entries : List archive.Entry) → Indexes self.now entries
+            → result ≡ continuity entries since place }
     {
         match since {
             Some(since) => self.lost_between(since, place) as i32,

@@ -60,7 +60,8 @@ impl Mark {
 
     // Whether a selection picks the entry, which stands at this place.
     pub(crate) fn is_picked(&self, selection: &Selection, place: u64) -> bool
-        ensures { (entries : List archive.Entry) (entry : archive.Entry) → mark_seen self.now ≡ mark_of (take place entries) entry
+        ensures { (entries : List archive.Entry) (entry : archive.Entry)
+            → mark_seen self.now ≡ mark_of (take place entries) entry
             → result ≡ is_picked (selection_of selection.now) entries place entry }
     {
         match self.kind {

@@ -11,14 +11,14 @@ use record_form::Entry;
 /// lost, and the statuses of a report.
 #[derive(Clone, Copy, Debug, PartialEq, Eq)]
 pub(crate) struct Totals {
-    // The first moment above the times of all frames, and above those of all seals: 0 where there is
-    // none.
+    // The first moment above the times of all frames, and above those of all seals: 0 where there
+    // is none.
     pub(crate) frames_end: u128,
     pub(crate) seals_end: u128,
     // Frames lost.
     pub(crate) lost: u128,
-    // The lock statuses, in the order of a status report: frame synchronisation, symbol, subcarrier,
-    // carrier.
+    // The lock statuses, in the order of a status report: frame synchronisation, symbol,
+    // subcarrier, carrier.
     pub(crate) lock: [u8; 4],
     pub(crate) production: u8,
 }

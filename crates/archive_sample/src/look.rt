@@ -4,8 +4,8 @@ ghost use Rattle.archive_terms.specs.Glimpse.{given};
 
 use archive_terms::laws::given_is_the_greatest;
 
-/// How many of the waiting entries are given, by the octets of their frames: they end with the room,
-/// or with the one that reaches the wanted octets.
+/// How many of the waiting entries are given, by the octets of their frames: they end with the
+/// room, or with the one that reaches the wanted octets.
 pub fn given(room: usize, octets: u64, lengths: &[u32]) -> usize
     ensures { result ≡ given room octets lengths.now }
 {

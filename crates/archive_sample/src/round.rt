@@ -2,7 +2,8 @@
 ghost use Rattle.std.specs.Prelude.{◌≡◌, ◌+◌, ◌^◌, ◌<◌, List, take};
 ghost use Rattle.archive_terms.specs.Archive.{Entry};
 ghost use Rattle.archive_terms.specs.Selection.{is_stop_closed};
-ghost use Rattle.archive_terms.specs.Delivery.{Mode, is_timely, Terms, stepped, released, taken_whole, stalled};
+ghost use Rattle.archive_terms.specs.Delivery.{Mode, is_timely, Terms, stepped, released};
+ghost use Rattle.archive_terms.specs.Delivery.{taken_whole, stalled};
 ghost use Rattle.archive_terms.specs.Rounds.{Round, picked_at, after_round, answered};
 ghost use Rattle.archive_sample.specs.Plain.{answer_of, link_of, delivery_of};
 
@@ -61,8 +62,10 @@ pub struct Delivery {
 /// The delivery after a round that began with `before`, and whose step leads to `next`.
 pub fn after_round(timely: bool, link: Link, before: &Delivery, next: &Delivery) -> Delivery
     requires { next.now.settled + next.now.held < 2 ^ 64 }
-    ensures { (t : Terms) (entries : List Entry) (r : Round) → is_timely t.mode ≡ timely → r.link ≡ link_of link
-        → delivery_of next.now ≡ stepped t (picked_at t entries r.front) (is_stop_closed t.selection (take r.front entries)) r.now (delivery_of before.now)
+    ensures { (t : Terms) (entries : List Entry) (r : Round) → is_timely t.mode ≡ timely
+        → r.link ≡ link_of link
+        → delivery_of next.now ≡ stepped t (picked_at t entries r.front)
+        (is_stop_closed t.selection (take r.front entries)) r.now (delivery_of before.now)
         → delivery_of result ≡ after_round t entries r (delivery_of before.now) }
 {
     match link {
@@ -82,7 +85,8 @@ pub fn after_round(timely: bool, link: Link, before: &Delivery, next: &Delivery)
 /// The delivery after the answer to its buffer.
 pub fn answered(timely: bool, answer: Answer, offered: &Delivery) -> Delivery
     requires { offered.now.settled + offered.now.held < 2 ^ 64 }
-    ensures { (t : Terms) → is_timely t.mode ≡ timely → delivery_of result ≡ answered t (answer_of answer) (delivery_of offered.now) }
+    ensures { (t : Terms) → is_timely t.mode ≡ timely
+        → delivery_of result ≡ answered t (answer_of answer) (delivery_of offered.now) }
 {
     match answer {
         Answer::Whole => taken_whole(offered),
@@ -91,7 +95,8 @@ pub fn answered(timely: bool, answer: Answer, offered: &Delivery) -> Delivery
     }
 }
 
-// An offer that was taken whole: a backlog in it is no longer owed, and end of data ends the delivery.
+// An offer that was taken whole: a backlog in it is no longer owed, and end of data ends the
+// delivery.
 fn taken_whole(offered: &Delivery) -> Delivery
     requires { offered.now.settled + offered.now.held < 2 ^ 64 }
     ensures { delivery_of result ≡ taken_whole (delivery_of offered.now) }
@@ -108,7 +113,8 @@ fn taken_whole(offered: &Delivery) -> Delivery
 // A stalled offer: a timely delivery discards a buffer that has a picked entry, and owes a backlog.
 fn stalled(timely: bool, offered: &Delivery) -> Delivery
     requires { offered.now.settled + offered.now.held < 2 ^ 64 }
-    ensures { (mode : Mode) → is_timely mode ≡ timely → delivery_of result ≡ stalled mode (delivery_of offered.now) }
+    ensures { (mode : Mode) → is_timely mode ≡ timely
+        → delivery_of result ≡ stalled mode (delivery_of offered.now) }
 {
     if !timely || offered.held == 0 {
         return *offered;

@@ -1,47 +1,81 @@
--- A delivery that remembers a place does over rounds what the one does that counts in the picked list.
-use Rattle.std.proofs.Common.{◌≡◌, ℕ, ◌+◌, ◌<◌, ◌≤◌, Bool, true, false, cond, not, ◌&&◌, ◌||◌, nat_eq, nat_lt, List, [], ◌∷◌, ◌++◌, length, map, take, drop, Option, Some, None, refl, ap, sym, subst, ◌∙◌, arith, inl, inr, add-zero}
+-- A delivery that remembers a place does over rounds what the one does that counts in the picked
+-- list.
+use Rattle.std.proofs.Common.{◌≡◌, ℕ, ◌+◌, ◌<◌, ◌≤◌, Bool, true, false, cond, not, ◌&&◌, ◌||◌}
+use Rattle.std.proofs.Common.{nat_eq, nat_lt, List, [], ◌∷◌, ◌++◌, length, map, take, drop, Option}
+use Rattle.std.proofs.Common.{Some, None, refl, ap, sym, subst, ◌∙◌, arith, inl, inr, add-zero}
 use Rattle.std.specs.Prelude.{is_none}
 use Rattle.std.specs.List.{filter, list_any, filter_map, cons_option}
 use Rattle.std.specs.Option.{option_to_list, option_map_or}
 use Rattle.std.proofs.lemmas.List.{length-drop, length-append, length-take-le, take-append-drop}
-use Rattle.std.proofs.lemmas.Bool.{and_parts, and_left, or_from, or_right, eqb-true, eq-eqb, lt-ltb, le-ltb, cases_lt, false≢true, true≢false}
+use Rattle.std.proofs.lemmas.Bool.{and_parts, and_left, or_from, or_right, eqb-true, eq-eqb, lt-ltb}
+use Rattle.std.proofs.lemmas.Bool.{le-ltb, cases_lt, false≢true, true≢false}
 use Rattle.archive_terms.specs.Archive.{Entry, is_archive, is_closed}
 use Rattle.archive_terms.specs.Selection.{Selection, picked, is_stop_closed}
-use Rattle.archive_terms.specs.Delivery.{Item, backlog, end_of_data, archived_items, is_complete, is_archived, is_backlog, is_end_of_data, is_timely, Terms, limit_of, is_due_of, contents, Delivery, started, buffer, has_head, is_discardable, released, stepped, with_end, with_due_fixed}
-use Rattle.archive_terms.specs.Rounds.{Answer, whole, stall, fail, Round, Outcome, nothing, handed, kept, discarded, failed, takes_step, at_round, answer_on, answer_at, answered, fate, after_round, outcome, outcomes, is_failed, handed_buffer, handed_buffers, FrontsRise}
+use Rattle.archive_terms.specs.Delivery.{Item, backlog, end_of_data, archived_items, is_complete}
+use Rattle.archive_terms.specs.Delivery.{is_archived, is_backlog, is_end_of_data, is_timely, Terms}
+use Rattle.archive_terms.specs.Delivery.{limit_of, is_due_of, contents, Delivery, started, buffer}
+use Rattle.archive_terms.specs.Delivery.{has_head, is_discardable, released, stepped, with_end}
+use Rattle.archive_terms.specs.Delivery.{with_due_fixed}
+use Rattle.archive_terms.specs.Rounds.{Answer, whole, stall, fail, Round, Outcome, nothing, handed}
+use Rattle.archive_terms.specs.Rounds.{kept, discarded, failed, takes_step, at_round, answer_on}
+use Rattle.archive_terms.specs.Rounds.{answer_at, answered, fate, after_round, outcome, outcomes}
+use Rattle.archive_terms.specs.Rounds.{is_failed, handed_buffer, handed_buffers, FrontsRise}
 use Rattle.archive_terms.specs.Continuity.{last_frame, told_items, told_buffers}
 use Rattle.archive_terms.specs.Glimpse.{glimpse}
-use Rattle.archive_terms.specs.Placed.{Told, items_of, Placed, placed_at_start, with_head, want_of, with_items, is_all_put, with_end_alone, fixed_where_due, placed_step, placed_answered, placed_at_round, placed_answer_at, placed_after_round, placed_fate, told_where, placed_outcomes}
-use Rattle.archive_terms.proofs.Picks.{picked_behind, picked-append, nothing_behind, stop_known, is_stop_closed-append}
+use Rattle.archive_terms.specs.Placed.{Told, items_of, Placed, placed_at_start, with_head, want_of}
+use Rattle.archive_terms.specs.Placed.{with_items, is_all_put, with_end_alone, fixed_where_due}
+use Rattle.archive_terms.specs.Placed.{placed_step, placed_answered, placed_at_round}
+use Rattle.archive_terms.specs.Placed.{placed_answer_at, placed_after_round, placed_fate}
+use Rattle.archive_terms.specs.Placed.{told_where, placed_outcomes}
+use Rattle.archive_terms.proofs.Picks.{picked_behind, picked-append, nothing_behind, stop_known}
+use Rattle.archive_terms.proofs.Picks.{is_stop_closed-append}
 use Rattle.archive_terms.proofs.Buffers.{InLimits, room, room-le, nothing_complete}
 use Rattle.archive_terms.proofs.Lists.{no_backlog}
-use Rattle.archive_terms.proofs.States.{State, going, owing, telling, ending, over, held_of_more, State-grow, State-stepped, State-answered}
+use Rattle.archive_terms.proofs.States.{State, going, owing, telling, ending, over, held_of_more}
+use Rattle.archive_terms.proofs.States.{State-grow, State-stepped, State-answered}
 use Rattle.archive_terms.proofs.Histories.{none_archived, some_held}
 use Rattle.archive_terms.proofs.Prefixes.{no_end}
 use Rattle.archive_terms.proofs.Told.{stand_before, items_stay, held_stand}
 use Rattle.archive_terms.proofs.Waiting.{from_place, all_from_first, waits_grow}
 use Rattle.archive_terms.proofs.Runs.{front_grows, is_archive-take}
-use Rattle.archive_terms.proofs.Agreement.{Agrees, items_of-told, held_is_empty, end_same, not_complete, Filled, fills}
+use Rattle.archive_terms.proofs.Agreement.{Agrees, items_of-told, held_is_empty, end_same}
+use Rattle.archive_terms.proofs.Agreement.{not_complete, Filled, fills}
 
 -- ---- a step
 
 -- the buffer that is held after filling, with end of data where it stands alone
-agrees_held : (t : Terms) (a : List Entry) (now : ℕ) (p : Placed) (front head : Option Item) (n since : ℕ) (owed : Bool) (held : List Told) → 0 < t.size
-    → Filled t a now p front n → p.owed ≡ owed → p.ended ≡ false → (with_items t (glimpse a (want_of t p)) now p).since ≡ since
-    → held ≡ told_items a p.last (option_to_list head ++ archived_items (take (room t.size front (drop n (picked a t.selection))) (drop n (picked a t.selection))))
+agrees_held : (t : Terms) (a : List Entry) (now : ℕ) (p : Placed) (front head : Option Item)
+    (n since : ℕ) (owed : Bool) (held : List Told) → 0 < t.size
+    → Filled t a now p front n → p.owed ≡ owed → p.ended ≡ false
+    → (with_items t (glimpse a (want_of t p)) now p).since ≡ since
+    → held ≡ told_items a p.last (option_to_list head
+    ++ archived_items (take (room t.size front (drop n (picked a t.selection)))
+    (drop n (picked a t.selection))))
     → Agrees t a
-    (fixed_where_due t ((glimpse a (want_of t p)).closed && is_all_put t (glimpse a (want_of t p)) p) now (record (with_items t (glimpse a (want_of t p)) now p) { held = held }))
+    (fixed_where_due t ((glimpse a (want_of t p)).closed
+    && is_all_put t (glimpse a (want_of t p)) p) now
+    (record (with_items t (glimpse a (want_of t p)) now p) { held = held }))
     (with_due_fixed t (picked a t.selection) (is_stop_closed t.selection a) now
-    (record { settled = n; held = room t.size front (drop n (picked a t.selection)); head = head; owed = owed; fixed = false; since = since; ended = false }))
+    (record {
+      settled = n;
+      held = room t.size front (drop n (picked a t.selection));
+      head = head;
+      owed = owed;
+      fixed = false;
+      since = since;
+      ended = false;
+    }))
 agrees_held t a now p front head n since owed held some f owes goes put is = record {
   held = is;
   waits = f.waits;
   within = f.within;
   owed = owes;
   fixed =
-      ap (λ b. is_due_of t.size (limit_of t) now b (contents (with_items t (glimpse a (want_of t p)) now p).since (items_of held))) f.last
+      ap (λ b. is_due_of t.size (limit_of t) now b
+      (contents (with_items t (glimpse a (want_of t p)) now p).since (items_of held))) f.last
       ∙ ap (λ s. is_due_of t.size (limit_of t) now last (contents s (items_of held))) put
-      ∙ ap (λ xs. is_due_of t.size (limit_of t) now last (contents since xs)) (ap items_of is ∙ items_of-told a p.last items);
+      ∙ ap (λ xs. is_due_of t.size (limit_of t) now last (contents since xs)) (ap items_of is
+      ∙ items_of-told a p.last items);
   since = put;
   ended = goes;
   still = λ waits. not_complete t.size (limit_of t) now since last items some waits;
@@ -56,15 +90,28 @@ agrees_held t a now p front head n since owed held some f owes goes put is = rec
     last : Bool
     last = is_stop_closed t.selection a && nat_eq (n + r) (length (picked a t.selection))
 
-agrees_filled : (t : Terms) (a : List Entry) (now : ℕ) (p : Placed) (front : Option Item) (n since : ℕ) (owed : Bool) → 0 < t.size
-    → Filled t a now p front n → p.owed ≡ owed → p.ended ≡ false → (with_items t (glimpse a (want_of t p)) now p).since ≡ since
+agrees_filled : (t : Terms) (a : List Entry) (now : ℕ) (p : Placed) (front : Option Item)
+    (n since : ℕ) (owed : Bool) → 0 < t.size
+    → Filled t a now p front n → p.owed ≡ owed → p.ended ≡ false
+    → (with_items t (glimpse a (want_of t p)) now p).since ≡ since
     → Agrees t a
-    (fixed_where_due t ((glimpse a (want_of t p)).closed && is_all_put t (glimpse a (want_of t p)) p) now
-    (with_end_alone ((glimpse a (want_of t p)).closed && is_all_put t (glimpse a (want_of t p)) p) (with_items t (glimpse a (want_of t p)) now p)))
+    (fixed_where_due t ((glimpse a (want_of t p)).closed
+    && is_all_put t (glimpse a (want_of t p)) p) now
+    (with_end_alone ((glimpse a (want_of t p)).closed && is_all_put t (glimpse a (want_of t p)) p)
+    (with_items t (glimpse a (want_of t p)) now p)))
     (with_due_fixed t (picked a t.selection) (is_stop_closed t.selection a) now
     (with_end (picked a t.selection) (is_stop_closed t.selection a)
-    (record { settled = n; held = room t.size front (drop n (picked a t.selection)); head = front; owed = owed; fixed = false; since = since; ended = false })))
-agrees_filled t a now p front n since owed some f owes goes put = by_end (nat_eq (length q.held) 0 && last) test refl tests
+    (record {
+      settled = n;
+      held = room t.size front (drop n (picked a t.selection));
+      head = front;
+      owed = owed;
+      fixed = false;
+      since = since;
+      ended = false;
+    })))
+agrees_filled t a now p front n since owed some f owes goes put =
+    by_end (nat_eq (length q.held) 0 && last) test refl tests
   where
     all : List (ℕ × Entry)
     all = picked a t.selection
@@ -92,44 +139,100 @@ agrees_filled t a now p front n since owed some f owes goes put = by_end (nat_eq
 
     tests : (nat_eq (length q.held) 0 && last) ≡ test
     tests =
-        ap (λ b. b && last) (ap (λ xs. nat_eq (length xs) 0) f.held ∙ held_is_empty a p.last front r (drop n all) (room-le t.size front (drop n all)))
-        ∙ ap (λ b. empty && b) f.last ∙ sym (end_same empty closed n r (length all) (no_room front r))
+        ap (λ b. b && last) (ap (λ xs. nat_eq (length xs) 0) f.held
+        ∙ held_is_empty a p.last front r (drop n all) (room-le t.size front (drop n all)))
+        ∙ ap (λ b. empty && b) f.last ∙ sym (end_same empty closed n r (length all)
+        (no_room front r))
 
     by_end : (b c : Bool) → test ≡ c → b ≡ test
-        → Agrees t a (fixed_where_due t last now (record q { held = cond b ((end_of_data, None) ∷ []) q.held }))
-        (with_due_fixed t all closed now (record { settled = n; held = r; head = cond test (Some end_of_data) front; owed = owed; fixed = false; since = since; ended = false }))
+        → Agrees t a (fixed_where_due t last now
+        (record q { held = cond b ((end_of_data, None) ∷ []) q.held }))
+        (with_due_fixed t all closed now (record {
+          settled = n;
+          held = r;
+          head = cond test (Some end_of_data) front;
+          owed = owed;
+          fixed = false;
+          since = since;
+          ended = false;
+        }))
     by_end b true is same =
-        let none : r ≡ 0 = no_room front r (and_parts (true && empty) closed (and_parts ((true && empty) && closed) (nat_eq n (length all)) is).0).0 in
-        subst (λ x. Agrees t a (fixed_where_due t last now (record q { held = cond x ((end_of_data, None) ∷ []) q.held }))
-        (with_due_fixed t all closed now (record { settled = n; held = r; head = cond test (Some end_of_data) front; owed = owed; fixed = false; since = since; ended = false }))) (sym (same ∙ is))
-        (subst (λ x. Agrees t a (fixed_where_due t last now (record q { held = (end_of_data, None) ∷ [] }))
-        (with_due_fixed t all closed now (record { settled = n; held = r; head = cond x (Some end_of_data) front; owed = owed; fixed = false; since = since; ended = false }))) (sym is)
-        (agrees_held t a now p front (Some end_of_data) n since owed ((end_of_data, None) ∷ []) some f owes goes put
-        (sym (ap (λ k. told_items a p.last (end_of_data ∷ archived_items (take k (drop n all)))) none))))
+        let none : r ≡ 0 = no_room front r (and_parts (true && empty) closed
+        (and_parts ((true && empty) && closed) (nat_eq n (length all)) is).0).0 in
+        subst (λ x. Agrees t a (fixed_where_due t last now
+        (record q { held = cond x ((end_of_data, None) ∷ []) q.held }))
+        (with_due_fixed t all closed now (record {
+          settled = n;
+          held = r;
+          head = cond test (Some end_of_data) front;
+          owed = owed;
+          fixed = false;
+          since = since;
+          ended = false;
+        }))) (sym (same ∙ is))
+        (subst (λ x. Agrees t a (fixed_where_due t last now
+        (record q { held = (end_of_data, None) ∷ [] }))
+        (with_due_fixed t all closed now (record {
+          settled = n;
+          held = r;
+          head = cond x (Some end_of_data) front;
+          owed = owed;
+          fixed = false;
+          since = since;
+          ended = false;
+        }))) (sym is)
+        (agrees_held t a now p front (Some end_of_data) n since owed ((end_of_data, None) ∷ []) some
+        f owes goes put
+        (sym (ap (λ k. told_items a p.last (end_of_data ∷ archived_items (take k (drop n all))))
+        none))))
     by_end b false is same =
-        subst (λ x. Agrees t a (fixed_where_due t last now (record q { held = cond x ((end_of_data, None) ∷ []) q.held }))
-        (with_due_fixed t all closed now (record { settled = n; held = r; head = cond test (Some end_of_data) front; owed = owed; fixed = false; since = since; ended = false }))) (sym (same ∙ is))
+        subst (λ x. Agrees t a (fixed_where_due t last now
+        (record q { held = cond x ((end_of_data, None) ∷ []) q.held }))
+        (with_due_fixed t all closed now (record {
+          settled = n;
+          held = r;
+          head = cond test (Some end_of_data) front;
+          owed = owed;
+          fixed = false;
+          since = since;
+          ended = false;
+        }))) (sym (same ∙ is))
         (subst (λ x. Agrees t a (fixed_where_due t last now (record q { held = q.held }))
-        (with_due_fixed t all closed now (record { settled = n; held = r; head = cond x (Some end_of_data) front; owed = owed; fixed = false; since = since; ended = false }))) (sym is)
+        (with_due_fixed t all closed now (record {
+          settled = n;
+          held = r;
+          head = cond x (Some end_of_data) front;
+          owed = owed;
+          fixed = false;
+          since = since;
+          ended = false;
+        }))) (sym is)
         (agrees_held t a now p front front n since owed q.held some f owes goes put f.held))
 
 -- a delivery that is fixed or ended stays as it is
-stays : (t : Terms) (a : List Entry) (now : ℕ) (p : Placed) (d : Delivery) → (p.fixed || p.ended) ≡ true → Agrees t a p d
+stays : (t : Terms) (a : List Entry) (now : ℕ) (p : Placed) (d : Delivery)
+    → (p.fixed || p.ended) ≡ true → Agrees t a p d
     → Agrees t a (placed_step t (glimpse a (want_of t p)) now p) d
 stays t a now p d is g =
-    subst (λ b. Agrees t a (cond b p (fixed_where_due t last now (with_end_alone last (with_items t (glimpse a (want_of t p)) now p)))) d) (sym is) g
+    subst (λ b. Agrees t a (cond b p (fixed_where_due t last now
+    (with_end_alone last (with_items t (glimpse a (want_of t p)) now p)))) d) (sym is) g
   where
     last : Bool
     last = (glimpse a (want_of t p)).closed && is_all_put t (glimpse a (want_of t p)) p
 
 -- one that isn't is filled
-steps : (t : Terms) (a : List Entry) (now : ℕ) (p : Placed) (first front : Option Item) (n k since : ℕ) (owed : Bool) → 0 < t.size
+steps : (t : Terms) (a : List Entry) (now : ℕ) (p : Placed) (first front : Option Item)
+    (n k since : ℕ) (owed : Bool) → 0 < t.size
     → (p.fixed || p.ended) ≡ false → p.ended ≡ false → p.owed ≡ owed → p.since ≡ since
     → n + k ≤ length (picked a t.selection)
-    → InLimits t.size (option_to_list front ++ archived_items (take k (drop n (picked a t.selection))))
-    → p.held ≡ told_items a p.last (option_to_list first ++ archived_items (take k (drop n (picked a t.selection))))
-    → with_head p ≡ told_items a p.last (option_to_list front ++ archived_items (take k (drop n (picked a t.selection))))
-    → filter (from_place p.place) (picked a t.selection) ≡ drop (n + k) (picked a t.selection) → p.place ≤ length a
+    → InLimits t.size (option_to_list front ++ archived_items
+    (take k (drop n (picked a t.selection))))
+    → p.held ≡ told_items a p.last (option_to_list first
+    ++ archived_items (take k (drop n (picked a t.selection))))
+    → with_head p ≡ told_items a p.last (option_to_list front
+    ++ archived_items (take k (drop n (picked a t.selection))))
+    → filter (from_place p.place) (picked a t.selection) ≡ drop (n + k) (picked a t.selection)
+    → p.place ≤ length a
     → Agrees t a (placed_step t (glimpse a (want_of t p)) now p)
     (with_due_fixed t (picked a t.selection) (is_stop_closed t.selection a) now
     (with_end (picked a t.selection) (is_stop_closed t.selection a)
@@ -139,13 +242,25 @@ steps : (t : Terms) (a : List Entry) (now : ℕ) (p : Placed) (first front : Opt
       head = front;
       owed = owed;
       fixed = false;
-      since = cond ((is_none first && nat_eq k 0) && not (is_none front && nat_eq (room t.size front (drop n (picked a t.selection))) 0)) now since;
+      since = cond ((is_none first && nat_eq k 0)
+          && not (is_none front && nat_eq (room t.size front (drop n (picked a t.selection))) 0))
+          now since;
       ended = false;
     })))
-steps t a now p first front n k since owed some goes unended owes put fits limits held head waits within =
+steps t a now p first front n k since owed some goes unended owes put fits limits held head waits
+    within =
     subst (λ b. Agrees t a (cond b p (fixed_where_due t last now (with_end_alone last q)))
-    (with_due_fixed t all (is_stop_closed t.selection a) now (with_end all (is_stop_closed t.selection a)
-    (record { settled = n; held = r; head = front; owed = owed; fixed = false; since = moment; ended = false })))) (sym goes)
+    (with_due_fixed t all (is_stop_closed t.selection a) now
+    (with_end all (is_stop_closed t.selection a)
+    (record {
+      settled = n;
+      held = r;
+      head = front;
+      owed = owed;
+      fixed = false;
+      since = moment;
+      ended = false;
+    })))) (sym goes)
     (agrees_filled t a now p front n moment owed some f owes unended since_is)
   where
     all : List (ℕ × Entry)
@@ -166,42 +281,56 @@ steps t a now p first front n k since owed some goes unended owes put fits limit
     moment : ℕ
     moment = cond ((is_none first && nat_eq k 0) && not (is_none front && nat_eq r 0)) now since
 
-    since_is : q.since ≡ cond ((is_none first && nat_eq k 0) && not (is_none front && nat_eq r 0)) now since
+    since_is : q.since ≡ cond ((is_none first && nat_eq k 0) && not (is_none front && nat_eq r 0))
+        now since
     since_is =
         ap (λ b. cond (b && not (nat_eq (length q.held) 0)) now p.since)
-        (ap (λ xs. nat_eq (length xs) 0) held ∙ held_is_empty a p.last first k (drop n all) (omega (arith, length-drop n all)))
+        (ap (λ xs. nat_eq (length xs) 0) held
+        ∙ held_is_empty a p.last first k (drop n all) (omega (arith, length-drop n all)))
         ∙ ap (λ b. cond ((is_none first && nat_eq k 0) && not b) now p.since)
-        (ap (λ xs. nat_eq (length xs) 0) f.held ∙ held_is_empty a p.last front r (drop n all) (room-le t.size front (drop n all)))
-        ∙ ap (λ s. cond ((is_none first && nat_eq k 0) && not (is_none front && nat_eq r 0)) now s) put
+        (ap (λ xs. nat_eq (length xs) 0) f.held
+        ∙ held_is_empty a p.last front r (drop n all) (room-le t.size front (drop n all)))
+        ∙ ap (λ s. cond ((is_none first && nat_eq k 0) && not (is_none front && nat_eq r 0)) now s)
+        put
 
 goes_on : (p : Placed) → p.fixed ≡ false → p.ended ≡ false → (p.fixed || p.ended) ≡ false
 goes_on p fixed unended = or_from p.fixed p.ended fixed unended
 
 pub Agrees-stepped : (t : Terms) (a : List Entry) (now : ℕ) (p : Placed) (d : Delivery) → 0 < t.size
     → State t (picked a t.selection) (is_stop_closed t.selection a) d → Agrees t a p d
-    → Agrees t a (placed_step t (glimpse a (want_of t p)) now p) (stepped t (picked a t.selection) (is_stop_closed t.selection a) now d)
-Agrees-stepped t a now p d some (going n k true since fits limits) g = stays t a now p d (ap (λ b. b || p.ended) g.fixed) g
+    → Agrees t a (placed_step t (glimpse a (want_of t p)) now p)
+    (stepped t (picked a t.selection) (is_stop_closed t.selection a) now d)
+Agrees-stepped t a now p d some (going n k true since fits limits) g =
+    stays t a now p d (ap (λ b. b || p.ended) g.fixed) g
 Agrees-stepped t a now p d some (going n k false since fits limits) g =
-    steps t a now p None None n k since false some (goes_on p g.fixed g.ended) g.ended g.owed g.since fits limits g.held
-    (ap (λ b. cond (b && nat_eq (length p.held) 0) ((backlog, None) ∷ []) p.held) g.owed ∙ g.held) g.waits g.within
+    steps t a now p None None n k since false some (goes_on p g.fixed g.ended) g.ended g.owed
+    g.since fits limits g.held
+    (ap (λ b. cond (b && nat_eq (length p.held) 0) ((backlog, None) ∷ []) p.held) g.owed
+    ∙ g.held) g.waits g.within
 Agrees-stepped t a now p d some (owing n since fits timely) g =
-    steps t a now p None (Some backlog) n 0 since true some (goes_on p g.fixed g.ended) g.ended g.owed g.since (omega arith)
+    steps t a now p None (Some backlog) n 0 since true some (goes_on p g.fixed g.ended) g.ended
+    g.owed g.since (omega arith)
     (one_in_limits t.size some) g.held
     (ap (λ b. cond (b && nat_eq (length p.held) 0) ((backlog, None) ∷ []) p.held) g.owed
     ∙ ap (λ xs. cond (nat_eq (length xs) 0) ((backlog, None) ∷ []) xs) g.held) g.waits g.within
   where
     one_in_limits : (size : ℕ) → 0 < size → InLimits size (backlog ∷ [])
     one_in_limits size some = record {
-      open_before = λ j below. let first : j ≡ 0 = omega arith in ap (λ j. is_complete size (take j (backlog ∷ []))) first ∙ nothing_complete size some;
+      open_before = λ j below. let first : j ≡ 0 = omega arith in
+          ap (λ j. is_complete size (take j (backlog ∷ []))) first ∙ nothing_complete size some;
     }
-Agrees-stepped t a now p d some (telling n k true since fits limits timely) g = stays t a now p d (ap (λ b. b || p.ended) g.fixed) g
+Agrees-stepped t a now p d some (telling n k true since fits limits timely) g =
+    stays t a now p d (ap (λ b. b || p.ended) g.fixed) g
 Agrees-stepped t a now p d some (telling n k false since fits limits timely) g =
-    steps t a now p (Some backlog) (Some backlog) n k since true some (goes_on p g.fixed g.ended) g.ended g.owed g.since fits limits g.held
+    steps t a now p (Some backlog) (Some backlog) n k since true some (goes_on p g.fixed g.ended)
+    g.ended g.owed g.since fits limits g.held
     (ap (λ b. cond (p.owed && b) ((backlog, None) ∷ []) p.held)
     (ap (λ xs. nat_eq (length xs) 0) g.held
-    ∙ held_is_empty a p.last (Some backlog) k (drop n (picked a t.selection)) (omega (arith, length-drop n (picked a t.selection))))
+    ∙ held_is_empty a p.last (Some backlog) k (drop n (picked a t.selection))
+    (omega (arith, length-drop n (picked a t.selection))))
     ∙ ap (λ b. cond (b && false) ((backlog, None) ∷ []) p.held) g.owed ∙ g.held) g.waits g.within
-Agrees-stepped t a now p d some (ending n k true since all none is shut) g = stays t a now p d (ap (λ b. b || p.ended) g.fixed) g
+Agrees-stepped t a now p d some (ending n k true since all none is shut) g =
+    stays t a now p d (ap (λ b. b || p.ended) g.fixed) g
 Agrees-stepped t a now p d some (ending n k false since all none is shut) g = absurd (false≢true is)
 Agrees-stepped t a now p d some (over n k true since all none is shut) g = absurd (true≢false is)
 Agrees-stepped t a now p d some (over n k false since all none is shut) g =
@@ -216,70 +345,104 @@ Agrees-stepped t a now p d some (over n k false since all none is shut) g =
     none_more : more ≡ 0
     none_more = omega (arith, room-le t.size None xs, length-drop n (picked a t.selection), all)
 
-    over_same : Agrees t a p (stepped t (picked a t.selection) (is_stop_closed t.selection a) now (record { settled = n; held = k; head = None; owed = false; fixed = false; since = since; ended = true }))
+    over_same : Agrees t a p (stepped t (picked a t.selection) (is_stop_closed t.selection a) now
+        (record {
+          settled = n;
+          held = k;
+          head = None;
+          owed = false;
+          fixed = false;
+          since = since;
+          ended = true;
+        }))
     over_same = record {
-      held = g.held ∙ ap (λ m. told_items a p.last (archived_items (take m xs))) (none ∙ sym none_more);
+      held = g.held ∙ ap (λ m. told_items a p.last (archived_items (take m xs))) (none
+          ∙ sym none_more);
       waits = g.waits ∙ ap (λ m. drop (n + m) (picked a t.selection)) (none ∙ sym none_more);
       within = g.within;
       owed = g.owed;
-      fixed = g.fixed ∙ sym (and_left (nat_lt 0 (length (archived_items (take more xs)))) _ (ap (λ m. nat_lt 0 (length (archived_items (take m xs)))) none_more));
+      fixed = g.fixed ∙ sym (and_left (nat_lt 0 (length (archived_items (take more xs)))) _
+          (ap (λ m. nat_lt 0 (length (archived_items (take m xs)))) none_more));
       since =
           g.since
-          ∙ sym (ap (λ m. cond ((true && nat_eq k 0) && not (true && nat_eq m 0)) now since) none_more
+          ∙ sym (ap (λ m. cond ((true && nat_eq k 0) && not (true && nat_eq m 0)) now since)
+          none_more
           ∙ ap (λ b. cond ((true && b) && false) now since) (eq-eqb k 0 none));
       ended = g.ended;
-      still = λ _. ap (λ m. is_complete t.size (archived_items (take m xs))) none_more ∙ nothing_complete t.size some;
+      still = λ _. ap (λ m. is_complete t.size (archived_items (take m xs))) none_more
+          ∙ nothing_complete t.size some;
     }
 
 -- ---- an answer
 
 -- whether a picked entry is held
-entries_held : (t : Terms) (entries : List (ℕ × Entry)) (closed : Bool) (d : Delivery) → State t entries closed d
+entries_held : (t : Terms) (entries : List (ℕ × Entry)) (closed : Bool) (d : Delivery)
+    → State t entries closed d
     → list_any is_archived (buffer entries d) ≡ nat_lt 0 d.held
 entries_held t entries closed d s =
     elim (cases_lt 0 d.held) [
       | inl more ↦ some_in t entries closed d s more ∙ sym (lt-ltb 0 d.held more)
-      | inr none ↦ none_archived t entries closed d s (omega arith) ∙ sym (le-ltb 0 d.held (omega arith))
+      | inr none ↦ none_archived t entries closed d s (omega arith)
+          ∙ sym (le-ltb 0 d.held (omega arith))
     ]
   where
-    some_in : (t : Terms) (entries : List (ℕ × Entry)) (closed : Bool) (d : Delivery) → State t entries closed d → 0 < d.held
+    some_in : (t : Terms) (entries : List (ℕ × Entry)) (closed : Bool) (d : Delivery)
+        → State t entries closed d → 0 < d.held
         → list_any is_archived (buffer entries d) ≡ true
-    some_in t entries closed d (going n k fixed since fits limits) more = some_held n k entries fits more
-    some_in t entries closed d (telling n k fixed since fits limits timely) more = some_held n k entries fits more
+    some_in t entries closed d (going n k fixed since fits limits) more =
+        some_held n k entries fits more
+    some_in t entries closed d (telling n k fixed since fits limits timely) more =
+        some_held n k entries fits more
     some_in t entries closed d (owing n since fits timely) more = absurd (omega arith)
-    some_in t entries closed d (ending n k fixed since all none is shut) more = absurd (let h : 0 < k = more in omega arith)
-    some_in t entries closed d (over n k fixed since all none is shut) more = absurd (let h : 0 < k = more in omega arith)
+    some_in t entries closed d (ending n k fixed since all none is shut) more =
+        absurd (let h : 0 < k = more in omega arith)
+    some_in t entries closed d (over n k fixed since all none is shut) more =
+        absurd (let h : 0 < k = more in omega arith)
 
-backlog_held : (t : Terms) (entries : List (ℕ × Entry)) (closed : Bool) (d : Delivery) → State t entries closed d
+backlog_held : (t : Terms) (entries : List (ℕ × Entry)) (closed : Bool) (d : Delivery)
+    → State t entries closed d
     → list_any is_backlog (buffer entries d) ≡ has_head is_backlog d
-backlog_held t entries closed d (going n k fixed since fits limits) = no_backlog (take k (drop n entries))
+backlog_held t entries closed d (going n k fixed since fits limits) =
+    no_backlog (take k (drop n entries))
 backlog_held t entries closed d (telling n k fixed since fits limits timely) = refl
 backlog_held t entries closed d (owing n since fits timely) = refl
-backlog_held t entries closed d (ending n k fixed since all none is shut) = no_backlog (take k (drop n entries))
-backlog_held t entries closed d (over n k fixed since all none is shut) = no_backlog (take k (drop n entries))
+backlog_held t entries closed d (ending n k fixed since all none is shut) =
+    no_backlog (take k (drop n entries))
+backlog_held t entries closed d (over n k fixed since all none is shut) =
+    no_backlog (take k (drop n entries))
 
-end_held : (t : Terms) (entries : List (ℕ × Entry)) (closed : Bool) (d : Delivery) → d.fixed ≡ true → State t entries closed d
+end_held : (t : Terms) (entries : List (ℕ × Entry)) (closed : Bool) (d : Delivery) → d.fixed ≡ true
+    → State t entries closed d
     → list_any is_end_of_data (buffer entries d) ≡ (d.ended || has_head is_end_of_data d)
-end_held t entries closed d is (going n k fixed since fits limits) = no_end (take k (drop n entries))
-end_held t entries closed d is (telling n k fixed since fits limits timely) = no_end (take k (drop n entries))
+end_held t entries closed d is (going n k fixed since fits limits) =
+    no_end (take k (drop n entries))
+end_held t entries closed d is (telling n k fixed since fits limits timely) =
+    no_end (take k (drop n entries))
 end_held t entries closed d is (owing n since fits timely) = absurd (false≢true is)
 end_held t entries closed d is (ending n k fixed since all none fix shut) = refl
-end_held t entries closed d is (over n k fixed since all none fix shut) = absurd (false≢true (sym fix ∙ is))
+end_held t entries closed d is (over n k fixed since all none fix shut) =
+    absurd (false≢true (sym fix ∙ is))
 
-items_same : (t : Terms) (a : List Entry) (p : Placed) (d : Delivery) → Agrees t a p d → items_of p.held ≡ buffer (picked a t.selection) d
+items_same : (t : Terms) (a : List Entry) (p : Placed) (d : Delivery) → Agrees t a p d
+    → items_of p.held ≡ buffer (picked a t.selection) d
 items_same t a p d g = ap items_of g.held ∙ items_of-told a p.last (buffer (picked a t.selection) d)
 
 none_waits : (t : Terms) (a : List Entry) (p : Placed) (d : Delivery) → Agrees t a p d
-    → filter (from_place p.place) (picked a t.selection) ≡ drop ((d.settled + d.held) + 0) (picked a t.selection)
-none_waits t a p d g = g.waits ∙ ap (λ n. drop n (picked a t.selection)) (sym (add-zero (d.settled + d.held)))
+    → filter (from_place p.place) (picked a t.selection)
+    ≡ drop ((d.settled + d.held) + 0) (picked a t.selection)
+none_waits t a p d g = g.waits
+    ∙ ap (λ n. drop n (picked a t.selection)) (sym (add-zero (d.settled + d.held)))
 
-discards_same : (t : Terms) (a : List Entry) (p : Placed) (d : Delivery) → State t (picked a t.selection) (is_stop_closed t.selection a) d → Agrees t a p d
+discards_same : (t : Terms) (a : List Entry) (p : Placed) (d : Delivery)
+    → State t (picked a t.selection) (is_stop_closed t.selection a) d → Agrees t a p d
     → (is_timely t.mode && list_any is_archived (items_of p.held)) ≡ is_discardable t.mode d
 discards_same t a p d s g =
     ap (λ xs. is_timely t.mode && list_any is_archived xs) (items_same t a p d g)
-    ∙ ap (λ b. is_timely t.mode && b) (entries_held t (picked a t.selection) (is_stop_closed t.selection a) d s)
+    ∙ ap (λ b. is_timely t.mode && b) (entries_held t (picked a t.selection)
+    (is_stop_closed t.selection a) d s)
 
-pub Agrees-answered : (t : Terms) (a : List Entry) (answer : Answer) (p : Placed) (d : Delivery) → 0 < t.size → d.fixed ≡ true
+pub Agrees-answered : (t : Terms) (a : List Entry) (answer : Answer) (p : Placed) (d : Delivery)
+    → 0 < t.size → d.fixed ≡ true
     → State t (picked a t.selection) (is_stop_closed t.selection a) d → Agrees t a p d
     → Agrees t a (placed_answered t answer p) (answered t answer d)
 Agrees-answered t a whole p d some is s g = record {
@@ -289,7 +452,8 @@ Agrees-answered t a whole p d some is s g = record {
   owed =
       ap (λ b. b && not (list_any is_backlog (items_of p.held))) g.owed
       ∙ ap (λ xs. d.owed && not (list_any is_backlog xs)) (items_same t a p d g)
-      ∙ ap (λ b. d.owed && not b) (backlog_held t (picked a t.selection) (is_stop_closed t.selection a) d s);
+      ∙ ap (λ b. d.owed && not b) (backlog_held t (picked a t.selection)
+      (is_stop_closed t.selection a) d s);
   fixed = refl;
   since = g.since;
   ended =
@@ -299,13 +463,16 @@ Agrees-answered t a whole p d some is s g = record {
 }
 Agrees-answered t a fail p d some is s g = g
 Agrees-answered t a stall p d some is s g =
-    subst (λ b. Agrees t a (cond b dropped p) (cond (is_discardable t.mode d) (record (released d) { owed = true }) d)) (sym (discards_same t a p d s g))
+    subst (λ b. Agrees t a (cond b dropped p)
+    (cond (is_discardable t.mode d) (record (released d) { owed = true }) d))
+    (sym (discards_same t a p d s g))
     (by_test (is_discardable t.mode d))
   where
     dropped : Placed
     dropped = record p { held = []; fixed = false; owed = true }
 
-    by_test : (b : Bool) → Agrees t a (cond b dropped p) (cond b (record (released d) { owed = true }) d)
+    by_test : (b : Bool) → Agrees t a (cond b dropped p)
+        (cond b (record (released d) { owed = true }) d)
     by_test true = record {
       held = refl;
       waits = none_waits t a p d g;
@@ -320,7 +487,8 @@ Agrees-answered t a stall p d some is s g =
 
 -- ---- a longer archive
 
-held_within : (t : Terms) (entries : List (ℕ × Entry)) (closed : Bool) (d : Delivery) → State t entries closed d
+held_within : (t : Terms) (entries : List (ℕ × Entry)) (closed : Bool) (d : Delivery)
+    → State t entries closed d
     → d.settled + d.held ≤ length entries
 held_within t entries closed d (going n k fixed since fits limits) = fits
 held_within t entries closed d (telling n k fixed since fits limits timely) = fits
@@ -328,18 +496,22 @@ held_within t entries closed d (owing n since fits timely) = omega arith
 held_within t entries closed d (ending n k fixed since all none is shut) = omega arith
 held_within t entries closed d (over n k fixed since all none is shut) = omega arith
 
-buffer_stands : (t : Terms) (a : List Entry) (closed : Bool) (d : Delivery) → State t (picked a t.selection) closed d
+buffer_stands : (t : Terms) (a : List Entry) (closed : Bool) (d : Delivery)
+    → State t (picked a t.selection) closed d
     → stand_before (length a) (buffer (picked a t.selection) d) ≡ true
 buffer_stands t a closed d (going n k fixed since fits limits) = held_stand a t.selection n k
-buffer_stands t a closed d (telling n k fixed since fits limits timely) = held_stand a t.selection n k
+buffer_stands t a closed d (telling n k fixed since fits limits timely) =
+    held_stand a t.selection n k
 buffer_stands t a closed d (owing n since fits timely) = refl
 buffer_stands t a closed d (ending n k fixed since all none is shut) = held_stand a t.selection n k
 buffer_stands t a closed d (over n k fixed since all none is shut) = held_stand a t.selection n k
 
 Agrees-grow : (t : Terms) (a b : List Entry) (p : Placed) (d : Delivery)
-    → State t (picked a t.selection) (is_stop_closed t.selection a) d → Agrees t a p d → Agrees t (a ++ b) p d
+    → State t (picked a t.selection) (is_stop_closed t.selection a) d → Agrees t a p d
+    → Agrees t (a ++ b) p d
 Agrees-grow t a b p d s g = record {
-  held = g.held ∙ sym (items_stay a b p.last (buffer (picked a t.selection) d) (buffer_stands t a (is_stop_closed t.selection a) d s))
+  held = g.held ∙ sym (items_stay a b p.last (buffer (picked a t.selection) d)
+      (buffer_stands t a (is_stop_closed t.selection a) d s))
       ∙ ap (told_items (a ++ b) p.last) (sym same);
   waits = waits_grow a b t.selection p.place (d.settled + d.held) g.within fits g.waits;
   within = omega (arith, g.within, length-append a b);
@@ -356,99 +528,132 @@ Agrees-grow t a b p d s g = record {
     same : buffer (picked (a ++ b) t.selection) d ≡ buffer (picked a t.selection) d
     same =
         ap (λ xs. buffer xs d) (picked-append a b t.selection)
-        ∙ ap (λ xs. option_to_list d.head ++ archived_items xs) (held_of_more d.settled d.held (picked a t.selection) (picked_behind a b t.selection) fits)
+        ∙ ap (λ xs. option_to_list d.head ++ archived_items xs)
+        (held_of_more d.settled d.held (picked a t.selection) (picked_behind a b t.selection)
+        fits)
 
 -- ---- rounds
 
 -- both deliveries at a front
 record Both (t : Terms) (entries : List Entry) (f : ℕ) (p : Placed) (d : Delivery) : Type 0 where
-  state : State t (picked (take f entries) t.selection) (is_stop_closed t.selection (take f entries)) d
+  state : State t (picked (take f entries) t.selection)
+      (is_stop_closed t.selection (take f entries)) d
   agrees : Agrees t (take f entries) p d
 
-Both-further : (t : Terms) (entries : List Entry) (f g : ℕ) (p : Placed) (d : Delivery) → is_archive entries ≡ true → f ≤ g
+Both-further : (t : Terms) (entries : List Entry) (f g : ℕ) (p : Placed) (d : Delivery)
+    → is_archive entries ≡ true → f ≤ g
     → Both t entries f p d → Both t entries g p d
 Both-further t entries f g p d archive rise both =
     let s : Selection = t.selection in
     let a : List Entry = take f entries in
     let b : List Entry = drop f (take g entries) in
     let to : a ++ b ≡ take g entries = front_grows entries f g rise in
-    let longer : is_archive (a ++ b) ≡ true = ap is_archive to ∙ is_archive-take entries g archive in
+    let longer : is_archive (a ++ b) ≡ true = ap is_archive to
+    ∙ is_archive-take entries g archive in
     let last : is_stop_closed s a ≡ true → picked_behind a b s ≡ [] = λ closed.
-    let known : (stop : ℕ) × (s.stop ≡ Some stop) × (is_closed a stop ≡ true) = stop_known s a closed in
+    let known : (stop : ℕ) × (s.stop ≡ Some stop) × (is_closed a stop ≡ true) =
+    stop_known s a closed in
     nothing_behind a b s known.0 known.1 known.2 longer in
     let grown : State t (picked a s ++ picked_behind a b s) (is_stop_closed s (a ++ b)) d =
-    State-grow t (picked a s) (picked_behind a b s) (is_stop_closed s a) (is_stop_closed s (a ++ b)) d (is_stop_closed-append s a b) last both.state in
+    State-grow t (picked a s) (picked_behind a b s) (is_stop_closed s a) (is_stop_closed s (a ++ b))
+    d (is_stop_closed-append s a b) last both.state in
     record {
-      state = subst (λ x. State t (picked x s) (is_stop_closed s x) d) to (subst (λ xs. State t xs (is_stop_closed s (a ++ b)) d) (sym (picked-append a b s)) grown);
+      state = subst (λ x. State t (picked x s) (is_stop_closed s x) d) to
+          (subst (λ xs. State t xs (is_stop_closed s (a ++ b)) d) (sym (picked-append a b s))
+          grown);
       agrees = subst (λ x. Agrees t x p d) to (Agrees-grow t a b p d both.state both.agrees);
     }
 
 Both-at : (t : Terms) (entries : List Entry) (r : Round) (p : Placed) (d : Delivery) → 0 < t.size
-    → Both t entries r.front p d → Both t entries r.front (placed_at_round t entries r p) (at_round t entries r d)
+    → Both t entries r.front p d → Both t entries r.front (placed_at_round t entries r p)
+    (at_round t entries r d)
 Both-at t entries r p d some both = on_step (takes_step r.link)
   where
     a : List Entry
     a = take r.front entries
 
-    on_step : (b : Bool) → Both t entries r.front (cond b (placed_step t (glimpse a (want_of t p)) r.now p) p) (cond b (stepped t (picked a t.selection) (is_stop_closed t.selection a) r.now d) d)
+    on_step : (b : Bool) → Both t entries r.front
+        (cond b (placed_step t (glimpse a (want_of t p)) r.now p) p)
+        (cond b (stepped t (picked a t.selection) (is_stop_closed t.selection a) r.now d) d)
     on_step true = record {
-      state = State-stepped t (picked a t.selection) (is_stop_closed t.selection a) r.now d some both.state;
+      state = State-stepped t (picked a t.selection) (is_stop_closed t.selection a) r.now d some
+          both.state;
       agrees = Agrees-stepped t a r.now p d some both.state both.agrees;
     }
     on_step false = both
 
-answers_same : (t : Terms) (entries : List Entry) (r : Round) (p : Placed) (d : Delivery) → Both t entries r.front p d
+answers_same : (t : Terms) (entries : List Entry) (r : Round) (p : Placed) (d : Delivery)
+    → Both t entries r.front p d
     → placed_answer_at r p ≡ answer_at r d
-answers_same t entries r p d both = let same : p.fixed ≡ d.fixed = both.agrees.fixed in ap (λ b. cond b (answer_on r.link) None) same
+answers_same t entries r p d both = let same : p.fixed ≡ d.fixed = both.agrees.fixed in
+    ap (λ b. cond b (answer_on r.link) None) same
 
-only_fixed : (fixed : Bool) (on : Option Answer) (x : Answer) → cond fixed on None ≡ Some x → fixed ≡ true
+only_fixed : (fixed : Bool) (on : Option Answer) (x : Answer) → cond fixed on None ≡ Some x
+    → fixed ≡ true
 only_fixed true on x is = refl
 only_fixed false on x is = cc
 
-Both-answered : (t : Terms) (entries : List Entry) (f : ℕ) (p : Placed) (d : Delivery) (answer : Option Answer) → 0 < t.size
+Both-answered : (t : Terms) (entries : List Entry) (f : ℕ) (p : Placed) (d : Delivery)
+    (answer : Option Answer) → 0 < t.size
     → ((x : Answer) → answer ≡ Some x → d.fixed ≡ true) → Both t entries f p d
-    → Both t entries f (option_map_or (λ x. placed_answered t x p) answer p) (option_map_or (λ x. answered t x d) answer d)
+    → Both t entries f (option_map_or (λ x. placed_answered t x p) answer p)
+    (option_map_or (λ x. answered t x d) answer d)
 Both-answered t entries f p d None some fix both = both
 Both-answered t entries f p d (Some answer) some fix both = record {
-  state = State-answered t (picked (take f entries) t.selection) (is_stop_closed t.selection (take f entries)) answer d (fix answer refl) both.state;
-  agrees = Agrees-answered t (take f entries) answer p d some (fix answer refl) both.state both.agrees;
+  state = State-answered t (picked (take f entries) t.selection)
+      (is_stop_closed t.selection (take f entries)) answer d (fix answer refl) both.state;
+  agrees = Agrees-answered t (take f entries) answer p d some (fix answer refl) both.state
+      both.agrees;
 }
 
 Both-round : (t : Terms) (entries : List Entry) (r : Round) (p : Placed) (d : Delivery) → 0 < t.size
-    → Both t entries r.front p d → Both t entries r.front (placed_after_round t entries r p) (after_round t entries r d)
+    → Both t entries r.front p d → Both t entries r.front (placed_after_round t entries r p)
+    (after_round t entries r d)
 Both-round t entries r p d some both =
-    let at : Both t entries r.front (placed_at_round t entries r p) (at_round t entries r d) = Both-at t entries r p d some both in
+    let at : Both t entries r.front (placed_at_round t entries r p) (at_round t entries r d) =
+    Both-at t entries r p d some both in
     let q : Placed = placed_at_round t entries r p in
     let e : Delivery = at_round t entries r d in
-    subst (λ x. Both t entries r.front (option_map_or (λ y. placed_answered t y q) x q) (after_round t entries r d)) (sym (answers_same t entries r q e at))
-    (Both-answered t entries r.front q e (answer_at r e) some (λ x is. only_fixed e.fixed (answer_on r.link) x is) at)
+    subst (λ x. Both t entries r.front (option_map_or (λ y. placed_answered t y q) x q)
+    (after_round t entries r d)) (sym (answers_same t entries r q e at))
+    (Both-answered t entries r.front q e (answer_at r e) some
+    (λ x is. only_fixed e.fixed (answer_on r.link) x is) at)
 
 -- the same was done
 fates_same : (t : Terms) (a : List Entry) (p : Placed) (d : Delivery) (answer : Option Answer)
     → State t (picked a t.selection) (is_stop_closed t.selection a) d → Agrees t a p d
-    → option_map_or (λ x. placed_fate t x (items_of p.held)) answer nothing ≡ option_map_or (λ x. fate t x d (buffer (picked a t.selection) d)) answer nothing
+    → option_map_or (λ x. placed_fate t x (items_of p.held)) answer nothing
+    ≡ option_map_or (λ x. fate t x d (buffer (picked a t.selection) d)) answer nothing
 fates_same t a p d None s g = refl
 fates_same t a p d (Some whole) s g = ap handed (items_same t a p d g)
 fates_same t a p d (Some fail) s g = ap failed (items_same t a p d g)
 fates_same t a p d (Some stall) s g =
-    ap (λ b. cond b (discarded (items_of p.held)) (kept (items_of p.held))) (discards_same t a p d s g)
+    ap (λ b. cond b (discarded (items_of p.held)) (kept (items_of p.held)))
+    (discards_same t a p d s g)
     ∙ ap (λ xs. cond (is_discardable t.mode d) (discarded xs) (kept xs)) (items_same t a p d g)
 
 -- what was handed over is told as the items that it is, and the last frame goes on
-told_same : (t : Terms) (entries : List Entry) (p : Placed) (d : Delivery) (f : ℕ) (answer : Option Answer) (rest : List (List Item))
+told_same : (t : Terms) (entries : List Entry) (p : Placed) (d : Delivery) (f : ℕ)
+    (answer : Option Answer) (rest : List (List Item))
     → Both t entries f p d
-    → told_buffers entries p.last (cons_option (handed_buffer (option_map_or (λ x. fate t x d (buffer (picked (take f entries) t.selection) d)) answer nothing)) rest)
-    ≡ cons_option (option_map_or (λ x. told_where x p.held) answer None) (told_buffers entries (option_map_or (λ x. placed_answered t x p) answer p).last rest)
+    → told_buffers entries p.last (cons_option
+    (handed_buffer (option_map_or (λ x. fate t x d
+    (buffer (picked (take f entries) t.selection) d)) answer nothing)) rest)
+    ≡ cons_option (option_map_or (λ x. told_where x p.held) answer None)
+    (told_buffers entries (option_map_or (λ x. placed_answered t x p) answer p).last rest)
 told_same t entries p d f None rest both = refl
 told_same t entries p d f (Some fail) rest both = refl
-told_same t entries p d f (Some stall) rest both = by_test (is_timely t.mode && list_any is_archived (items_of p.held)) (is_discardable t.mode d)
+told_same t entries p d f (Some stall) rest both =
+    by_test (is_timely t.mode && list_any is_archived (items_of p.held)) (is_discardable t.mode d)
   where
     b : List Item
     b = buffer (picked (take f entries) t.selection) d
 
     by_test : (x y : Bool)
-        → told_buffers entries p.last (cons_option (handed_buffer (cond y (discarded b) (kept b))) rest)
-        ≡ told_buffers entries (cond x (record p { held = []; fixed = false; owed = true }) p).last rest
+        → told_buffers entries p.last (cons_option (handed_buffer (cond y (discarded b) (kept b)))
+        rest)
+        ≡ told_buffers entries (cond x (record p { held = []; fixed = false; owed = true }) p).last
+        rest
     by_test true true = refl
     by_test true false = refl
     by_test false true = refl
@@ -462,23 +667,32 @@ told_same t entries p d f (Some whole) rest both =
     ap (λ xs. told_items xs p.last b) (sym (take-append-drop f entries))
     ∙ items_stay (take f entries) (drop f entries) p.last b stand ∙ sym g.held in
     ap (λ x. x ∷ told_buffers entries (last_frame p.last b) rest) told
-    ∙ ap (λ xs. p.held ∷ told_buffers entries (last_frame p.last xs) rest) (sym (items_same t (take f entries) p d g))
+    ∙ ap (λ xs. p.held ∷ told_buffers entries (last_frame p.last xs) rest)
+    (sym (items_same t (take f entries) p d g))
 
 -- over rounds
-pub record Same (t : Terms) (entries : List Entry) (rounds : List Round) (p : Placed) (d : Delivery) : Type 0 where
+pub record Same (t : Terms) (entries : List Entry) (rounds : List Round) (p : Placed)
+    (d : Delivery) : Type 0 where
   pub steps : map (λ x. x.0) (placed_outcomes t entries rounds p) ≡ outcomes t entries rounds d
-  pub told : filter_map (λ (x : Outcome × Option (List Told)). x.1) (placed_outcomes t entries rounds p)
+  pub told : filter_map (λ (x : Outcome × Option (List Told)). x.1)
+      (placed_outcomes t entries rounds p)
       ≡ told_buffers entries p.last (handed_buffers (outcomes t entries rounds d))
 
-same_rounds : (t : Terms) (entries : List Entry) (f : ℕ) (rounds : List Round) (p : Placed) (d : Delivery) → 0 < t.size → is_archive entries ≡ true
+same_rounds : (t : Terms) (entries : List Entry) (f : ℕ) (rounds : List Round) (p : Placed)
+    (d : Delivery) → 0 < t.size → is_archive entries ≡ true
     → FrontsRise f rounds → Both t entries f p d → Same t entries rounds p d
 same_rounds t entries f [] p d some archive rise both = record { steps = refl; told = refl }
 same_rounds t entries f (r ∷ rounds) p d some archive rise both =
-    let there : Both t entries r.front p d = Both-further t entries f r.front p d archive rise.0 both in
-    let at : Both t entries r.front (placed_at_round t entries r p) (at_round t entries r d) = Both-at t entries r p d some there in
-    let next : Both t entries r.front (placed_after_round t entries r p) (after_round t entries r d) = Both-round t entries r p d some there in
-    let later : Same t entries rounds (placed_after_round t entries r p) (after_round t entries r d) =
-    same_rounds t entries r.front rounds (placed_after_round t entries r p) (after_round t entries r d) some archive rise.1 next in
+    let there : Both t entries r.front p d = Both-further t entries f r.front p d archive rise.0
+    both in
+    let at : Both t entries r.front (placed_at_round t entries r p) (at_round t entries r d) =
+    Both-at t entries r p d some there in
+    let next : Both t entries r.front (placed_after_round t entries r p)
+    (after_round t entries r d) = Both-round t entries r p d some there in
+    let later : Same t entries rounds (placed_after_round t entries r p) (after_round t entries r d)
+    =
+    same_rounds t entries r.front rounds (placed_after_round t entries r p)
+    (after_round t entries r d) some archive rise.1 next in
     one_more at later
   where
     q : Placed
@@ -491,9 +705,12 @@ same_rounds t entries f (r ∷ rounds) p d some archive rise both =
     answer = answer_at r e
 
     last : Bool
-    last = (glimpse (take r.front entries) (want_of t p)).closed && is_all_put t (glimpse (take r.front entries) (want_of t p)) p
+    last = (glimpse (take r.front entries) (want_of t p)).closed
+        && is_all_put t (glimpse (take r.front entries) (want_of t p)) p
 
-    last_kept : (b c : Bool) → (cond b (cond c p (fixed_where_due t last r.now (with_end_alone last (with_items t (glimpse (take r.front entries) (want_of t p)) r.now p)))) p).last ≡ p.last
+    last_kept : (b c : Bool) → (cond b (cond c p
+        (fixed_where_due t last r.now (with_end_alone last
+        (with_items t (glimpse (take r.front entries) (want_of t p)) r.now p)))) p).last ≡ p.last
     last_kept true true = refl
     last_kept true false = refl
     last_kept false c = refl
@@ -503,23 +720,35 @@ same_rounds t entries f (r ∷ rounds) p d some archive rise both =
     after x = option_map_or (λ y. placed_answered t y q) x q
 
     did : Option Answer → Outcome × Option (List Told)
-    did x = (option_map_or (λ y. placed_fate t y (items_of q.held)) x nothing, option_map_or (λ y. told_where y q.held) x None)
+    did x = (
+      option_map_or (λ y. placed_fate t y (items_of q.held)) x nothing,
+      option_map_or (λ y. told_where y q.held) x None,
+    )
 
     does : Option Answer → List (Outcome × Option (List Told))
     does x = did x ∷ cond (is_failed r.link x) [] (placed_outcomes t entries rounds (after x))
 
-    steps_on : (c : Bool) → map (λ x. x.0) (placed_outcomes t entries rounds (after answer)) ≡ outcomes t entries rounds (after_round t entries r d)
-        → map (λ x. x.0) (cond c [] (placed_outcomes t entries rounds (after answer))) ≡ cond c [] (outcomes t entries rounds (after_round t entries r d))
+    steps_on : (c : Bool) → map (λ x. x.0) (placed_outcomes t entries rounds (after answer))
+        ≡ outcomes t entries rounds (after_round t entries r d)
+        → map (λ x. x.0) (cond c [] (placed_outcomes t entries rounds (after answer)))
+        ≡ cond c [] (outcomes t entries rounds (after_round t entries r d))
     steps_on true same = refl
     steps_on false same = same
 
-    told_on : (c : Bool) → filter_map (λ (x : Outcome × Option (List Told)). x.1) (placed_outcomes t entries rounds (after answer)) ≡ told_buffers entries (after answer).last (handed_buffers (outcomes t entries rounds (after_round t entries r d)))
-        → filter_map (λ (x : Outcome × Option (List Told)). x.1) (cond c [] (placed_outcomes t entries rounds (after answer)))
-        ≡ told_buffers entries (after answer).last (handed_buffers (cond c [] (outcomes t entries rounds (after_round t entries r d))))
+    told_on : (c : Bool) → filter_map (λ (x : Outcome × Option (List Told)). x.1)
+        (placed_outcomes t entries rounds (after answer))
+        ≡ told_buffers entries (after answer).last
+        (handed_buffers (outcomes t entries rounds (after_round t entries r d)))
+        → filter_map (λ (x : Outcome × Option (List Told)). x.1)
+        (cond c [] (placed_outcomes t entries rounds (after answer)))
+        ≡ told_buffers entries (after answer).last
+        (handed_buffers (cond c [] (outcomes t entries rounds (after_round t entries r d))))
     told_on true same = refl
     told_on false same = same
 
-    one_more : Both t entries r.front q e → Same t entries rounds (placed_after_round t entries r p) (after_round t entries r d) → Same t entries (r ∷ rounds) p d
+    one_more : Both t entries r.front q e
+        → Same t entries rounds (placed_after_round t entries r p) (after_round t entries r d)
+        → Same t entries (r ∷ rounds) p d
     one_more at later =
         let same : placed_answer_at r q ≡ answer = answers_same t entries r q e at in
         let further : Same t entries rounds (after answer) (after_round t entries r d) =
@@ -529,29 +758,39 @@ same_rounds t entries f (r ∷ rounds) p d some archive rise both =
         record {
           steps =
               ap (λ x. map (λ y. y.0) (does x)) same
-              ∙ ap (λ o. o ∷ map (λ y. y.0) (cond failed_at [] (placed_outcomes t entries rounds (after answer))))
+              ∙ ap (λ o. o ∷ map (λ y. y.0) (cond failed_at []
+              (placed_outcomes t entries rounds (after answer))))
               (fates_same t (take r.front entries) q e answer at.state at.agrees)
               ∙ ap (λ xs. outcome t entries r d ∷ xs) (steps_on failed_at further.steps);
           told =
               ap (λ x. filter_map (λ (y : Outcome × Option (List Told)). y.1) (does x)) same
               ∙ ap (cons_option (did answer).1) (told_on failed_at further.told)
-              ∙ sym (told_same t entries q e r.front answer (handed_buffers (cond failed_at [] (outcomes t entries rounds (after_round t entries r d)))) at)
-              ∙ ap (λ l. told_buffers entries l (handed_buffers (outcomes t entries (r ∷ rounds) d))) kept_last;
+              ∙ sym (told_same t entries q e r.front answer
+              (handed_buffers (cond failed_at []
+              (outcomes t entries rounds (after_round t entries r d)))) at)
+              ∙ ap (λ l. told_buffers entries l
+              (handed_buffers (outcomes t entries (r ∷ rounds) d))) kept_last;
         }
 
-pub same_run : (t : Terms) (entries : List Entry) (rounds : List Round) → 0 < t.size → is_archive entries ≡ true
+pub same_run : (t : Terms) (entries : List Entry) (rounds : List Round) → 0 < t.size
+    → is_archive entries ≡ true
     → t.selection.first ≤ length entries → FrontsRise t.selection.first rounds
     → Same t entries rounds (placed_at_start t) started
-same_run t entries rounds some archive first rise = same_rounds t entries t.selection.first rounds (placed_at_start t) started some archive rise (record {
-  state = going 0 0 false 0 (omega arith) (record { open_before = λ j below. absurd (omega arith) });
-  agrees = record {
-    held = refl;
-    waits = all_from_first (take t.selection.first entries) t.selection;
-    within = omega (arith, length-take-le t.selection.first entries first);
-    owed = refl;
-    fixed = refl;
-    since = refl;
-    ended = refl;
-    still = λ _. nothing_complete t.size some;
-  };
-})
+same_run t entries rounds some archive first rise =
+    same_rounds t entries t.selection.first rounds (placed_at_start t) started some archive rise
+    (record {
+      state = going 0 0 false 0 (omega arith) (record {
+        open_before =
+            λ j below. absurd (omega arith);
+      });
+      agrees = record {
+        held = refl;
+        waits = all_from_first (take t.selection.first entries) t.selection;
+        within = omega (arith, length-take-le t.selection.first entries first);
+        owed = refl;
+        fixed = refl;
+        since = refl;
+        ended = refl;
+        still = λ _. nothing_complete t.size some;
+      };
+    })

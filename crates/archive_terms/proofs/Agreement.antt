@@ -1,26 +1,38 @@
 -- A delivery that remembers a place steps as the one that counts in the picked list.
-use Rattle.std.proofs.Common.{◌≡◌, ℕ, zero, suc, ◌+◌, ◌-◌, ◌<◌, ◌≤◌, Bool, true, false, cond, not, ◌&&◌, ◌||◌, nat_eq, nat_lt, List, [], ◌∷◌, ◌++◌, length, take, drop, Option, Some, None, refl, ap, sym, subst, ◌∙◌, arith, inl, inr, append_assoc}
+use Rattle.std.proofs.Common.{◌≡◌, ℕ, zero, suc, ◌+◌, ◌-◌, ◌<◌, ◌≤◌, Bool, true, false, cond, not}
+use Rattle.std.proofs.Common.{◌&&◌, ◌||◌, nat_eq, nat_lt, List, [], ◌∷◌, ◌++◌, length, take, drop}
+use Rattle.std.proofs.Common.{Option, Some, None, refl, ap, sym, subst, ◌∙◌, arith, inl, inr}
+use Rattle.std.proofs.Common.{append_assoc}
 use Rattle.std.specs.Prelude.{is_none}
 use Rattle.std.specs.List.{filter, list_any, sum_by}
 use Rattle.std.specs.Option.{option_to_list, option_or}
-use Rattle.std.proofs.lemmas.List.{length-drop, length-take-le, length-map, take-map, take-take, drop-drop, map-append, take-append-drop}
-use Rattle.std.proofs.lemmas.Bool.{cases_lt, or_cases, or_left, or_right, lt-ltb, le-ltb, and_from, eq-eqb, ne_eqb, both_ways}
+use Rattle.std.proofs.lemmas.List.{length-drop, length-take-le, length-map, take-map, take-take}
+use Rattle.std.proofs.lemmas.List.{drop-drop, map-append, take-append-drop}
+use Rattle.std.proofs.lemmas.Bool.{cases_lt, or_cases, or_left, or_right, lt-ltb, le-ltb, and_from}
+use Rattle.std.proofs.lemmas.Bool.{eq-eqb, ne_eqb, both_ways}
 use Rattle.std.proofs.Math.Seq.{take-add}
 use Rattle.archive_terms.specs.Archive.{Entry}
 use Rattle.archive_terms.specs.Selection.{picked, is_stop_closed}
-use Rattle.archive_terms.specs.Delivery.{Item, archived, backlog, end_of_data, archived_items, entries_of, frame_octets, is_late, is_notice_item, is_notification, is_full, is_complete, buffer_length, Terms, is_due_of, contents, Delivery, buffer}
+use Rattle.archive_terms.specs.Delivery.{Item, archived, backlog, end_of_data, archived_items}
+use Rattle.archive_terms.specs.Delivery.{entries_of, frame_octets, is_late, is_notice_item}
+use Rattle.archive_terms.specs.Delivery.{is_notification, is_full, is_complete, buffer_length}
+use Rattle.archive_terms.specs.Delivery.{Terms, is_due_of, contents, Delivery, buffer}
 use Rattle.archive_terms.specs.Continuity.{frame_place, last_frame, told_items}
-use Rattle.archive_terms.specs.Glimpse.{Wanted, wants_nothing, wants_items, given, lengths_of, given_of, picked_from, place_behind, Glimpse, glimpse}
-use Rattle.archive_terms.specs.Placed.{items_of, Placed, with_head, want_of, taken_of, with_items, is_all_put}
+use Rattle.archive_terms.specs.Glimpse.{Wanted, wants_nothing, wants_items, given, lengths_of}
+use Rattle.archive_terms.specs.Glimpse.{given_of, picked_from, place_behind, Glimpse, glimpse}
+use Rattle.archive_terms.specs.Placed.{items_of, Placed, with_head, want_of, taken_of, with_items}
+use Rattle.archive_terms.specs.Placed.{is_all_put}
 use Rattle.archive_terms.proofs.Buffers.{InLimits, room, entries_of-archived, nothing_complete}
 use Rattle.archive_terms.proofs.Places.{RisesTo, places_of, picked_rises}
 use Rattle.archive_terms.proofs.Told.{told-append}
 use Rattle.archive_terms.proofs.Waiting.{from_place, behind_to, waits_behind, left_rises}
-use Rattle.archive_terms.proofs.Fills.{front_length, look, look-le, enough_given, held_taken, given_fills}
+use Rattle.archive_terms.proofs.Fills.{front_length, look, look-le, enough_given, held_taken}
+use Rattle.archive_terms.proofs.Fills.{given_fills}
 
 pub record Agrees (t : Terms) (a : List Entry) (p : Placed) (d : Delivery) : Type 0 where
   pub held : p.held ≡ told_items a p.last (buffer (picked a t.selection) d)
-  pub waits : filter (from_place p.place) (picked a t.selection) ≡ drop (d.settled + d.held) (picked a t.selection)
+  pub waits : filter (from_place p.place) (picked a t.selection)
+      ≡ drop (d.settled + d.held) (picked a t.selection)
   pub within : p.place ≤ length a
   pub owed : p.owed ≡ d.owed
   pub fixed : p.fixed ≡ d.fixed
@@ -30,52 +42,67 @@ pub record Agrees (t : Terms) (a : List Entry) (p : Placed) (d : Delivery) : Typ
 
 -- ---- items as they are told
 
-pub items_of-told : (a : List Entry) (before : Option ℕ) (xs : List Item) → items_of (told_items a before xs) ≡ xs
+pub items_of-told : (a : List Entry) (before : Option ℕ) (xs : List Item)
+    → items_of (told_items a before xs) ≡ xs
 items_of-told a before [] = refl
-items_of-told a before (x ∷ xs) = ap (λ ys. x ∷ ys) (items_of-told a (option_or (frame_place x) before) xs)
+items_of-told a before (x ∷ xs) = ap (λ ys. x ∷ ys)
+    (items_of-told a (option_or (frame_place x) before) xs)
 
-pub length-told : (a : List Entry) (before : Option ℕ) (xs : List Item) → length (told_items a before xs) ≡ length xs
+pub length-told : (a : List Entry) (before : Option ℕ) (xs : List Item)
+    → length (told_items a before xs) ≡ length xs
 length-told a before [] = refl
 length-told a before (x ∷ xs) = ap suc (length-told a (option_or (frame_place x) before) xs)
 
-take-told : (a : List Entry) (before : Option ℕ) (n : ℕ) (xs : List Item) → take n (told_items a before xs) ≡ told_items a before (take n xs)
+take-told : (a : List Entry) (before : Option ℕ) (n : ℕ) (xs : List Item)
+    → take n (told_items a before xs) ≡ told_items a before (take n xs)
 take-told a before zero xs = refl
 take-told a before (suc n) [] = refl
 take-told a before (suc n) (x ∷ xs) =
-    ap (λ ys. (told_items a before (x ∷ [])) ++ ys) (take-told a (option_or (frame_place x) before) n xs)
+    ap (λ ys. (told_items a before (x ∷ [])) ++ ys)
+    (take-told a (option_or (frame_place x) before) n xs)
 
 -- ---- small facts
 
-last_same : (m g w taken : ℕ) → taken ≤ g → g ≤ w → (not (nat_lt g w) && nat_eq taken g) ≡ nat_eq (m + taken) (m + w)
+last_same : (m g w taken : ℕ) → taken ≤ g → g ≤ w
+    → (not (nat_lt g w) && nat_eq taken g) ≡ nat_eq (m + taken) (m + w)
 last_same m g w taken few fits =
     elim (cases_lt g w) [
-      | inl less ↦ ap (λ b. not b && nat_eq taken g) (lt-ltb g w less) ∙ sym (ne_eqb (m + taken) (m + w) (λ e. omega arith))
+      | inl less ↦ ap (λ b. not b && nat_eq taken g) (lt-ltb g w less)
+          ∙ sym (ne_eqb (m + taken) (m + w) (λ e. omega arith))
       | inr all ↦ ap (λ b. not b && nat_eq taken g) (le-ltb g w all)
           ∙ elim (cases_lt taken g) [
-            | inl less ↦ ne_eqb taken g (λ e. omega arith) ∙ sym (ne_eqb (m + taken) (m + w) (λ e. omega arith))
-            | inr same ↦ eq-eqb taken g (omega arith) ∙ sym (eq-eqb (m + taken) (m + w) (omega arith))
+            | inl less ↦ ne_eqb taken g (λ e. omega arith)
+                ∙ sym (ne_eqb (m + taken) (m + w) (λ e. omega arith))
+            | inr same ↦ eq-eqb taken g (omega arith)
+                ∙ sym (eq-eqb (m + taken) (m + w) (omega arith))
           ]
     ]
 
-pub end_same : (e c : Bool) (n r m : ℕ) → (e ≡ true → r ≡ 0) → ((true && e) && c && nat_eq n m) ≡ (e && (c && nat_eq (n + r) m))
+pub end_same : (e c : Bool) (n r m : ℕ) → (e ≡ true → r ≡ 0)
+    → ((true && e) && c && nat_eq n m) ≡ (e && (c && nat_eq (n + r) m))
 end_same false c n r m none = refl
 end_same true c n r m none = ap (λ k. c && nat_eq k m) (let h : r ≡ 0 = none refl in omega arith)
 
-pub held_is_empty : (a : List Entry) (before : Option ℕ) (front : Option Item) (k : ℕ) (xs : List (ℕ × Entry)) → k ≤ length xs
-    → nat_eq (length (told_items a before (option_to_list front ++ archived_items (take k xs)))) 0 ≡ (is_none front && nat_eq k 0)
+pub held_is_empty : (a : List Entry) (before : Option ℕ) (front : Option Item) (k : ℕ)
+    (xs : List (ℕ × Entry)) → k ≤ length xs
+    → nat_eq (length (told_items a before (option_to_list front ++ archived_items (take k xs)))) 0
+    ≡ (is_none front && nat_eq k 0)
 held_is_empty a before None k xs fits =
-    ap (λ n. nat_eq n 0) (length-told a before (archived_items (take k xs)) ∙ length-map (take k xs) (λ x. archived x.0 x.1) ∙ length-take-le k xs fits)
+    ap (λ n. nat_eq n 0) (length-told a before (archived_items (take k xs))
+    ∙ length-map (take k xs) (λ x. archived x.0 x.1) ∙ length-take-le k xs fits)
 held_is_empty a before (Some x) k xs fits =
     ne_eqb (length (told_items a before (x ∷ archived_items (take k xs)))) 0
     (λ none. omega (arith, none, length-told a before (x ∷ archived_items (take k xs))))
 
 -- a complete buffer is due
-noted : (items : List Item) → list_any is_notice_item items ≡ true → list_any is_notification items ≡ true
+noted : (items : List Item) → list_any is_notice_item items ≡ true
+    → list_any is_notification items ≡ true
 noted [] is = is
 noted (x ∷ items) is =
     elim (or_cases (is_notice_item x) (list_any is_notice_item items) is) [
       | inl here ↦ or_left (is_notification x) (list_any is_notification items) (of_item x here)
-      | inr later ↦ or_right (is_notification x) (list_any is_notification items) (noted items later)
+      | inr later ↦ or_right (is_notification x) (list_any is_notification items)
+          (noted items later)
     ]
   where
     of_item : (x : Item) → is_notice_item x ≡ true → is_notification x ≡ true
@@ -83,13 +110,15 @@ noted (x ∷ items) is =
     of_item backlog is = cc
     of_item end_of_data is = cc
 
-complete_is_due : (size : ℕ) (limit : Option ℕ) (now since : ℕ) (last : Bool) (items : List Item) → 0 < size
+complete_is_due : (size : ℕ) (limit : Option ℕ) (now since : ℕ) (last : Bool) (items : List Item)
+    → 0 < size
     → is_complete size items ≡ true → is_due_of size limit now last (contents since items) ≡ true
 complete_is_due size limit now since last [] some complete =
     absurd (both_ways (is_complete size []) (nothing_complete size some) complete)
 complete_is_due size limit now since last (x ∷ items) some complete =
     let all : List Item = x ∷ items in
-    and_from (nat_lt 0 (length all)) (list_any is_notification all || is_full size all || is_late limit since now || last)
+    and_from (nat_lt 0 (length all)) (list_any is_notification all || is_full size all
+    || is_late limit since now || last)
     (lt-ltb 0 (length all) (omega arith))
     (or_left (list_any is_notification all || is_full size all || is_late limit since now) last
     (or_left (list_any is_notification all || is_full size all) (is_late limit since now)
@@ -98,36 +127,49 @@ complete_is_due size limit now since last (x ∷ items) some complete =
       | inr notice ↦ or_left (list_any is_notification all) (is_full size all) (noted all notice)
     ])))
 
-pub not_complete : (size : ℕ) (limit : Option ℕ) (now since : ℕ) (last : Bool) (items : List Item) → 0 < size
+pub not_complete : (size : ℕ) (limit : Option ℕ) (now since : ℕ) (last : Bool) (items : List Item)
+    → 0 < size
     → is_due_of size limit now last (contents since items) ≡ false → is_complete size items ≡ false
 not_complete size limit now since last items some waits = by_test (is_complete size items) refl
   where
     by_test : (b : Bool) → is_complete size items ≡ b → b ≡ false
     by_test false is = refl
-    by_test true is = absurd (both_ways (is_due_of size limit now last (contents since items)) waits (complete_is_due size limit now since last items some is))
+    by_test true is = absurd (both_ways (is_due_of size limit now last (contents since items)) waits
+        (complete_is_due size limit now since last items some is))
 
 -- ---- filling
 
 -- what a buffer behind this front, with n settled, becomes on a look
-pub record Filled (t : Terms) (a : List Entry) (now : ℕ) (p : Placed) (front : Option Item) (n : ℕ) : Type 0 where
+pub record Filled (t : Terms) (a : List Entry) (now : ℕ) (p : Placed) (front : Option Item)
+    (n : ℕ) : Type 0 where
   pub held : (with_items t (glimpse a (want_of t p)) now p).held
-      ≡ told_items a p.last (option_to_list front ++ archived_items (take (room t.size front (drop n (picked a t.selection))) (drop n (picked a t.selection))))
-  pub waits : filter (from_place (with_items t (glimpse a (want_of t p)) now p).place) (picked a t.selection)
+      ≡ told_items a p.last (option_to_list front
+      ++ archived_items (take (room t.size front (drop n (picked a t.selection)))
+      (drop n (picked a t.selection))))
+  pub waits : filter (from_place (with_items t (glimpse a (want_of t p)) now p).place)
+      (picked a t.selection)
       ≡ drop (n + room t.size front (drop n (picked a t.selection))) (picked a t.selection)
   pub within : (with_items t (glimpse a (want_of t p)) now p).place ≤ length a
   pub last : ((glimpse a (want_of t p)).closed && is_all_put t (glimpse a (want_of t p)) p)
-      ≡ (is_stop_closed t.selection a && nat_eq (n + room t.size front (drop n (picked a t.selection))) (length (picked a t.selection)))
+      ≡ (is_stop_closed t.selection a && nat_eq
+      (n + room t.size front (drop n (picked a t.selection))) (length (picked a t.selection)))
 
-pub fills : (t : Terms) (a : List Entry) (now : ℕ) (p : Placed) (front : Option Item) (n k : ℕ) → 0 < t.size
+pub fills : (t : Terms) (a : List Entry) (now : ℕ) (p : Placed) (front : Option Item) (n k : ℕ)
+    → 0 < t.size
     → (p.fixed || p.ended) ≡ false → n + k ≤ length (picked a t.selection)
-    → InLimits t.size (option_to_list front ++ archived_items (take k (drop n (picked a t.selection))))
-    → with_head p ≡ told_items a p.last (option_to_list front ++ archived_items (take k (drop n (picked a t.selection))))
-    → filter (from_place p.place) (picked a t.selection) ≡ drop (n + k) (picked a t.selection) → p.place ≤ length a
+    → InLimits t.size (option_to_list front ++ archived_items
+    (take k (drop n (picked a t.selection))))
+    → with_head p ≡ told_items a p.last (option_to_list front
+    ++ archived_items (take k (drop n (picked a t.selection))))
+    → filter (from_place p.place) (picked a t.selection) ≡ drop (n + k) (picked a t.selection)
+    → p.place ≤ length a
     → Filled t a now p front n
 fills t a now p front n k some goes fits limits head waits within = record {
   held = by_want (λ g. with_head p ++ take (taken_of t g p) g.items) ∙ held_is;
-  waits = by_want (λ g. filter (from_place (place_behind p.place (entries_of (items_of (take (taken_of t g p) g.items))))) all) ∙ waits_is;
-  within = subst (λ g. place_behind p.place (entries_of (items_of (take (taken_of t g p) g.items))) ≤ length a) (ap (glimpse a) (sym wanted)) within_is;
+  waits = by_want (λ g. filter (from_place (place_behind p.place
+      (entries_of (items_of (take (taken_of t g p) g.items))))) all) ∙ waits_is;
+  within = subst (λ g. place_behind p.place (entries_of (items_of (take (taken_of t g p) g.items)))
+      ≤ length a) (ap (glimpse a) (sym wanted)) within_is;
   last = by_want (λ g. g.closed && is_all_put t g p) ∙ last_is;
 }
   where
@@ -170,14 +212,20 @@ fills t a now p front n k some goes fits limits head waits within = record {
     -- what is given
     given_is : given_of a want ≡ take (look t.size h w) w
     given_is =
-        ap (λ ys. take (given (t.size - length (with_head p)) (524288 - sum_by frame_octets (items_of (with_head p))) (lengths_of ys)) ys) waits
-        ∙ ap (λ m. take (given (t.size - m) (524288 - sum_by frame_octets (items_of (with_head p))) (lengths_of w)) w) length_is
-        ∙ ap (λ ys. take (given (t.size - length h) (524288 - sum_by frame_octets ys) (lengths_of w)) w) items_are
+        ap (λ ys. take (given (t.size - length (with_head p))
+        (524288 - sum_by frame_octets (items_of (with_head p))) (lengths_of ys)) ys) waits
+        ∙ ap (λ m. take (given (t.size - m) (524288 - sum_by frame_octets (items_of (with_head p)))
+        (lengths_of w)) w) length_is
+        ∙ ap (λ ys. take (given (t.size - length h) (524288 - sum_by frame_octets ys)
+        (lengths_of w)) w) items_are
 
-    given_items : g.items ≡ told_items a (last_frame p.last h) (archived_items (take (look t.size h w) w))
+    given_items : g.items ≡ told_items a (last_frame p.last h)
+        (archived_items (take (look t.size h w) w))
     given_items =
-        ap (λ ys. told_items a (last_frame p.last (items_of (with_head p))) (archived_items ys)) given_is
-        ∙ ap (λ ys. told_items a (last_frame p.last ys) (archived_items (take (look t.size h w) w))) items_are
+        ap (λ ys. told_items a (last_frame p.last (items_of (with_head p))) (archived_items ys))
+        given_is
+        ∙ ap (λ ys. told_items a (last_frame p.last ys) (archived_items (take (look t.size h w) w)))
+        items_are
 
     xs_long : k ≤ length xs
     xs_long = omega (arith, length-drop n all)
@@ -189,8 +237,10 @@ fills t a now p front n k some goes fits limits head waits within = record {
     whole : h ++ archived_items w ≡ option_to_list front ++ archived_items xs
     whole =
         append_assoc (option_to_list front) (archived_items (take k xs)) (archived_items w)
-        ∙ ap (λ ys. option_to_list front ++ (archived_items (take k xs) ++ archived_items ys)) (sym w_is)
-        ∙ ap (λ ys. option_to_list front ++ ys) (sym (map-append (λ x. archived x.0 x.1) (take k xs) (drop k xs)))
+        ∙ ap (λ ys. option_to_list front ++ (archived_items (take k xs) ++ archived_items ys))
+        (sym w_is)
+        ∙ ap (λ ys. option_to_list front ++ ys)
+        (sym (map-append (λ x. archived x.0 x.1) (take k xs) (drop k xs)))
         ∙ ap (λ ys. option_to_list front ++ archived_items ys) (take-append-drop k xs)
 
     r : ℕ
@@ -201,16 +251,27 @@ fills t a now p front n k some goes fits limits head waits within = record {
 
     taken_is : taken ≡ buffer_length t.size (h ++ archived_items w) - length h
     taken_is =
-        ap (λ ys. buffer_length t.size (items_of (with_head p) ++ items_of ys) - length (with_head p)) given_items
-        ∙ ap (λ ys. buffer_length t.size (items_of (with_head p) ++ ys) - length (with_head p)) (items_of-told a (last_frame p.last h) (archived_items (take (look t.size h w) w)))
-        ∙ ap (λ ys. buffer_length t.size (ys ++ archived_items (take (look t.size h w) w)) - length (with_head p)) items_are
-        ∙ ap (λ m. buffer_length t.size (h ++ archived_items (take (look t.size h w) w)) - m) length_is
+        ap (λ ys. buffer_length t.size (items_of (with_head p) ++ items_of ys) - length
+        (with_head p)) given_items
+        ∙ ap (λ ys. buffer_length t.size (items_of (with_head p) ++ ys) - length (with_head p))
+        (items_of-told a (last_frame p.last h) (archived_items (take (look t.size h w) w)))
+        ∙ ap (λ ys. buffer_length t.size (ys ++ archived_items (take (look t.size h w) w)) - length
+        (with_head p)) items_are
+        ∙ ap (λ m. buffer_length t.size (h ++ archived_items (take (look t.size h w) w)) - m)
+        length_is
         ∙ ap (λ m. m - length h) (given_fills t.size h w)
 
     r_is : r ≡ k + taken
     r_is =
-        let same : buffer_length t.size (h ++ archived_items w) ≡ buffer_length t.size (option_to_list front ++ archived_items xs) = ap (buffer_length t.size) whole in
-        let long : length h ≡ length (option_to_list front) + k = omega (arith, front_length (option_to_list front) (take k xs), length-take-le k xs xs_long) in
+        let same : buffer_length t.size (h ++ archived_items w)
+        ≡ buffer_length t.size (option_to_list front ++ archived_items xs) =
+        ap (buffer_length t.size) whole in
+        let long : length h ≡ length (option_to_list front) + k =
+        omega (
+          arith,
+          front_length (option_to_list front) (take k xs),
+          length-take-le k xs xs_long,
+        ) in
         omega (arith, taken_is, same, long, held_taken t.size h w limits)
 
     few : taken ≤ look t.size h w
@@ -218,18 +279,24 @@ fills t a now p front n k some goes fits limits head waits within = record {
 
     took : take taken g.items ≡ told_items a (last_frame p.last h) (archived_items (take taken w))
     took =
-        ap (take taken) given_items ∙ take-told a (last_frame p.last h) taken (archived_items (take (look t.size h w) w))
-        ∙ ap (told_items a (last_frame p.last h)) (take-map (λ x. archived x.0 x.1) taken (take (look t.size h w) w)
+        ap (take taken) given_items ∙ take-told a (last_frame p.last h) taken
+        (archived_items (take (look t.size h w) w))
+        ∙ ap (told_items a (last_frame p.last h))
+        (take-map (λ x. archived x.0 x.1) taken (take (look t.size h w) w)
         ∙ ap archived_items (take-take taken (look t.size h w) w few))
 
-    held_is : (with_head p ++ take taken g.items) ≡ told_items a p.last (option_to_list front ++ archived_items (take r xs))
+    held_is : (with_head p ++ take taken g.items)
+        ≡ told_items a p.last (option_to_list front ++ archived_items (take r xs))
     held_is =
         ap (λ ys. ys ++ take taken g.items) head ∙ ap (λ ys. told_items a p.last h ++ ys) took
         ∙ sym (told-append a p.last h (archived_items (take taken w)))
         ∙ ap (told_items a p.last)
-        (append_assoc (option_to_list front) (archived_items (take k xs)) (archived_items (take taken w))
-        ∙ ap (λ ys. option_to_list front ++ (archived_items (take k xs) ++ archived_items (take taken ys))) (sym w_is)
-        ∙ ap (λ ys. option_to_list front ++ ys) (sym (map-append (λ x. archived x.0 x.1) (take k xs) (take taken (drop k xs))))
+        (append_assoc (option_to_list front) (archived_items (take k xs))
+        (archived_items (take taken w))
+        ∙ ap (λ ys. option_to_list front ++ (archived_items (take k xs)
+        ++ archived_items (take taken ys))) (sym w_is)
+        ∙ ap (λ ys. option_to_list front ++ ys)
+        (sym (map-append (λ x. archived x.0 x.1) (take k xs) (take taken (drop k xs))))
         ∙ ap (λ ys. option_to_list front ++ archived_items ys) (sym (take-add k taken xs))
         ∙ ap (λ m. option_to_list front ++ archived_items (take m xs)) (sym r_is))
 
@@ -241,29 +308,45 @@ fills t a now p front n k some goes fits limits head waits within = record {
 
     rest_rises : RisesTo p.place (length a) (places_of w)
     rest_rises =
-        subst (λ ys. RisesTo p.place (length a) (places_of ys)) waits (left_rises 0 (length a) p.place all (picked_rises a t.selection) within)
+        subst (λ ys. RisesTo p.place (length a) (places_of ys)) waits
+        (left_rises 0 (length a) p.place all (picked_rises a t.selection) within)
 
-    waits_is : filter (from_place (place_behind p.place (entries_of (items_of (take taken g.items))))) all ≡ drop (n + r) all
+    waits_is : filter (from_place (place_behind p.place
+        (entries_of (items_of (take taken g.items))))) all ≡ drop (n + r) all
     waits_is =
         ap (λ ys. filter (from_place (place_behind p.place ys)) all) put_is
-        ∙ waits_behind 0 (length a) p.place taken (n + k) all (picked_rises a t.selection) waits rest_rises
+        ∙ waits_behind 0 (length a) p.place taken (n + k) all (picked_rises a t.selection) waits
+        rest_rises
         ∙ drop-drop taken (n + k) all ∙ ap (λ m. drop m all) (omega (arith, r_is))
 
     within_is : place_behind p.place (entries_of (items_of (take taken g.items))) ≤ length a
     within_is =
-        subst (λ ys. place_behind p.place ys ≤ length a) (sym put_is) (behind_to p.place (length a) p.place taken w rest_rises within)
+        subst (λ ys. place_behind p.place ys ≤ length a) (sym put_is)
+        (behind_to p.place (length a) p.place taken w rest_rises within)
 
-    last_is : (g.closed && is_all_put t g p) ≡ (is_stop_closed t.selection a && nat_eq (n + r) (length all))
+    last_is : (g.closed && is_all_put t g p) ≡ (is_stop_closed t.selection a
+        && nat_eq (n + r) (length all))
     last_is =
-        let some_left : length (take (look t.size h w) w) ≡ look t.size h w = length-take-le (look t.size h w) w (look-le t.size h w) in
-        let given_long : length (given_of a want) ≡ look t.size h w = ap length given_is ∙ some_left in
+        let some_left : length (take (look t.size h w) w) ≡ look t.size h w =
+        length-take-le (look t.size h w) w (look-le t.size h w) in
+        let given_long : length (given_of a want) ≡ look t.size h w = ap length given_is
+        ∙ some_left in
         let items_long : length g.items ≡ look t.size h w =
-        ap length given_items ∙ length-told a (last_frame p.last h) (archived_items (take (look t.size h w) w))
+        ap length given_items ∙ length-told a (last_frame p.last h)
+        (archived_items (take (look t.size h w) w))
         ∙ length-map (take (look t.size h w) w) (λ x. archived x.0 x.1) ∙ some_left in
-        let waiting_long : length (picked_from a t.selection p.place) ≡ length w = ap length waits in
-        ap (λ m. is_stop_closed t.selection a && (not (nat_lt m (length (picked_from a t.selection p.place))) && nat_eq taken (length g.items))) given_long
-        ∙ ap (λ m. is_stop_closed t.selection a && (not (nat_lt (look t.size h w) m) && nat_eq taken (length g.items))) waiting_long
-        ∙ ap (λ m. is_stop_closed t.selection a && (not (nat_lt (look t.size h w) (length w)) && nat_eq taken m)) items_long
-        ∙ ap (λ b. is_stop_closed t.selection a && b) (last_same (n + k) (look t.size h w) (length w) taken few (look-le t.size h w))
-        ∙ ap (λ m. is_stop_closed t.selection a && nat_eq m (n + k + length w)) (omega (arith, r_is))
-        ∙ ap (λ m. is_stop_closed t.selection a && nat_eq (n + r) m) (omega (arith, length-drop (n + k) all))
+        let waiting_long : length (picked_from a t.selection p.place) ≡ length w =
+        ap length waits in
+        ap (λ m. is_stop_closed t.selection a
+        && (not (nat_lt m (length (picked_from a t.selection p.place)))
+        && nat_eq taken (length g.items))) given_long
+        ∙ ap (λ m. is_stop_closed t.selection a
+        && (not (nat_lt (look t.size h w) m) && nat_eq taken (length g.items))) waiting_long
+        ∙ ap (λ m. is_stop_closed t.selection a
+        && (not (nat_lt (look t.size h w) (length w)) && nat_eq taken m)) items_long
+        ∙ ap (λ b. is_stop_closed t.selection a && b)
+        (last_same (n + k) (look t.size h w) (length w) taken few (look-le t.size h w))
+        ∙ ap (λ m. is_stop_closed t.selection a && nat_eq m (n + k + length w))
+        (omega (arith, r_is))
+        ∙ ap (λ m. is_stop_closed t.selection a && nat_eq (n + r) m)
+        (omega (arith, length-drop (n + k) all))

@@ -1,13 +1,22 @@
--- An offline delivery whose front stands still and whose offers are taken hands over the cut buffers.
-use Rattle.std.proofs.Common.{◌≡◌, ℕ, suc, ◌+◌, ◌<◌, ◌≤◌, Bool, true, false, cond, ◌&&◌, ◌||◌, nat_eq, nat_lt, List, [], ◌∷◌, ◌++◌, map, length, take, drop, Some, None, refl, ap, sym, ◌∙◌, arith, inl, inr}
+-- An offline delivery whose front stands still and whose offers are taken hands over the cut
+-- buffers.
+use Rattle.std.proofs.Common.{◌≡◌, ℕ, suc, ◌+◌, ◌<◌, ◌≤◌, Bool, true, false, cond, ◌&&◌, ◌||◌}
+use Rattle.std.proofs.Common.{nat_eq, nat_lt, List, [], ◌∷◌, ◌++◌, map, length, take, drop, Some}
+use Rattle.std.proofs.Common.{None, refl, ap, sym, ◌∙◌, arith, inl, inr}
 use Rattle.std.specs.List.{list_any, filter, cons_option}
 use Rattle.std.specs.Option.{option_map_or}
-use Rattle.std.proofs.lemmas.List.{length-drop, length-take, length-map, take_all, drop_all, drop-drop, drop-map, take-map, nil_from_length}
-use Rattle.std.proofs.lemmas.Bool.{and_parts, cases_lt, both_ways, true≢false, false≢true, eq-eqb, ltb-true, lt-ltb, and_left, and_from}
+use Rattle.std.proofs.lemmas.List.{length-drop, length-take, length-map, take_all, drop_all}
+use Rattle.std.proofs.lemmas.List.{drop-drop, drop-map, take-map, nil_from_length}
+use Rattle.std.proofs.lemmas.Bool.{and_parts, cases_lt, both_ways, true≢false, false≢true, eq-eqb}
+use Rattle.std.proofs.lemmas.Bool.{ltb-true, lt-ltb, and_left, and_from}
 use Rattle.archive_terms.specs.Archive.{Entry}
 use Rattle.archive_terms.specs.Selection.{is_stop_closed}
-use Rattle.archive_terms.specs.Delivery.{is_online, Item, archived, end_of_data, archived_items, is_notification, is_notice_item, is_late, limit_of, is_full, is_complete, buffer_length, cut, offline_buffers, Terms, Delivery, buffer, is_due, with_due_fixed, started}
-use Rattle.archive_terms.specs.Rounds.{whole, free, answered, fate, nothing, is_failed, picked_at, outcomes, handed_buffer, handed_buffers, free_round}
+use Rattle.archive_terms.specs.Delivery.{is_online, Item, archived, end_of_data, archived_items}
+use Rattle.archive_terms.specs.Delivery.{is_notification, is_notice_item, is_late, limit_of}
+use Rattle.archive_terms.specs.Delivery.{is_full, is_complete, buffer_length, cut, offline_buffers}
+use Rattle.archive_terms.specs.Delivery.{Terms, Delivery, buffer, is_due, with_due_fixed, started}
+use Rattle.archive_terms.specs.Rounds.{whole, free, answered, fate, nothing, is_failed, picked_at}
+use Rattle.archive_terms.specs.Rounds.{outcomes, handed_buffer, handed_buffers, free_round}
 use Rattle.archive_terms.proofs.Buffers.{room, room-le, takes_one, buffer_length-stops}
 use Rattle.archive_terms.proofs.States.{end_is_due}
 use Rattle.archive_terms.proofs.Histories.{end_alone}
@@ -16,25 +25,39 @@ use Rattle.archive_terms.proofs.Cuts.{cut-step}
 -- a delivery between two rounds of which nothing is owed
 abbrev resting : ℕ → ℕ → ℕ → Bool → Bool → Delivery
 resting n k since fixed ended =
-    record { settled = n; held = k; head = None; owed = false; fixed = fixed; since = since; ended = ended }
+    record {
+      settled = n;
+      held = k;
+      head = None;
+      owed = false;
+      fixed = fixed;
+      since = since;
+      ended = ended;
+    }
 
 -- the notifications among archived items are the losses and production changes
 same_notices : (entries : List (ℕ × Entry))
-    → list_any is_notification (archived_items entries) ≡ list_any is_notice_item (archived_items entries)
+    → list_any is_notification (archived_items entries)
+    ≡ list_any is_notice_item (archived_items entries)
 same_notices [] = refl
-same_notices (x ∷ entries) = ap (λ b. is_notification (archived x.0 x.1) || b) (same_notices entries)
+same_notices (x ∷ entries) = ap (λ b. is_notification (archived x.0 x.1) || b)
+    (same_notices entries)
 
 -- with entries left the first cut buffer has as many as are held
 first_cut : (size : ℕ) (waiting : List (ℕ × Entry)) → 0 < size → 0 < length waiting
     → cut size (archived_items waiting)
-    ≡ archived_items (take (room size None waiting) waiting) ∷ cut size (archived_items (drop (room size None waiting) waiting))
+    ≡ archived_items (take (room size None waiting) waiting)
+    ∷ cut size (archived_items (drop (room size None waiting) waiting))
 first_cut size waiting some left =
     let m : ℕ = buffer_length size (archived_items waiting) in
     let k : ℕ = room size None waiting in
     let all : m ≡ k = omega arith in
-    cut-step size (archived_items waiting) some (omega (arith, length-map waiting (λ x. archived x.0 x.1)))
-    ∙ ap (λ xs. xs ∷ cut size (drop m (archived_items waiting))) (take-map (λ x. archived x.0 x.1) m waiting)
-    ∙ ap (λ xs. archived_items (take m waiting) ∷ cut size xs) (drop-map (λ x. archived x.0 x.1) m waiting)
+    cut-step size (archived_items waiting) some
+    (omega (arith, length-map waiting (λ x. archived x.0 x.1)))
+    ∙ ap (λ xs. xs ∷ cut size (drop m (archived_items waiting)))
+    (take-map (λ x. archived x.0 x.1) m waiting)
+    ∙ ap (λ xs. archived_items (take m waiting) ∷ cut size xs)
+    (drop-map (λ x. archived x.0 x.1) m waiting)
     ∙ ap (λ n. archived_items (take n waiting) ∷ cut size (archived_items (drop n waiting))) all
 
 -- where entries are left behind the held ones, these are complete
@@ -45,7 +68,8 @@ complete_or_last size waiting left =
     let all : m ≡ room size None waiting = omega arith in
     ap (λ n. is_complete size (archived_items (take n waiting))) (sym all)
     ∙ ap (is_complete size) (sym (take-map (λ x. archived x.0 x.1) m waiting))
-    ∙ buffer_length-stops size (archived_items waiting) (omega (arith, length-map waiting (λ x. archived x.0 x.1)))
+    ∙ buffer_length-stops size (archived_items waiting)
+    (omega (arith, length-map waiting (λ x. archived x.0 x.1)))
 
 full_or_noted : (noted full late : Bool) → (noted || full || late || false) ≡ true → late ≡ false
     → (full || noted) ≡ true
@@ -63,7 +87,8 @@ neither false false true last due = cc
 neither false false false last due = (refl, due)
 
 -- a due buffer is complete, where the stop isn't closed and no latency limit counts
-due_is_complete : (t : Terms) (entries : List (ℕ × Entry)) (now n k since : ℕ) → is_online t.mode ≡ false
+due_is_complete : (t : Terms) (entries : List (ℕ × Entry)) (now n k since : ℕ)
+    → is_online t.mode ≡ false
     → is_due t entries false now (resting n k since false false) ≡ true
     → is_complete t.size (archived_items (take k (drop n entries))) ≡ true
 due_is_complete t entries now n k since off due =
@@ -73,28 +98,34 @@ due_is_complete t entries now n k since off due =
     let any : (list_any is_notification b || is_full t.size b || late || false) ≡ true =
     (and_parts (nat_lt 0 (length b)) _ due).1 in
     ap (λ noted. is_full t.size b || noted) (sym (same_notices held))
-    ∙ full_or_noted (list_any is_notification b) (is_full t.size b) late any (ap (λ on. is_late (cond on (Some t.latency) None) since now) off)
+    ∙ full_or_noted (list_any is_notification b) (is_full t.size b) late any
+    (ap (λ on. is_late (cond on (Some t.latency) None) since now) off)
 
 due_holds : (t : Terms) (entries : List (ℕ × Entry)) (closed : Bool) (now n k since : ℕ)
     → is_due t entries closed now (resting n k since false false) ≡ true → 0 < k
 due_holds t entries closed now n k since due =
     let held : List (ℕ × Entry) = take k (drop n entries) in
     let some : 0 < length (archived_items held) =
-    ltb-true 0 (length (archived_items held)) (and_parts (nat_lt 0 (length (archived_items held))) _ due).0 in
+    ltb-true 0 (length (archived_items held))
+    (and_parts (nat_lt 0 (length (archived_items held))) _ due).0 in
     omega (arith, length-map held (λ x. archived x.0 x.1), length-take k (drop n entries))
 
 -- a held buffer that isn't due is neither complete nor the last before a closed stop
-not_due : (t : Terms) (entries : List (ℕ × Entry)) (closed : Bool) (now n k since : ℕ) → 0 < length (take k (drop n entries))
+not_due : (t : Terms) (entries : List (ℕ × Entry)) (closed : Bool) (now n k since : ℕ)
+    → 0 < length (take k (drop n entries))
     → is_due t entries closed now (resting n k since false false) ≡ false
-    → (is_complete t.size (archived_items (take k (drop n entries))) ≡ false) × ((closed && nat_eq (n + k) (length entries)) ≡ false)
+    → (is_complete t.size (archived_items (take k (drop n entries))) ≡ false)
+    × ((closed && nat_eq (n + k) (length entries)) ≡ false)
 not_due t entries closed now n k since some due =
     let held : List (ℕ × Entry) = take k (drop n entries) in
     let b : List Item = archived_items held in
     let late : Bool = is_late (limit_of t) since now in
     let last : Bool = closed && nat_eq (n + k) (length entries) in
-    let full : nat_lt 0 (length b) ≡ true = lt-ltb 0 (length b) (omega (arith, length-map held (λ x. archived x.0 x.1))) in
+    let full : nat_lt 0 (length b) ≡ true = lt-ltb 0 (length b)
+    (omega (arith, length-map held (λ x. archived x.0 x.1))) in
     let none : (list_any is_notification b || is_full t.size b || late || last) ≡ false =
-    sym (ap (λ x. x && (list_any is_notification b || is_full t.size b || late || last)) full) ∙ due in
+    sym (ap (λ x. x && (list_any is_notification b || is_full t.size b || late || last)) full)
+    ∙ due in
     let parts : ((is_full t.size b || list_any is_notification b) ≡ false) × (last ≡ false) =
     neither (list_any is_notification b) (is_full t.size b) late last none in
     (ap (λ noted. is_full t.size b || noted) (sym (same_notices held)) ∙ parts.0, parts.1)
@@ -106,41 +137,53 @@ left t entries closed n = offline_buffers t.size (drop n entries) closed
 abbrev held_from : Terms → List (ℕ × Entry) → ℕ → ℕ
 held_from t entries n = room t.size None (drop n entries)
 
-hands_first : (t : Terms) (entries : List (ℕ × Entry)) (closed : Bool) (now n since : ℕ) → 0 < t.size
+hands_first : (t : Terms) (entries : List (ℕ × Entry)) (closed : Bool) (now n since : ℕ)
+    → 0 < t.size
     → is_online t.mode ≡ false
     → is_due t entries closed now (resting n (held_from t entries n) since false false) ≡ true
-    → left t entries closed n ≡ archived_items (take (held_from t entries n) (drop n entries)) ∷ left t entries closed (n + held_from t entries n)
+    → left t entries closed n ≡ archived_items (take (held_from t entries n) (drop n entries))
+    ∷ left t entries closed (n + held_from t entries n)
 hands_first t entries closed now n since some off due =
     let k : ℕ = held_from t entries n in
     let more : 0 < k = due_holds t entries closed now n k since due in
-    let first : cut t.size (archived_items (drop n entries)) ≡ archived_items (take k (drop n entries)) ∷ cut t.size (archived_items (drop k (drop n entries))) =
+    let first : cut t.size (archived_items (drop n entries))
+    ≡ archived_items (take k (drop n entries))
+    ∷ cut t.size (archived_items (drop k (drop n entries))) =
     first_cut t.size (drop n entries) some (omega (arith, room-le t.size None (drop n entries))) in
     let rest : drop k (drop n entries) ≡ drop (n + k) entries = drop-drop k n entries in
     by_stop closed k first rest due
   where
     by_stop : (closed : Bool) (k : ℕ)
-        → cut t.size (archived_items (drop n entries)) ≡ archived_items (take k (drop n entries)) ∷ cut t.size (archived_items (drop k (drop n entries)))
+        → cut t.size (archived_items (drop n entries))
+        ≡ archived_items (take k (drop n entries))
+        ∷ cut t.size (archived_items (drop k (drop n entries)))
         → drop k (drop n entries) ≡ drop (n + k) entries
         → is_due t entries closed now (resting n k since false false) ≡ true
-        → left t entries closed n ≡ archived_items (take k (drop n entries)) ∷ left t entries closed (n + k)
+        → left t entries closed n ≡ archived_items (take k (drop n entries))
+        ∷ left t entries closed (n + k)
     by_stop true k first rest due =
         ap (λ buffers. buffers ++ (end_of_data ∷ []) ∷ []) first
-        ∙ ap (λ xs. archived_items (take k (drop n entries)) ∷ (cut t.size (archived_items xs) ++ (end_of_data ∷ []) ∷ [])) rest
+        ∙ ap (λ xs. archived_items (take k (drop n entries))
+        ∷ (cut t.size (archived_items xs) ++ (end_of_data ∷ []) ∷ [])) rest
     by_stop false k first rest due =
         ap (filter (is_complete t.size)) first
-        ∙ ap (λ b. cond b (archived_items (take k (drop n entries)) ∷ filter (is_complete t.size) (cut t.size (archived_items (drop k (drop n entries)))))
+        ∙ ap (λ b. cond b (archived_items (take k (drop n entries))
+        ∷ filter (is_complete t.size) (cut t.size (archived_items (drop k (drop n entries)))))
         (filter (is_complete t.size) (cut t.size (archived_items (drop k (drop n entries))))))
         (due_is_complete t entries now n k since off due)
-        ∙ ap (λ xs. archived_items (take k (drop n entries)) ∷ filter (is_complete t.size) (cut t.size (archived_items xs))) rest
+        ∙ ap (λ xs. archived_items (take k (drop n entries))
+        ∷ filter (is_complete t.size) (cut t.size (archived_items xs))) rest
 
 -- where neither end of data nor the held buffer is due nothing is left
-nothing_left : (t : Terms) (entries : List (ℕ × Entry)) (closed : Bool) (now n since : ℕ) → 0 < t.size
+nothing_left : (t : Terms) (entries : List (ℕ × Entry)) (closed : Bool) (now n since : ℕ)
+    → 0 < t.size
     → n ≤ length entries
     → ((true && nat_eq (held_from t entries n) 0) && closed && nat_eq n (length entries)) ≡ false
     → is_due t entries closed now (resting n (held_from t entries n) since false false) ≡ false
     → left t entries closed n ≡ []
 nothing_left t entries closed now n since some within no_end due =
-    elim (cases_lt 0 (held_from t entries n)) [ inl held ↦ with_some closed held due | inr none ↦ with_none closed (omega arith) no_end ]
+    elim (cases_lt 0 (held_from t entries n))
+    [ inl held ↦ with_some closed held due | inr none ↦ with_none closed (omega arith) no_end ]
   where
     k : ℕ
     k = held_from t entries n
@@ -154,17 +197,24 @@ nothing_left t entries closed now n since some within no_end due =
         (elim (cases_lt 0 (length waiting)) [
           | inl more ↦
               absurd (let one : 0 < buffer_length t.size (archived_items waiting) =
-              takes_one t.size (archived_items waiting) some (omega (arith, length-map waiting (λ x. archived x.0 x.1))) in omega arith)
+              takes_one t.size (archived_items waiting) some
+              (omega (arith, length-map waiting (λ x. archived x.0 x.1))) in omega arith)
           | inr none_left ↦ omega arith
         ])
 
     with_none : (closed : Bool) → k ≡ 0
-        → ((true && nat_eq k 0) && closed && nat_eq n (length entries)) ≡ false → left t entries closed n ≡ []
+        → ((true && nat_eq k 0) && closed && nat_eq n (length entries)) ≡ false
+        → left t entries closed n ≡ []
     with_none true none no_end =
-        let all : n ≡ length entries = omega (arith, length-drop n entries, ap length (empty none)) in
+        let all : n ≡ length entries = omega (
+          arith,
+          length-drop n entries,
+          ap length (empty none),
+        ) in
         absurd (false≢true (sym no_end
         ∙ and_from ((true && nat_eq k 0) && true) (nat_eq n (length entries))
-        (and_from (true && nat_eq k 0) true (ap (λ b. true && b) (eq-eqb k 0 none)) refl) (eq-eqb n (length entries) all)))
+        (and_from (true && nat_eq k 0) true (ap (λ b. true && b) (eq-eqb k 0 none)) refl)
+        (eq-eqb n (length entries) all)))
     with_none false none no_end =
         ap (λ xs. filter (is_complete t.size) (cut t.size (archived_items xs))) (empty none)
 
@@ -172,21 +222,29 @@ nothing_left t entries closed now n since some within no_end due =
         → is_complete t.size (archived_items (take k waiting)) ≡ false
         → (closed && nat_eq (n + k) (length entries)) ≡ false → left t entries closed n ≡ []
     by_stop true held all still last =
-        absurd (false≢true (sym last ∙ eq-eqb (n + k) (length entries) (omega (arith, length-drop n entries, room-le t.size None waiting))))
+        absurd (false≢true (sym last ∙ eq-eqb (n + k) (length entries)
+        (omega (arith, length-drop n entries, room-le t.size None waiting))))
     by_stop false held all still last =
-        ap (filter (is_complete t.size)) (first_cut t.size waiting some (omega (arith, room-le t.size None waiting)))
-        ∙ ap (λ b. cond b (archived_items (take k waiting) ∷ filter (is_complete t.size) (cut t.size (archived_items (drop k waiting))))
+        ap (filter (is_complete t.size)) (first_cut t.size waiting some
+        (omega (arith, room-le t.size None waiting)))
+        ∙ ap (λ b. cond b (archived_items (take k waiting)
+        ∷ filter (is_complete t.size) (cut t.size (archived_items (drop k waiting))))
         (filter (is_complete t.size) (cut t.size (archived_items (drop k waiting)))))
         still
-        ∙ ap (λ xs. filter (is_complete t.size) (cut t.size (archived_items xs))) (drop_all k waiting all)
+        ∙ ap (λ xs. filter (is_complete t.size) (cut t.size (archived_items xs)))
+        (drop_all k waiting all)
 
-    with_some : (closed : Bool) → 0 < k → is_due t entries closed now (resting n k since false false) ≡ false
+    with_some : (closed : Bool) → 0 < k
+        → is_due t entries closed now (resting n k since false false) ≡ false
         → left t entries closed n ≡ []
     with_some closed held due =
-        let parts : (is_complete t.size (archived_items (take k waiting)) ≡ false) × ((closed && nat_eq (n + k) (length entries)) ≡ false) =
-        not_due t entries closed now n k since (omega (arith, length-take k waiting, room-le t.size None waiting)) due in
+        let parts : (is_complete t.size (archived_items (take k waiting)) ≡ false)
+        × ((closed && nat_eq (n + k) (length entries)) ≡ false) =
+        not_due t entries closed now n k since
+        (omega (arith, length-take k waiting, room-le t.size None waiting)) due in
         let all : length waiting ≤ k = elim (cases_lt k (length waiting)) [
-          | inl less ↦ absurd (both_ways (is_complete t.size (archived_items (take k waiting))) parts.0 (complete_or_last t.size waiting less))
+          | inl less ↦ absurd (both_ways (is_complete t.size (archived_items (take k waiting)))
+              parts.0 (complete_or_last t.size waiting less))
           | inr all ↦ all
         ] in
         by_stop closed held all parts.0 parts.1
@@ -199,8 +257,11 @@ handed_from t a front moments d = handed_buffers (outcomes t a (map (free_round 
 abbrev handed_at : Terms → List Entry → ℕ → List ℕ → Delivery → List (List Item)
 handed_at t a front moments d =
     let answer = cond d.fixed (Some whole) None in
-    cons_option (handed_buffer (option_map_or (λ x. fate t x d (buffer (picked_at t a front) d)) answer nothing))
-    (handed_buffers (cond (is_failed (free whole) answer) [] (outcomes t a (map (free_round front) moments) (option_map_or (λ x. answered t x d) answer d))))
+    cons_option (handed_buffer (option_map_or (λ x. fate t x d (buffer (picked_at t a front) d))
+    answer nothing))
+    (handed_buffers (cond (is_failed (free whole) answer) []
+    (outcomes t a (map (free_round front) moments)
+    (option_map_or (λ x. answered t x d) answer d))))
 
 over_at : (t : Terms) (a : List Entry) (front : ℕ) (moments : List ℕ) (n k since : ℕ) (due : Bool)
     → due ≡ false
@@ -217,38 +278,63 @@ over_hands_nothing t a front [] n k since all = refl
 over_hands_nothing t a front (now ∷ moments) n k since all =
     let entries : List (ℕ × Entry) = picked_at t a front in
     let more : ℕ = held_from t entries n in
-    let none : more ≡ 0 = omega (arith, room-le t.size None (drop n entries), length-drop n entries) in
-    over_at t a front moments n more _ _ (and_left (nat_lt 0 (length (archived_items (take more (drop n entries))))) _ (ap (λ k. nat_lt 0 (length (archived_items (take k (drop n entries))))) none))
+    let none : more ≡ 0 = omega (
+      arith,
+      room-le t.size None (drop n entries),
+      length-drop n entries,
+    ) in
+    over_at t a front moments n more _ _ (and_left
+    (nat_lt 0 (length (archived_items (take more (drop n entries))))) _
+    (ap (λ k. nat_lt 0 (length (archived_items (take k (drop n entries))))) none))
     (over_hands_nothing t a front moments n more _ all)
 
 take_none : {X : Type 0} → (n : ℕ) → take n (let none : List X = [] in none) ≡ []
 take_none n = take_all n [] (omega arith)
 
 -- a round at which end of data isn't due
-due_at : (t : Terms) (a : List Entry) (front : ℕ) (moments : List ℕ) (closed : Bool) (n k since : ℕ) (due : Bool)
-    → (due ≡ true → left t (picked_at t a front) closed n ≡ archived_items (take k (drop n (picked_at t a front))) ∷ left t (picked_at t a front) closed (n + k))
+due_at : (t : Terms) (a : List Entry) (front : ℕ) (moments : List ℕ) (closed : Bool) (n k since : ℕ)
+    (due : Bool)
+    → (due ≡ true → left t (picked_at t a front) closed n
+    ≡ archived_items (take k (drop n (picked_at t a front)))
+    ∷ left t (picked_at t a front) closed (n + k))
     → (due ≡ false → left t (picked_at t a front) closed n ≡ [])
-    → ((n k since : ℕ) → n ≤ length (picked_at t a front) → handed_from t a front moments (resting n k since false false) ≡ take (length moments) (left t (picked_at t a front) closed n))
+    → ((n k since : ℕ) → n ≤ length (picked_at t a front)
+    → handed_from t a front moments (resting n k since false false)
+    ≡ take (length moments) (left t (picked_at t a front) closed n))
     → n + k ≤ length (picked_at t a front)
-    → handed_at t a front moments (resting n k since due false) ≡ take (suc (length moments)) (left t (picked_at t a front) closed n)
+    → handed_at t a front moments (resting n k since due false)
+    ≡ take (suc (length moments)) (left t (picked_at t a front) closed n)
 due_at t a front moments closed n k since true first none rest within =
-    ap (λ xs. archived_items (take k (drop n (picked_at t a front))) ∷ xs) (rest (n + k) 0 since within)
+    ap (λ xs. archived_items (take k (drop n (picked_at t a front))) ∷ xs)
+    (rest (n + k) 0 since within)
     ∙ ap (take (suc (length moments))) (sym (first refl))
 due_at t a front moments closed n k since false first none rest within =
-    rest n k since (omega arith) ∙ ap (take (length moments)) (none refl) ∙ take_none (length moments)
+    rest n k since (omega arith) ∙ ap (take (length moments)) (none refl)
+    ∙ take_none (length moments)
     ∙ sym (ap (take (suc (length moments))) (none refl))
 
 abbrev closed_at : Terms → List Entry → ℕ → Bool
 closed_at t a front = is_stop_closed t.selection (take front a)
 
 -- a round from a filled buffer, with end of data where the test for it holds
-end_at : (t : Terms) (a : List Entry) (front now : ℕ) (moments : List ℕ) (n k since : ℕ) (ends : Bool)
+end_at : (t : Terms) (a : List Entry) (front now : ℕ) (moments : List ℕ) (n k since : ℕ)
+    (ends : Bool)
     → (ends ≡ true → (k ≡ 0) × (closed_at t a front ≡ true) × (n ≡ length (picked_at t a front)))
-    → (ends ≡ false → handed_at t a front moments (with_due_fixed t (picked_at t a front) (closed_at t a front) now (resting n k since false false))
+    → (ends ≡ false → handed_at t a front moments
+    (with_due_fixed t (picked_at t a front) (closed_at t a front) now
+    (resting n k since false false))
     ≡ take (suc (length moments)) (left t (picked_at t a front) (closed_at t a front) n))
     → handed_at t a front moments
     (with_due_fixed t (picked_at t a front) (closed_at t a front) now
-    (record { settled = n; held = k; head = cond ends (Some end_of_data) None; owed = false; fixed = false; since = since; ended = false }))
+    (record {
+      settled = n;
+      held = k;
+      head = cond ends (Some end_of_data) None;
+      owed = false;
+      fixed = false;
+      since = since;
+      ended = false;
+    }))
     ≡ take (suc (length moments)) (left t (picked_at t a front) (closed_at t a front) n)
 end_at t a front now moments n k since false why else = else refl
 end_at t a front now moments n k since true why else =
@@ -256,11 +342,21 @@ end_at t a front now moments n k since true why else =
     let w : (k ≡ 0) × (closed_at t a front ≡ true) × (n ≡ length entries) = why refl in
     let all : left t entries (closed_at t a front) n ≡ (end_of_data ∷ []) ∷ [] =
     ap (offline_buffers t.size (drop n entries)) w.1
-    ∙ ap (λ xs. offline_buffers t.size xs true) (drop_all n entries (let e : n ≡ length entries = w.2 in omega arith)) in
-    ap (λ b. handed_at t a front moments (record { settled = n; held = k; head = Some end_of_data; owed = false; fixed = b && true; since = since; ended = false }))
+    ∙ ap (λ xs. offline_buffers t.size xs true)
+    (drop_all n entries (let e : n ≡ length entries = w.2 in omega arith)) in
+    ap (λ b. handed_at t a front moments (record {
+      settled = n;
+      held = k;
+      head = Some end_of_data;
+      owed = false;
+      fixed = b && true;
+      since = since;
+      ended = false;
+    }))
     (lt-ltb 0 (length (end_of_data ∷ archived_items (take k (drop n entries)))) (omega arith))
     ∙ ap (λ buffers. (end_of_data ∷ archived_items (take k (drop n entries))) ∷ buffers)
-    (over_hands_nothing t a front moments (n + k) 0 since (let e : n ≡ length entries = w.2 in omega arith))
+    (over_hands_nothing t a front moments (n + k) 0 since (let e : n ≡ length entries = w.2 in
+    omega arith))
     ∙ ap (λ b. b ∷ []) (end_alone n k entries w.0)
     ∙ ap (λ buffers. (end_of_data ∷ []) ∷ buffers) (sym (take_none (length moments)))
     ∙ ap (take (suc (length moments))) (sym all)
@@ -268,16 +364,19 @@ end_at t a front now moments n k since true why else =
 -- from a delivery of which nothing is owed
 rounds_from : (t : Terms) (a : List Entry) (front : ℕ) (moments : List ℕ) → 0 < t.size
     → is_online t.mode ≡ false → (n k since : ℕ) → n ≤ length (picked_at t a front)
-    → handed_from t a front moments (resting n k since false false) ≡ take (length moments) (left t (picked_at t a front) (closed_at t a front) n)
+    → handed_from t a front moments (resting n k since false false)
+    ≡ take (length moments) (left t (picked_at t a front) (closed_at t a front) n)
 rounds_from t a front [] some off n k since within = refl
 rounds_from t a front (now ∷ moments) some off n k since within =
     let entries : List (ℕ × Entry) = picked_at t a front in
     let closed : Bool = closed_at t a front in
     let more : ℕ = held_from t entries n in
-    end_at t a front now moments n more _ ((true && nat_eq more 0) && closed && nat_eq n (length entries))
+    end_at t a front now moments n more _ ((true && nat_eq more 0) && closed
+    && nat_eq n (length entries))
     (end_is_due more n (length entries) closed)
     (λ no_end.
-    due_at t a front moments closed n more _ _ (λ due. hands_first t entries closed now n _ some off due)
+    due_at t a front moments closed n more _ _
+    (λ due. hands_first t entries closed now n _ some off due)
     (λ due. nothing_left t entries closed now n _ some within no_end due)
     (rounds_from t a front moments some off)
     (omega (arith, room-le t.size None (drop n entries), length-drop n entries)))
@@ -285,5 +384,7 @@ rounds_from t a front (now ∷ moments) some off n k since within =
 pub offline_rounds_lem : (t : Terms) (a : List Entry) (front : ℕ) (moments : List ℕ) → 0 < t.size
     → is_online t.mode ≡ false
     → handed_buffers (outcomes t a (map (free_round front) moments) started)
-    ≡ take (length moments) (offline_buffers t.size (picked_at t a front) (is_stop_closed t.selection (take front a)))
-offline_rounds_lem t a front moments some off = rounds_from t a front moments some off 0 0 0 (omega arith)
+    ≡ take (length moments) (offline_buffers t.size (picked_at t a front)
+    (is_stop_closed t.selection (take front a)))
+offline_rounds_lem t a front moments some off =
+    rounds_from t a front moments some off 0 0 0 (omega arith)

@@ -1,5 +1,7 @@
--- The data link continuity of the frames that are handed over (CCSDS 911.1-B, RAF-TRANSFER-DATA, data-link-continuity).
-use Rattle.std.specs.Prelude.{ℕ, ◌+◌, min, ℤ, pos, negsuc, Option, Some, None, List, [], ◌∷◌, map, take, drop}
+-- The data link continuity of the frames that are handed over (CCSDS 911.1-B, RAF-TRANSFER-DATA,
+-- data-link-continuity).
+use Rattle.std.specs.Prelude.{ℕ, ◌+◌, min, ℤ, pos, negsuc, Option, Some, None, List, [], ◌∷◌, map}
+use Rattle.std.specs.Prelude.{take, drop}
 use Rattle.std.specs.List.{sum_by, filter_map}
 use Rattle.std.specs.Option.{option_map, option_or}
 use Rattle.archive_terms.specs.Archive.{Entry, frame}
@@ -22,8 +24,8 @@ lost_up_to entries place = sum_by lost_of (take place entries)
 abbrev pub gap : List Entry → ℕ → ℕ → ℕ
 gap entries before place = min GREATEST_LOST (lost_between entries before place)
 
--- the continuity of the frame at a place: -1 where no frame of this START was handed over before it or stands earlier in
--- its buffer, else how many frames were lost since the last such one
+-- the continuity of the frame at a place: -1 where no frame of this START was handed over before it
+-- or stands earlier in its buffer, else how many frames were lost since the last such one
 abbrev pub continuity : List Entry → Option ℕ → ℕ → ℤ
 continuity entries None place = negsuc 0
 continuity entries (Some before) place = pos (gap entries before place)
@@ -44,7 +46,8 @@ last_frame before (item ∷ items) = last_frame (option_or (frame_place item) be
 -- each item with the place of the last frame before it
 abbrev pub with_frame_before : Option ℕ → List Item → List (Option ℕ × Item)
 with_frame_before before [] = []
-with_frame_before before (item ∷ items) = (before, item) ∷ with_frame_before (option_or (frame_place item) before) items
+with_frame_before before (item ∷ items) = (before, item)
+    ∷ with_frame_before (option_or (frame_place item) before) items
 
 -- a frame's continuity; a notification has none
 abbrev pub continuity_of : List Entry → Option ℕ × Item → Option ℤ
@@ -56,7 +59,8 @@ continuities entries items = filter_map (continuity_of entries) (with_frame_befo
 
 -- items as they are told, each with its continuity, behind a frame that was handed over last
 abbrev pub told_items : List Entry → Option ℕ → List Item → List (Item × Option ℤ)
-told_items entries before items = map (λ x. (x.1, continuity_of entries x)) (with_frame_before before items)
+told_items entries before items = map (λ x. (x.1, continuity_of entries x))
+    (with_frame_before before items)
 
 -- buffers that are handed over one after another, as they are told
 abbrev pub told_buffers : List Entry → Option ℕ → List (List Item) → List (List (Item × Option ℤ))

@@ -1,6 +1,8 @@
--- How the picked entries of a START go out in transfer buffers (CCSDS 911.1-B, RAF-TRANSFER-BUFFER). The order of the
--- steps of a round is this product's own.
-use Rattle.std.specs.Prelude.{◌≡◌, ℕ, ◌+◌, ◌-◌, ◌<◌, ◌≤◌, Bool, true, false, not, ◌&&◌, ◌||◌, ◌==◌, nat_lt, nat_le, if◌then◌else◌, Option, Some, None, is_none, List, [], ◌∷◌, ◌++◌, map, length, take, drop}
+-- How the picked entries of a START go out in transfer buffers (CCSDS 911.1-B,
+-- RAF-TRANSFER-BUFFER). The order of the steps of a round is this product's own.
+use Rattle.std.specs.Prelude.{◌≡◌, ℕ, ◌+◌, ◌-◌, ◌<◌, ◌≤◌, Bool, true, false, not, ◌&&◌, ◌||◌, ◌==◌}
+use Rattle.std.specs.Prelude.{nat_lt, nat_le, if◌then◌else◌, Option, Some, None, is_none, List, []}
+use Rattle.std.specs.Prelude.{◌∷◌, ◌++◌, map, length, take, drop}
 use Rattle.std.specs.List.{list_any, filter, filter_map, enumerate_from, sum_by, prefix_len}
 use Rattle.std.specs.Option.{option_map_or, option_to_list}
 use Rattle.archive_terms.specs.Archive.{Entry, frame}
@@ -21,15 +23,15 @@ abbrev pub is_online : Mode → Bool
 is_online offline = false
 is_online _ = true
 
--- the first position of a START: 0 where a complete or offline one has a known start time, else the number of entries
--- that the archive had when the START was taken (this product's own)
+-- the first position of a START: 0 where a complete or offline one has a known start time, else the
+-- number of entries that the archive had when the START was taken (this product's own)
 abbrev pub first_position : Mode → Option ℕ → ℕ → ℕ
 first_position timely start front = front
 first_position mode None front = front
 first_position mode (Some _) front = 0
 
--- the selection that a START makes, with its start and stop time where known, of an archive that had so many entries when it
--- was taken: online modes alone tell notices
+-- the selection that a START makes, with its start and stop time where known, of an archive that
+-- had so many entries when it was taken: online modes alone tell notices
 abbrev pub selection_of : Mode → Filter → Option ℕ → Option ℕ → ℕ → Selection
 selection_of mode filter start stop front = record {
   filter = filter;
@@ -39,8 +41,9 @@ selection_of mode filter start stop front = record {
   notices = is_online mode;
 }
 
--- an item of a transfer buffer: a picked entry with its place, which is a frame, a loss of synchronisation or a
--- production change; the notice that data was discarded due to excessive backlog; the notice of end of data
+-- an item of a transfer buffer: a picked entry with its place, which is a frame, a loss of
+-- synchronisation or a production change; the notice that data was discarded due to excessive
+-- backlog; the notice of end of data
 pub data Item : Type 0 where
   archived : ℕ → Entry → Item
   backlog : Item
@@ -83,15 +86,16 @@ abbrev pub frame_octets : Item → ℕ
 frame_octets (archived _ (frame f)) = length f.octets
 frame_octets _ = 0
 
--- what a buffer holds, in numbers: how many items, how many octets of frames, whether a notification is among them, and when
--- the first one was put
+-- what a buffer holds, in numbers: how many items, how many octets of frames, whether a
+-- notification is among them, and when the first one was put
 pub record Contents : Type 0 where
   pub count : ℕ
   pub octets : ℕ
   pub notified : Bool
   pub since : ℕ
 
--- a buffer is full with `size` items, or with 524,288 or more octets of frames (the octets are this product's own)
+-- a buffer is full with `size` items, or with 524,288 or more octets of frames (the octets are this
+-- product's own)
 abbrev pub is_full_of : ℕ → ℕ → ℕ → Bool
 is_full_of size count octets = nat_le size count || nat_le FULL_BUFFER octets
 
@@ -99,11 +103,12 @@ is_full_of size count octets = nat_le size count || nat_le FULL_BUFFER octets
 abbrev pub is_late : Option ℕ → ℕ → ℕ → Bool
 is_late limit since now = option_map_or (λ latency. nat_le latency (now - since)) limit false
 
--- a buffer that holds anything is due where it holds a notification, is full, has waited for the latency limit, or is the last
--- one before a closed stop
+-- a buffer that holds anything is due where it holds a notification, is full, has waited for the
+-- latency limit, or is the last one before a closed stop
 abbrev pub is_due_of : ℕ → Option ℕ → ℕ → Bool → Contents → Bool
 is_due_of size limit now last c =
-    nat_lt 0 c.count && (c.notified || is_full_of size c.count c.octets || is_late limit c.since now || last)
+    nat_lt 0 c.count && (c.notified || is_full_of size c.count c.octets || is_late limit c.since now
+    || last)
 
 abbrev pub contents : ℕ → List Item → Contents
 contents since items = record {
@@ -125,17 +130,20 @@ abbrev pub is_short_frame : Item → Bool
 is_short_frame (archived _ (frame f)) = nat_le (length f.octets) LONGEST_FRAME
 is_short_frame _ = false
 
--- how many of the waiting items a buffer takes: the greatest number of which no proper prefix is complete
+-- how many of the waiting items a buffer takes: the greatest number of which no proper prefix is
+-- complete
 abbrev pub buffer_length : ℕ → List Item → ℕ
-buffer_length size items = prefix_len (λ x. not (is_complete size (take x.0 items))) (enumerate_from 0 items)
+buffer_length size items = prefix_len (λ x. not (is_complete size (take x.0 items)))
+    (enumerate_from 0 items)
 
--- no proper prefix of a buffer is complete, so that it has at most `size` items and none behind a loss, a production
--- change or the item that made it full
+-- no proper prefix of a buffer is complete, so that it has at most `size` items and none behind a
+-- loss, a production change or the item that made it full
 pub record IsBuffer (size : ℕ) (items : List Item) : Type 0 where
   pub few : length items ≤ size
   pub open_before : (j : ℕ) → j < length items → is_complete size (take j items) ≡ false
 
--- items cut into buffers, with `held` in the first one: a buffer ends with the item that makes it complete
+-- items cut into buffers, with `held` in the first one: a buffer ends with the item that makes it
+-- complete
 abbrev pub cut_onto : ℕ → List Item → List Item → List (List Item)
 cut_onto size [] [] = []
 cut_onto size [] (item ∷ held) = (item ∷ held) ∷ []
@@ -148,28 +156,30 @@ cut_onto size (item ∷ items) held =
 abbrev pub cut : ℕ → List Item → List (List Item)
 cut size items = cut_onto size items []
 
--- the buffers that an offline delivery of these picked entries hands over where each offer is taken: with a closed stop
--- all of them and end of data, else those that are complete
+-- the buffers that an offline delivery of these picked entries hands over where each offer is
+-- taken: with a closed stop all of them and end of data, else those that are complete
 abbrev pub offline_buffers : ℕ → List (ℕ × Entry) → Bool → List (List Item)
 offline_buffers size entries closed =
     if closed
     then cut size (archived_items entries) ++ (end_of_data ∷ []) ∷ []
     else filter (is_complete size) (cut size (archived_items entries))
 
--- all that a START is to hand over of these picked entries: their items, and end of data where the stop is closed
+-- all that a START is to hand over of these picked entries: their items, and end of data where the
+-- stop is closed
 abbrev pub all_items : List (ℕ × Entry) → Bool → List Item
 all_items entries closed = archived_items entries ++ (if closed then end_of_data ∷ [] else [])
 
--- the terms of a delivery: mode, buffer size in items, latency limit in picoseconds, and the START's selection
+-- the terms of a delivery: mode, buffer size in items, latency limit in picoseconds, and the
+-- START's selection
 pub record Terms : Type 0 where
   pub mode : Mode
   pub size : ℕ
   pub latency : ℕ
   pub selection : Selection
 
--- a delivery has so many picked entries settled and so many held after them; it knows what heads the held buffer
--- (backlog or end of data), whether a backlog is owed, whether the buffer is fixed, when its first item was put, and
--- whether it ended
+-- a delivery has so many picked entries settled and so many held after them; it knows what heads
+-- the held buffer (backlog or end of data), whether a backlog is owed, whether the buffer is fixed,
+-- when its first item was put, and whether it ended
 pub record Delivery : Type 0 where
   pub settled : ℕ
   pub held : ℕ
@@ -185,7 +195,15 @@ limit_of t = if is_online t.mode then Some t.latency else None
 
 -- the delivery at START
 abbrev pub started : Delivery
-started = record { settled = 0; held = 0; head = None; owed = false; fixed = false; since = 0; ended = false }
+started = record {
+  settled = 0;
+  held = 0;
+  head = None;
+  owed = false;
+  fixed = false;
+  since = 0;
+  ended = false;
+}
 
 -- what it holds of the picked entries
 abbrev pub buffer : List (ℕ × Entry) → Delivery → List Item
@@ -202,36 +220,46 @@ with_backlog d = record d { head = if d.owed && is_empty d then Some backlog els
 abbrev pub with_entries : ℕ → List (ℕ × Entry) → Delivery → Delivery
 with_entries size entries d =
     let head = option_to_list d.head in
-    record d { held = buffer_length size (head ++ archived_items (drop d.settled entries)) - length head }
+    record d {
+      held = buffer_length size (head ++ archived_items (drop d.settled entries)) - length
+          head;
+    }
 
 -- where the buffer was empty before and isn't now, its first item was put at this moment
 abbrev pub put_at : ℕ → Delivery → Delivery → Delivery
-put_at now before d = record d { since = if is_empty before && not (is_empty d) then now else d.since }
+put_at now before d = record d {
+  since = if is_empty before && not (is_empty d) then now
+      else d.since;
+}
 
 abbrev pub filled : Terms → List (ℕ × Entry) → ℕ → Delivery → Delivery
 filled t entries now d = put_at now d (with_entries t.size entries (with_backlog d))
 
--- where nothing is held, the stop is closed, all is settled and the delivery hasn't ended, end of data alone is held
+-- where nothing is held, the stop is closed, all is settled and the delivery hasn't ended, end of
+-- data alone is held
 abbrev pub with_end : List (ℕ × Entry) → Bool → Delivery → Delivery
 with_end entries closed d =
     record d {
       head =
-          if not d.ended && is_empty d && closed && d.settled == length entries then Some end_of_data else d.head;
+          if not d.ended && is_empty d && closed
+          && d.settled == length entries then Some end_of_data else d.head;
     }
 
 -- whether the held buffer is due
 abbrev pub is_due : Terms → List (ℕ × Entry) → Bool → ℕ → Delivery → Bool
 is_due t entries closed now d =
-    is_due_of t.size (limit_of t) now (closed && d.settled + d.held == length entries) (contents d.since (buffer entries d))
+    is_due_of t.size (limit_of t) now (closed && d.settled + d.held == length entries)
+    (contents d.since (buffer entries d))
 
 abbrev pub with_due_fixed : Terms → List (ℕ × Entry) → Bool → ℕ → Delivery → Delivery
 with_due_fixed t entries closed now d = record d { fixed = is_due t entries closed now d }
 
--- a step, with the picked entries of the front, whether the stop is known and closed there, and the moment: a fixed
--- buffer stays as it is; else the buffer is filled, and fixed where it is due
+-- a step, with the picked entries of the front, whether the stop is known and closed there, and the
+-- moment: a fixed buffer stays as it is; else the buffer is filled, and fixed where it is due
 abbrev pub stepped : Terms → List (ℕ × Entry) → Bool → ℕ → Delivery → Delivery
 stepped t entries closed now d =
-    if d.fixed then d else with_due_fixed t entries closed now (with_end entries closed (filled t entries now d))
+    if d.fixed then d else with_due_fixed t entries closed now
+    (with_end entries closed (filled t entries now d))
 
 -- the held buffer is settled, and the next one is begun
 abbrev pub released : Delivery → Delivery
@@ -243,7 +271,10 @@ has_head is_kind d = option_map_or is_kind d.head false
 -- an offer taken whole: the backlog in it is no longer owed, and end of data ends the delivery
 abbrev pub taken_whole : Delivery → Delivery
 taken_whole d =
-    record (released d) { owed = d.owed && not (has_head is_backlog d); ended = d.ended || has_head is_end_of_data d }
+    record (released d) {
+      owed = d.owed && not (has_head is_backlog d);
+      ended = d.ended || has_head is_end_of_data d;
+    }
 
 -- a timely delivery discards a stalled buffer that has a picked entry
 abbrev pub is_discardable : Mode → Delivery → Bool

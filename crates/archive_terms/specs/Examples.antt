@@ -18,7 +18,13 @@ day_time millis = (20000 * 86400000 + millis) * 10 ^ 9
 -- a frame from the antenna "A": time, quality, frames lost before it, octets
 abbrev pub frame_of : ℕ → ℕ → ℕ → List ℕ → Entry
 frame_of millis quality lost octets =
-    frame (record { ert = time_of millis; quality = quality; antenna = 65 ∷ []; lost = lost; octets = octets })
+    frame (record {
+      ert = time_of millis;
+      quality = quality;
+      antenna = 65 ∷ [];
+      lost = lost;
+      octets = octets;
+    })
 
 -- a good TM frame of spacecraft 1
 abbrev pub small_frame : ℕ → ℕ → Entry
@@ -37,7 +43,8 @@ third = small_frame 3000 163
 abbrev pub sealed : List Entry
 sealed = first ∷ second ∷ third ∷ seal (time_of 3000) ∷ []
 
--- a TM frame of spacecraft 7, and two AOS frames of spacecraft 1 on its channel 63, the second one erred
+-- a TM frame of spacecraft 7, and two AOS frames of spacecraft 1 on its channel 63, the second one
+-- erred
 abbrev pub mixed : List Entry
 mixed =
     frame_of 500 0 0 (0 ∷ 126 ∷ 160 ∷ []) ∷ frame_of 1000 0 0 (64 ∷ 127 ∷ 161 ∷ [])
@@ -49,17 +56,30 @@ lossy = frame_of 1000 0 7 (0 ∷ []) ∷ frame_of 2000 1 2 (0 ∷ []) ∷ frame_
 
 -- the most frames lost before each of three
 abbrev pub lossiest : List Entry
-lossiest = frame_of 1000 0 7 (0 ∷ []) ∷ frame_of 2000 1 16777215 (0 ∷ []) ∷ frame_of 3000 0 1 (0 ∷ []) ∷ []
+lossiest = frame_of 1000 0 7 (0 ∷ []) ∷ frame_of 2000 1 16777215 (0 ∷ [])
+    ∷ frame_of 3000 0 1 (0 ∷ []) ∷ []
 
--- production changes before a frame and behind the seal that closes its time, and a loss between them
+-- production changes before a frame and behind the seal that closes its time, and a loss between
+-- them
 abbrev pub noted : List Entry
 noted =
-    production 0 ∷ first ∷ loss_of_sync (record { at = time_of 1500; carrier = 0; subcarrier = 0; symbol = 1 })
+    production 0 ∷ first ∷ loss_of_sync (record {
+      at = time_of 1500;
+      carrier = 0;
+      subcarrier = 0;
+      symbol = 1;
+    })
     ∷ seal (time_of 2000) ∷ production 1 ∷ []
 
 -- the good frames of a channel
 abbrev pub of_channel : ChannelId → Selection
-of_channel channel = record { filter = by_channel channel; start = None; stop = None; first = 0; notices = false }
+of_channel channel = record {
+  filter = by_channel channel;
+  start = None;
+  stop = None;
+  first = 0;
+  notices = false;
+}
 
 -- all frames and notices from one time to another
 abbrev pub with_notices : ℕ → ℕ → Selection
@@ -112,4 +132,10 @@ rounds_of_stream = map (λ n. free_round n (day_time (400 * n))) twenty
 -- good frames up to a minute are wanted from a place on, so many of them and up to so many octets
 abbrev pub wanted_from : ℕ → ℕ → ℕ → Want
 wanted_from place room octets =
-    wants_items (record { selection = (from_to 0 60000).selection; place = place; since = None; room = room; octets = octets })
+    wants_items (record {
+      selection = (from_to 0 60000).selection;
+      place = place;
+      since = None;
+      room = room;
+      octets = octets;
+    })

@@ -1,14 +1,15 @@
--- What a look at the archive gives: the picked entries that a delivery wants next, and what status reports tell. This product's
--- own.
-use Rattle.std.specs.Prelude.{ℕ, ◌+◌, Bool, ◌&&◌, nat_lt, nat_le, Option, List, [], map, length, take, false, ℤ}
+-- What a look at the archive gives: the picked entries that a delivery wants next, and what status
+-- reports tell. This product's own.
+use Rattle.std.specs.Prelude.{ℕ, ◌+◌, Bool, ◌&&◌, nat_lt, nat_le, Option, List, [], map, length}
+use Rattle.std.specs.Prelude.{take, false, ℤ}
 use Rattle.std.specs.List.{filter, fold, sum, prefix_len, enumerate_from}
 use Rattle.archive_terms.specs.Archive.{Entry, frame, loss_of_sync, production}
 use Rattle.archive_terms.specs.Selection.{Selection, picked, is_stop_closed}
 use Rattle.archive_terms.specs.Delivery.{Item, archived_items, frame_octets}
 use Rattle.archive_terms.specs.Continuity.{told_items}
 
--- what a START wants of its picked entries: from a place on, behind a frame that was handed over or is held, so many of them,
--- and up to the one with which so many octets of frames are reached
+-- what a START wants of its picked entries: from a place on, behind a frame that was handed over or
+-- is held, so many of them, and up to the one with which so many octets of frames are reached
 pub record Wanted : Type 0 where
   pub selection : Selection
   pub place : ℕ
@@ -26,11 +27,12 @@ pub data Want : Type 0 where
 abbrev pub picked_from : List Entry → Selection → ℕ → List (ℕ × Entry)
 picked_from entries s place = filter (λ x. nat_le place x.0) (picked entries s)
 
--- how many of the waiting entries are given, by the octets of their frames: they end with the room, or with the one that
--- reaches the wanted octets
+-- how many of the waiting entries are given, by the octets of their frames: they end with the room,
+-- or with the one that reaches the wanted octets
 abbrev pub given : ℕ → ℕ → List ℕ → ℕ
 given room octets lengths =
-    prefix_len (λ x. nat_lt x.0 room && nat_lt (sum (take x.0 lengths)) octets) (enumerate_from 0 lengths)
+    prefix_len (λ x. nat_lt x.0 room && nat_lt (sum (take x.0 lengths)) octets)
+    (enumerate_from 0 lengths)
 
 abbrev pub lengths_of : List (ℕ × Entry) → List ℕ
 lengths_of entries = map frame_octets (archived_items entries)
@@ -38,7 +40,8 @@ lengths_of entries = map frame_octets (archived_items entries)
 -- the picked entries that are given
 abbrev pub given_of : List Entry → Wanted → List (ℕ × Entry)
 given_of entries w =
-    let waiting = picked_from entries w.selection w.place in take (given w.room w.octets (lengths_of waiting)) waiting
+    let waiting = picked_from entries w.selection w.place in
+    take (given w.room w.octets (lengths_of waiting)) waiting
 
 -- the place behind the last of some entries, or the one before them
 abbrev pub place_behind : ℕ → List (ℕ × Entry) → ℕ
@@ -52,9 +55,15 @@ pub record Locks : Type 0 where
   pub carrier : ℕ
 
 abbrev pub all_locks : ℕ → Locks
-all_locks status = record { frame_sync = status; symbol = status; subcarrier = status; carrier = status }
+all_locks status = record {
+  frame_sync = status;
+  symbol = status;
+  subcarrier = status;
+  carrier = status;
+}
 
--- after a frame all are in lock (0); after a loss frame synchronisation is lost (1), and the others are the loss's own
+-- after a frame all are in lock (0); after a loss frame synchronisation is lost (1), and the others
+-- are the loss's own
 abbrev pub locks_after : Locks → Entry → Locks
 locks_after locks (frame _) = all_locks 0
 locks_after locks (loss_of_sync l) =
@@ -73,8 +82,9 @@ production_after status _ = status
 abbrev pub production_status : List Entry → ℕ
 production_status entries = fold production_after 0 entries
 
--- what a look gives: how many entries are published; the wanted items, each with its continuity; the place behind them;
--- whether a picked one remains; whether the stop is known and closed; and the statuses of a report
+-- what a look gives: how many entries are published; the wanted items, each with its continuity;
+-- the place behind them; whether a picked one remains; whether the stop is known and closed; and
+-- the statuses of a report
 pub record Glimpse : Type 0 where
   pub front : ℕ
   pub items : List (Item × Option ℤ)

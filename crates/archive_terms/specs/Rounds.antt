@@ -1,10 +1,12 @@
 -- A delivery over the rounds of its session: what was offered, and what became of it.
-use Rattle.std.specs.Prelude.{◌≡◌, ℕ, ◌≤◌, Bool, true, false, not, IsTrue, if◌then◌else◌, Option, Some, None, List, [], ◌∷◌, length, take, drop, slice_get}
+use Rattle.std.specs.Prelude.{◌≡◌, ℕ, ◌≤◌, Bool, true, false, not, IsTrue, if◌then◌else◌, Option}
+use Rattle.std.specs.Prelude.{Some, None, List, [], ◌∷◌, length, take, drop, slice_get}
 use Rattle.std.specs.List.{All, filter, list_any, list_all, flat_map, filter_map, after_last}
 use Rattle.std.specs.Option.{is_some, option_or, option_map_or}
 use Rattle.archive_terms.specs.Archive.{Entry}
 use Rattle.archive_terms.specs.Selection.{picked, is_stop_closed}
-use Rattle.archive_terms.specs.Delivery.{Item, all_items, Terms, Delivery, is_archived, is_backlog, buffer, stepped, taken_whole, stalled, is_discardable}
+use Rattle.archive_terms.specs.Delivery.{Item, all_items, Terms, Delivery, is_archived, is_backlog}
+use Rattle.archive_terms.specs.Delivery.{buffer, stepped, taken_whole, stalled, is_discardable}
 
 -- the answers of a link to an offer
 pub data Answer : Type 0 where
@@ -12,8 +14,9 @@ pub data Answer : Type 0 where
   stall : Answer
   fail : Answer
 
--- what a round finds on its link: a block of an earlier round that waits still, a block of its own that waits, no block, and
--- then the answer to a buffer that is offered; or a link that failed before
+-- what a round finds on its link: a block of an earlier round that waits still, a block of its own
+-- that waits, no block, and then the answer to a buffer that is offered; or a link that failed
+-- before
 pub data Link : Type 0 where
   blocked : Link
   waiting : Link
@@ -30,12 +33,14 @@ pub record Round : Type 0 where
 abbrev pub free_round : ℕ → ℕ → Round
 free_round front now = record { front = front; now = now; link = free whole }
 
--- what a round did: the buffer that it offered, with the link's answer, and the buffer that it discarded
+-- what a round did: the buffer that it offered, with the link's answer, and the buffer that it
+-- discarded
 pub record Outcome : Type 0 where
   pub offer : Option (List Item × Answer)
   pub dropped : Option (List Item)
 
--- it offered nothing; it handed a buffer over, had it stalled and kept it, had it stalled and discarded it; its link failed
+-- it offered nothing; it handed a buffer over, had it stalled and kept it, had it stalled and
+-- discarded it; its link failed
 abbrev pub nothing : Outcome
 nothing = record { offer = None; dropped = None }
 
@@ -55,7 +60,8 @@ failed items = record { offer = Some (items, fail); dropped = None }
 abbrev pub picked_at : Terms → List Entry → ℕ → List (ℕ × Entry)
 picked_at t entries front = picked (take front entries) t.selection
 
--- a round takes a step of the delivery but where a block of an earlier round waits or the link failed
+-- a round takes a step of the delivery but where a block of an earlier round waits or the link
+-- failed
 abbrev pub takes_step : Link → Bool
 takes_step blocked = false
 takes_step broken = false
@@ -65,7 +71,8 @@ takes_step _ = true
 abbrev pub at_round : Terms → List Entry → Round → Delivery → Delivery
 at_round t entries r d =
     if takes_step r.link
-    then stepped t (picked_at t entries r.front) (is_stop_closed t.selection (take r.front entries)) r.now d
+    then stepped t (picked_at t entries r.front) (is_stop_closed t.selection (take r.front entries))
+    r.now d
     else d
 
 -- the answer to a buffer that is offered: a fixed one, where no block waits
@@ -89,12 +96,14 @@ fate t fail d items = failed items
 -- the delivery after a round, and what the round did
 abbrev pub after_round : Terms → List Entry → Round → Delivery → Delivery
 after_round t entries r d =
-    let after = at_round t entries r d in option_map_or (λ answer. answered t answer after) (answer_at r after) after
+    let after = at_round t entries r d in
+    option_map_or (λ answer. answered t answer after) (answer_at r after) after
 
 abbrev pub outcome : Terms → List Entry → Round → Delivery → Outcome
 outcome t entries r d =
     let after = at_round t entries r d in
-    option_map_or (λ answer. fate t answer after (buffer (picked_at t entries r.front) after)) (answer_at r after) nothing
+    option_map_or (λ answer. fate t answer after (buffer (picked_at t entries r.front) after))
+    (answer_at r after) nothing
 
 -- a link that failed ends the run
 abbrev pub is_failed : Link → Option Answer → Bool
@@ -109,7 +118,8 @@ ends_run t entries r d = is_failed r.link (answer_at r (at_round t entries r d))
 abbrev pub after_rounds : Terms → List Entry → List Round → Delivery → Delivery
 after_rounds t entries [] d = d
 after_rounds t entries (r ∷ rounds) d =
-    if ends_run t entries r d then after_round t entries r d else after_rounds t entries rounds (after_round t entries r d)
+    if ends_run t entries r d then after_round t entries r d
+    else after_rounds t entries rounds (after_round t entries r d)
 
 abbrev pub outcomes : Terms → List Entry → List Round → Delivery → List Outcome
 outcomes t entries [] d = []
@@ -178,7 +188,8 @@ is_discarded o = is_some o.dropped
 abbrev pub is_untold : List Outcome → Bool
 is_untold done = list_any is_discarded (after_last is_handed done)
 
--- what is to be discarded of an offer: a buffer with a picked entry that the link answered with a stall
+-- what is to be discarded of an offer: a buffer with a picked entry that the link answered with a
+-- stall
 abbrev pub to_discard : Option (List Item × Answer) → Option (List Item)
 to_discard (Some (items, stall)) = if list_any is_archived items then Some items else None
 to_discard _ = None
@@ -189,13 +200,16 @@ IsDiscardedRightly o = o.dropped ≡ to_discard o.offer
 abbrev pub has_no_later_backlog : List Item → Bool
 has_no_later_backlog items = not (list_any is_backlog (drop 1 items))
 
--- the shape of what a timely delivery did (CCSDS 911.1-B, timely online delivery): what was handed over and discarded is in order
--- a prefix of what is to be handed over; a buffer was discarded in a round exactly where it was offered in that round, the
--- link stalled, and it has a picked entry; a buffer handed over begins with a backlog exactly where one was discarded since
--- the last buffer handed over; and no other place holds a backlog
+-- the shape of what a timely delivery did (CCSDS 911.1-B, timely online delivery): what was handed
+-- over and discarded is in order a prefix of what is to be handed over; a buffer was discarded in a
+-- round exactly where it was offered in that round, the link stalled, and it has a picked entry; a
+-- buffer handed over begins with a backlog exactly where one was discarded since the last buffer
+-- handed over; and no other place holds a backlog
 pub record TimelyShape (all : List Item) (done : List Outcome) : Type 0 where
-  pub in_order : take (length (without_backlog (settled_items done))) all ≡ without_backlog (settled_items done)
+  pub in_order : take (length (without_backlog (settled_items done))) all
+      ≡ without_backlog (settled_items done)
   pub discarded_where_stalled : All IsDiscardedRightly done
-  pub told : (i : ℕ) (o : Outcome) (items : List Item) → slice_get done i ≡ Some o → handed_buffer o ≡ Some items
+  pub told : (i : ℕ) (o : Outcome) (items : List Item) → slice_get done i ≡ Some o
+      → handed_buffer o ≡ Some items
       → begins_with_backlog items ≡ is_untold (take i done)
   pub nowhere_else : IsTrue (list_all has_no_later_backlog (handed_buffers done))

@@ -1,17 +1,46 @@
-// Laws of the definitions, each the contract of an empty function: a caller has the law by the call.
-ghost use Rattle.std.specs.Prelude.{◌≡◌, ℕ, ◌+◌, ◌*◌, ◌^◌, ◌<◌, ◌≤◌, Bool, true, false, ◌&&◌, ◌||◌, ◌⊎◌, IsTrue, IsFalse, nat_lt, nat_le, min, if◌then◌else◌, List, [], ◌∷◌, ◌++◌, length, map, take, slice_get, slice_index, slice_index_or, Option, Some, None, pos, negsuc};
-ghost use Rattle.std.specs.List.{All, list_all, list_any, filter, flat_map, filter_map, enumerate_from, sum};
+// Laws of the definitions, each the contract of an empty function: a caller has the law by the
+// call.
+ghost use Rattle.std.specs.Prelude.{◌≡◌, ℕ, ◌+◌, ◌*◌, ◌^◌, ◌<◌, ◌≤◌, Bool, true, false, ◌&&◌, ◌||◌};
+ghost use Rattle.std.specs.Prelude.{◌⊎◌, IsTrue, IsFalse, nat_lt, nat_le, min, if◌then◌else◌, List};
+ghost use Rattle.std.specs.Prelude.{[], ◌∷◌, ◌++◌, length, map, take, slice_get, slice_index};
+ghost use Rattle.std.specs.Prelude.{slice_index_or, Option, Some, None, pos, negsuc};
+ghost use Rattle.std.specs.List.{All, list_all, list_any, filter, flat_map, filter_map};
+ghost use Rattle.std.specs.List.{enumerate_from, sum};
 ghost use Rattle.std.specs.Option.{option_map_or};
 ghost use Rattle.std.specs.List.Sorted.{IsStrictlyIncreasing};
 ghost use Rattle.archive_terms.specs.declared.limits.TheConstants.{GREATEST_LOST};
-ghost use Rattle.archive_terms.specs.Archive.{Entry, seal, is_valid, is_storable, keeps_order, is_ordered, is_archive, IsArchive, may_follow, frame_time, seal_time, last_time, is_in_order, is_closed};
-ghost use Rattle.archive_terms.specs.Selection.{Selection, by_quality, ChannelId, master, virtual, channel_of, admits, is_told, picked, is_stop_closed};
-ghost use Rattle.archive_terms.specs.Delivery.{timely, complete, offline, first_position, selection_of, is_full_of, is_due_of, is_timely, is_online, Item, archived, backlog, end_of_data, archived_items, entries_of, is_archived, is_end_of_data, is_complete, is_short_frame, buffer_length, IsBuffer, cut, offline_buffers, all_items, Terms, Delivery, buffer, started};
-ghost use Rattle.archive_terms.specs.Rounds.{whole, stall, Link, blocked, waiting, free, fail, Round, free_round, at_round, after_round, outcome, ends_run, handed_buffer, picked_at, Outcome, nothing, handed, kept, discarded, failed, outcomes, handed_buffers, handed_items, settled_items, without_backlog, FrontsRise, last_front, to_hand_over, TimelyShape};
-ghost use Rattle.archive_terms.specs.Continuity.{frame_places, last_frame, with_frame_before, continuity, continuities, told_items, told_buffers, gap, gaps, lost_of, lost_up_to, lost_between};
+ghost use Rattle.archive_terms.specs.Archive.{Entry, seal, is_valid, is_storable, keeps_order};
+ghost use Rattle.archive_terms.specs.Archive.{is_ordered, is_archive, IsArchive, may_follow};
+ghost use Rattle.archive_terms.specs.Archive.{frame_time, seal_time, last_time, is_in_order};
+ghost use Rattle.archive_terms.specs.Archive.{is_closed};
+ghost use Rattle.archive_terms.specs.Selection.{Selection, by_quality, ChannelId, master, virtual};
+ghost use Rattle.archive_terms.specs.Selection.{channel_of, admits, is_told, picked};
+ghost use Rattle.archive_terms.specs.Selection.{is_stop_closed};
+ghost use Rattle.archive_terms.specs.Delivery.{timely, complete, offline, first_position};
+ghost use Rattle.archive_terms.specs.Delivery.{selection_of, is_full_of, is_due_of, is_timely};
+ghost use Rattle.archive_terms.specs.Delivery.{is_online, Item, archived, backlog, end_of_data};
+ghost use Rattle.archive_terms.specs.Delivery.{archived_items, entries_of, is_archived};
+ghost use Rattle.archive_terms.specs.Delivery.{is_end_of_data, is_complete, is_short_frame};
+ghost use Rattle.archive_terms.specs.Delivery.{buffer_length, IsBuffer, cut, offline_buffers};
+ghost use Rattle.archive_terms.specs.Delivery.{all_items, Terms, Delivery, buffer, started};
+ghost use Rattle.archive_terms.specs.Rounds.{whole, stall, Link, blocked, waiting, free, fail};
+ghost use Rattle.archive_terms.specs.Rounds.{Round, free_round, at_round, after_round, outcome};
+ghost use Rattle.archive_terms.specs.Rounds.{ends_run, handed_buffer, picked_at, Outcome, nothing};
+ghost use Rattle.archive_terms.specs.Rounds.{handed, kept, discarded, failed, outcomes};
+ghost use Rattle.archive_terms.specs.Rounds.{handed_buffers, handed_items, settled_items};
+ghost use Rattle.archive_terms.specs.Rounds.{without_backlog, FrontsRise, last_front, to_hand_over};
+ghost use Rattle.archive_terms.specs.Rounds.{TimelyShape};
+ghost use Rattle.archive_terms.specs.Continuity.{frame_places, last_frame, with_frame_before};
+ghost use Rattle.archive_terms.specs.Continuity.{continuity, continuities, told_items};
+ghost use Rattle.archive_terms.specs.Continuity.{told_buffers, gap, gaps, lost_of, lost_up_to};
+ghost use Rattle.archive_terms.specs.Continuity.{lost_between};
 ghost use Rattle.archive_terms.specs.Glimpse.{given, wants_front, all_locks, glimpse};
 ghost use Rattle.archive_terms.specs.Placed.{Told, placed_at_start, placed_outcomes};
-ghost use Rattle.archive_terms.specs.Examples.{time_of, day_time, small_frame, first, second, third, sealed, mixed, lossy, lossiest, noted, wanted_from, of_channel, with_notices, from_to, all_from, round_on, stalled_round, stream, rounds_of_stream};
+ghost use Rattle.archive_terms.specs.Examples.{time_of, day_time, small_frame, first, second};
+ghost use Rattle.archive_terms.specs.Examples.{third, sealed, mixed, lossy, lossiest, noted};
+ghost use Rattle.archive_terms.specs.Examples.{wanted_from, of_channel, with_notices, from_to};
+ghost use Rattle.archive_terms.specs.Examples.{all_from, round_on, stalled_round, stream};
+ghost use Rattle.archive_terms.specs.Examples.{rounds_of_stream};
 
 /// An archive grows by an entry that may follow it, and a list stays in order behind one that keeps
 /// the order of times.
@@ -22,8 +51,8 @@ pub fn archive_grows()
         → is_ordered (a ++ e ∷ []) ≡ (is_ordered a && keeps_order a e) }
 {}
 
-/// Whether an entry keeps the order of times is seen from the last frame's time and the last seal's,
-/// and so are whether it may follow an archive and which stops are closed.
+/// Whether an entry keeps the order of times is seen from the last frame's time and the last
+/// seal's, and so are whether it may follow an archive and which stops are closed.
 pub fn follows_by_last_times()
     ensures order { (a : List Entry) (e : Entry) → IsTrue (is_ordered a) →
         keeps_order a e ≡ is_in_order (last_time frame_time None a) (last_time seal_time None a) e }
@@ -101,9 +130,10 @@ pub fn cut_into_buffers()
         → IsTrue (is_complete size (slice_index_or (cut size items) k [])) }
 {}
 
-/// What a complete or offline delivery hands over is a prefix of what its START is to hand over: its
-/// entries are a prefix of the picked ones, and end of data stands last, behind all of them, and only
-/// where the stop is closed. It is so for the archive up to the last front, and for each longer one.
+/// What a complete or offline delivery hands over is a prefix of what its START is to hand over:
+/// its entries are a prefix of the picked ones, and end of data stands last, behind all of them,
+/// and only where the stop is closed. It is so for the archive up to the last front, and for each
+/// longer one.
 pub fn complete_delivery()
     ensures items { (t : Terms) (entries later : List Entry) (rounds : List Round)
         → 0 < t.size → IsFalse (is_timely t.mode) → IsArchive entries → FrontsRise 0 rounds
@@ -124,14 +154,15 @@ pub fn complete_delivery()
         × (done ≡ archived_items (picked archive t.selection) ++ end_of_data ∷ []) }
 {}
 
-/// What a timely delivery does has its shape, for the archive up to the last front and for each longer
-/// one. Where end of data was handed over the stop is closed, and all that is picked was handed over or
-/// discarded before.
+/// What a timely delivery does has its shape, for the archive up to the last front and for each
+/// longer one. Where end of data was handed over the stop is closed, and all that is picked was
+/// handed over or discarded before.
 pub fn timely_delivery()
     ensures shape { (t : Terms) (entries later : List Entry) (rounds : List Round)
         → 0 < t.size → IsTrue (is_timely t.mode) → IsArchive entries → FrontsRise 0 rounds
         → let archive = take (last_front 0 rounds) entries ++ later in
-        IsArchive archive → TimelyShape (to_hand_over t archive) (outcomes t entries rounds started) }
+        IsArchive archive → TimelyShape (to_hand_over t archive)
+        (outcomes t entries rounds started) }
     ensures end_of_data { (t : Terms) (entries later : List Entry) (rounds : List Round)
         → 0 < t.size → IsTrue (is_timely t.mode) → IsArchive entries → FrontsRise 0 rounds
         → let archive = take (last_front 0 rounds) entries ++ later in
@@ -142,8 +173,8 @@ pub fn timely_delivery()
         ≡ archived_items (picked archive t.selection) ++ end_of_data ∷ []) }
 {}
 
-/// In the shape of a timely delivery nothing is discarded but a buffer that was offered in that round,
-/// that the link stalled and that has a picked entry.
+/// In the shape of a timely delivery nothing is discarded but a buffer that was offered in that
+/// round, that the link stalled and that has a picked entry.
 pub fn a_discard_was_stalled()
     ensures { (all : List Item) (done : List Outcome) (i : ℕ) (o : Outcome) (items : List Item)
         → TimelyShape all done → slice_get done i ≡ Some o → o.dropped ≡ Some items
@@ -176,43 +207,50 @@ pub fn offline_buffers_hold_a_prefix()
         take (length items) (all_items entries closed) ≡ items }
 {}
 
-/// A look gives the greatest number of the waiting entries before the last of which neither the room
-/// nor the wanted octets were reached; only one number is so.
+/// A look gives the greatest number of the waiting entries before the last of which neither the
+/// room nor the wanted octets were reached; only one number is so.
 pub fn given_is_the_greatest()
-    ensures within { (room octets : ℕ) (lengths : List ℕ) → given room octets lengths ≤ length lengths }
+    ensures within { (room octets : ℕ) (lengths : List ℕ)
+        → given room octets lengths ≤ length lengths }
     ensures open { (room octets : ℕ) (lengths : List ℕ) (j : ℕ) → j < given room octets lengths
         → (j < room) × (sum (take j lengths) < octets) }
-    ensures greatest { (room octets : ℕ) (lengths : List ℕ) → given room octets lengths < length lengths →
-        let count = given room octets lengths in (room ≤ count) ⊎ (octets ≤ sum (take count lengths)) }
+    ensures greatest { (room octets : ℕ) (lengths : List ℕ)
+        → given room octets lengths < length lengths →
+        let count = given room octets lengths in
+        (room ≤ count) ⊎ (octets ≤ sum (take count lengths)) }
     ensures alone { (room octets k : ℕ) (lengths : List ℕ) → k ≤ length lengths
         → ((j : ℕ) → j < k → (j < room) × (sum (take j lengths) < octets))
         → (k < length lengths → (room ≤ k) ⊎ (octets ≤ sum (take k lengths)))
         → given room octets lengths ≡ k }
 {}
 
-/// What a round does by its link: where a block of an earlier round waits it takes no step; where its
-/// own block waits, a buffer that is due is fixed and not offered; where none waits, a fixed buffer is
-/// offered, and handed over where it is taken; a link that failed ends the run, with nothing handed
-/// over in that round.
+/// What a round does by its link: where a block of an earlier round waits it takes no step; where
+/// its own block waits, a buffer that is due is fixed and not offered; where none waits, a fixed
+/// buffer is offered, and handed over where it is taken; a link that failed ends the run, with
+/// nothing handed over in that round.
 pub fn rounds_by_link()
-    ensures blocked { (t : Terms) (entries : List Entry) (r : Round) (d : Delivery) → r.link ≡ blocked
+    ensures blocked { (t : Terms) (entries : List Entry) (r : Round) (d : Delivery)
+        → r.link ≡ blocked
         → (after_round t entries r d ≡ d) × (outcome t entries r d ≡ nothing) }
-    ensures waiting { (t : Terms) (entries : List Entry) (r : Round) (d : Delivery) → r.link ≡ waiting
+    ensures waiting { (t : Terms) (entries : List Entry) (r : Round) (d : Delivery)
+        → r.link ≡ waiting
         → (after_round t entries r d ≡ at_round t entries r d) × (outcome t entries r d ≡ nothing) }
-    ensures taken { (t : Terms) (entries : List Entry) (r : Round) (d : Delivery) → r.link ≡ free whole →
+    ensures taken { (t : Terms) (entries : List Entry) (r : Round) (d : Delivery)
+        → r.link ≡ free whole →
         let after = at_round t entries r d in after.fixed ≡ true
         → outcome t entries r d ≡ handed (buffer (picked_at t entries r.front) after) }
     ensures not_due { (t : Terms) (entries : List Entry) (r : Round) (d : Delivery)
         → (at_round t entries r d).fixed ≡ false → outcome t entries r d ≡ nothing }
-    ensures failed { (t : Terms) (entries : List Entry) (r : Round) (rounds : List Round) (d : Delivery)
+    ensures failed { (t : Terms) (entries : List Entry) (r : Round) (rounds : List Round)
+        (d : Delivery)
         → IsTrue (ends_run t entries r d)
         → (outcomes t entries (r ∷ rounds) d ≡ outcome t entries r d ∷ [])
         × (handed_buffer (outcome t entries r d) ≡ None) }
 {}
 
-/// A delivery that remembers a place and the last frame that was handed over, and steps on looks at a
-/// growing archive, offers, hands over and discards over any rounds what the one does that counts in
-/// the picked list; and what it hands over has the continuities of the whole archive. Its first
+/// A delivery that remembers a place and the last frame that was handed over, and steps on looks at
+/// a growing archive, offers, hands over and discards over any rounds what the one does that counts
+/// in the picked list; and what it hands over has the continuities of the whole archive. Its first
 /// position is a place of the archive from which the fronts go on.
 pub fn places_are_counts()
     ensures steps { (t : Terms) (entries : List Entry) (rounds : List Round)
@@ -223,7 +261,8 @@ pub fn places_are_counts()
     ensures told { (t : Terms) (entries : List Entry) (rounds : List Round)
         → 0 < t.size → IsArchive entries → t.selection.first ≤ length entries
         → FrontsRise t.selection.first rounds
-        → filter_map (λ (x : Outcome × Option (List Told)). x.1) (placed_outcomes t entries rounds (placed_at_start t))
+        → filter_map (λ (x : Outcome × Option (List Told)). x.1)
+        (placed_outcomes t entries rounds (placed_at_start t))
         ≡ told_buffers entries None (handed_buffers (outcomes t entries rounds started)) }
 {}
 
@@ -242,7 +281,8 @@ pub fn offline_rounds()
         → IsFalse (is_online t.mode)
         → handed_buffers (outcomes t entries (map (free_round front) moments) started)
         ≡ take (length moments)
-        (offline_buffers t.size (picked_at t entries front) (is_stop_closed t.selection (take front entries))) }
+        (offline_buffers t.size (picked_at t entries front)
+        (is_stop_closed t.selection (take front entries))) }
 {}
 
 /// The frames that are handed over rise by their places.
@@ -278,7 +318,8 @@ pub fn continuity_stays()
     ensures of_a_frame { (a b : List Entry) (before : Option ℕ) (place : ℕ) → place < length a
         → continuity (a ++ b) before place ≡ continuity a before place }
     ensures of_buffers { (a b : List Entry) (before : Option ℕ) (buffers : List (List Item))
-        → IsTrue (list_all (λ place. nat_lt place (length a)) (frame_places (flat_map (λ buffer. buffer) buffers)))
+        → IsTrue (list_all (λ place. nat_lt place (length a))
+        (frame_places (flat_map (λ buffer. buffer) buffers)))
         → told_buffers (a ++ b) before buffers ≡ told_buffers a before buffers }
     ensures of_an_offline_start { (size : ℕ) (a b : List Entry) (s : Selection) (closed : Bool) →
         let buffers = offline_buffers size (picked a s) closed in
@@ -286,11 +327,12 @@ pub fn continuity_stays()
     ensures of_a_run { (t : Terms) (entries later : List Entry) (rounds : List Round)
         → 0 < t.size → IsArchive entries → FrontsRise 0 rounds →
         let done = handed_buffers (outcomes t entries rounds started) in
-        told_buffers (take (last_front 0 rounds) entries ++ later) None done ≡ told_buffers entries None done }
+        told_buffers (take (last_front 0 rounds) entries ++ later) None done
+        ≡ told_buffers entries None done }
 {}
 
-/// Running sums of lost frames give what was lost between two places; capped sums add up to a capped
-/// sum, stay as the archive grows, and are a frame's continuity behind another.
+/// Running sums of lost frames give what was lost between two places; capped sums add up to a
+/// capped sum, stay as the archive grows, and are a frame's continuity behind another.
 pub fn lost_sums()
     ensures running { (a : List Entry) (p q : ℕ) → p ≤ q
         → lost_up_to a (p + 1) + lost_between a p q ≡ lost_up_to a (q + 1) }
@@ -322,40 +364,57 @@ pub fn continuities_add_up()
 /// The definitions compute on small archives: a TM and an AOS header; the picks of a channel and of
 /// a master channel; notices that come once a start is reached and until a stop is closed; first
 /// positions and the selections of STARTs; a time that names no moment; frames lost before one that
-/// isn't picked, and a continuity at its greatest; an archive, what is picked of it and that its stop
-/// is closed; a buffer that is full and one that is due; looks that end by room, by octets and with
-/// all; the statuses of a report; an offline START with a closed stop, with nothing to pick, and with
-/// an open stop; an online one that hands over what is published after it, one with blocked rounds,
-/// and one whose link fails; a timely one that is stalled twice, one whose discard is told by a
-/// backlog, by counts and by places; and one with buffers of ten frames.
+/// isn't picked, and a continuity at its greatest; an archive, what is picked of it and that its
+/// stop is closed; a buffer that is full and one that is due; looks that end by room, by octets and
+/// with all; the statuses of a report; an offline START with a closed stop, with nothing to pick,
+/// and with an open stop; an online one that hands over what is published after it, one with
+/// blocked rounds, and one whose link fails; a timely one that is stalled twice, one whose discard
+/// is told by a backlog, by counts and by places; and one with buffers of ten frames.
 pub fn examples()
-    ensures tm_header { channel_of (0 ∷ 126 ∷ []) ≡ Some (record { spacecraft = 7; version = 0; channel = virtual 7 }) }
-    ensures aos_header { channel_of (64 ∷ 127 ∷ []) ≡ Some (record { spacecraft = 1; version = 1; channel = virtual 63 }) }
+    ensures tm_header { channel_of (0 ∷ 126 ∷ [])
+        ≡ Some (record { spacecraft = 7; version = 0; channel = virtual 7 }) }
+    ensures aos_header { channel_of (64 ∷ 127 ∷ [])
+        ≡ Some (record { spacecraft = 1; version = 1; channel = virtual 63 }) }
     ensures unknown_header { channel_of (128 ∷ 0 ∷ []) ≡ None }
     ensures archive { is_archive sealed ≡ true }
     ensures no_archive { is_archive (sealed ++ third ∷ []) ≡ false }
     ensures out_of_order { keeps_order sealed third ≡ false }
     ensures no_moment { is_valid (seal (time_of 86400000)) ≡ false }
-    ensures unadmitted { admits (all_from complete 1 5 0).selection 0 (small_frame 86400000 1) ≡ false }
+    ensures unadmitted { admits (all_from complete 1 5 0).selection 0 (small_frame 86400000 1)
+        ≡ false }
     ensures timely_selection { selection_of timely (by_quality 2) (Some 5) None 3
         ≡ record { filter = by_quality 2; start = Some 5; stop = None; first = 3; notices = true } }
     ensures offline_selection { selection_of offline (by_quality 0) (Some 5) (Some 9) 3
-        ≡ record { filter = by_quality 0; start = Some 5; stop = Some 9; first = 0; notices = false } }
+        ≡ record {
+          filter = by_quality 0;
+          start = Some 5;
+          stop = Some 9;
+          first = 0;
+          notices = false;
+        } }
     ensures full { map (λ n. is_full_of 2 n 524287) (1 ∷ 2 ∷ []) ≡ false ∷ true ∷ [] }
     ensures full_of_octets { is_full_of 9 1 524288 ≡ true }
-    ensures due_by_latency { map (λ now. is_due_of 2 (Some 5) now false (record { count = 1; octets = 1; notified = false; since = 10 })) (14 ∷ 15 ∷ [])
+    ensures due_by_latency { map (λ now. is_due_of 2 (Some 5) now false
+        (record { count = 1; octets = 1; notified = false; since = 10 })) (14 ∷ 15 ∷ [])
         ≡ false ∷ true ∷ [] }
     ensures lost_so_far { map (lost_up_to lossy) (1 ∷ 2 ∷ 3 ∷ []) ≡ 7 ∷ 9 ∷ 12 ∷ [] }
-    ensures told { told_buffers sealed None (offline_buffers 2 (picked sealed (from_to 0 3000).selection) true)
+    ensures told { told_buffers sealed None (offline_buffers 2
+        (picked sealed (from_to 0 3000).selection) true)
         ≡ ((archived 0 first, Some (negsuc 0)) ∷ (archived 1 second, Some (pos 0)) ∷ [])
         ∷ ((archived 2 third, Some (pos 0)) ∷ []) ∷ ((end_of_data, None) ∷ []) ∷ [] }
     ensures picks { picked sealed (from_to 1500 3000).selection ≡ (1, second) ∷ (2, third) ∷ [] }
-    ensures channel_picks { map (λ x. x.0) (picked mixed (of_channel (record { spacecraft = 1; version = 1; channel = virtual 63 }))) ≡ 1 ∷ [] }
-    ensures master_picks { map (λ x. x.0) (picked mixed (of_channel (record { spacecraft = 7; version = 0; channel = master }))) ≡ 0 ∷ [] }
+    ensures channel_picks { map (λ x. x.0) (picked mixed
+        (of_channel (record { spacecraft = 1; version = 1; channel = virtual 63 }))) ≡ 1 ∷ [] }
+    ensures master_picks { map (λ x. x.0) (picked mixed
+        (of_channel (record { spacecraft = 7; version = 0; channel = master }))) ≡ 0 ∷ [] }
     ensures notices { map (λ x. x.0) (picked noted (with_notices 1000 2000)) ≡ 1 ∷ 2 ∷ [] }
-    ensures first_positions { map (λ mode. first_position mode (Some 5) 3) (timely ∷ complete ∷ offline ∷ []) ≡ 3 ∷ 0 ∷ 0 ∷ [] }
-    ensures first_positions_without_start { map (λ mode. first_position mode None 3) (timely ∷ complete ∷ offline ∷ []) ≡ 3 ∷ 3 ∷ 3 ∷ [] }
-    ensures saturated { continuities lossiest (archived_items (picked lossiest (from_to 0 3000).selection)) ≡ negsuc 0 ∷ pos 16777215 ∷ [] }
+    ensures first_positions { map (λ mode. first_position mode (Some 5) 3)
+        (timely ∷ complete ∷ offline ∷ []) ≡ 3 ∷ 0 ∷ 0 ∷ [] }
+    ensures first_positions_without_start { map (λ mode. first_position mode None 3)
+        (timely ∷ complete ∷ offline ∷ []) ≡ 3 ∷ 3 ∷ 3 ∷ [] }
+    ensures saturated { continuities lossiest
+        (archived_items (picked lossiest (from_to 0 3000).selection))
+        ≡ negsuc 0 ∷ pos 16777215 ∷ [] }
     ensures by_room { glimpse sealed (wanted_from 0 2 524288) ≡ record {
       front = 4;
       items = (archived 0 first, Some (negsuc 0)) ∷ (archived 1 second, Some (pos 0)) ∷ [];
@@ -401,30 +460,41 @@ pub fn examples()
       locks = record { frame_sync = 1; symbol = 1; subcarrier = 0; carrier = 0 };
       production = 1;
     } }
-    ensures lost_frames { continuities lossy (archived_items (picked lossy (from_to 0 3000).selection)) ≡ negsuc 0 ∷ pos 5 ∷ [] }
+    ensures lost_frames { continuities lossy (archived_items
+        (picked lossy (from_to 0 3000).selection)) ≡ negsuc 0 ∷ pos 5 ∷ [] }
     ensures closes { is_stop_closed (from_to 0 3000).selection sealed ≡ true }
-    ensures offline_run { outcomes (from_to 0 3000) sealed (map (free_round 4) (0 ∷ 0 ∷ 0 ∷ 0 ∷ [])) started
+    ensures offline_run { outcomes (from_to 0 3000) sealed (map (free_round 4) (0 ∷ 0 ∷ 0 ∷ 0 ∷ []))
+        started
         ≡ handed (archived 0 first ∷ archived 1 second ∷ []) ∷ handed (archived 2 third ∷ [])
         ∷ handed (end_of_data ∷ []) ∷ nothing ∷ [] }
-    ensures nothing_picked { outcomes (from_to 0 0) (seal (time_of 0) ∷ []) (map (free_round 1) (0 ∷ 0 ∷ [])) started
+    ensures nothing_picked { outcomes (from_to 0 0) (seal (time_of 0) ∷ [])
+        (map (free_round 1) (0 ∷ 0 ∷ [])) started
         ≡ handed (end_of_data ∷ []) ∷ nothing ∷ [] }
-    ensures open_stop { outcomes (from_to 0 3000) (take 3 sealed) (map (free_round 3) (0 ∷ 0 ∷ [])) started
+    ensures open_stop { outcomes (from_to 0 3000) (take 3 sealed) (map (free_round 3) (0 ∷ 0 ∷ []))
+        started
         ≡ handed (archived 0 first ∷ archived 1 second ∷ []) ∷ nothing ∷ [] }
-    ensures complete_run { outcomes (all_from complete 1 5 1) sealed (free_round 1 0 ∷ free_round 2 0 ∷ []) started
+    ensures complete_run { outcomes (all_from complete 1 5 1) sealed
+        (free_round 1 0 ∷ free_round 2 0 ∷ []) started
         ≡ nothing ∷ handed (archived 1 second ∷ []) ∷ [] }
     ensures timely_run { outcomes (all_from timely 1 5 0) sealed
         (stalled_round 1 0 ∷ stalled_round 1 0 ∷ free_round 2 0 ∷ free_round 2 0 ∷ []) started
         ≡ discarded (archived 0 first ∷ []) ∷ kept (backlog ∷ [])
         ∷ handed (backlog ∷ []) ∷ handed (archived 1 second ∷ []) ∷ [] }
-    ensures blocked_run { outcomes (all_from complete 1 5 0) sealed (round_on blocked 1 0 ∷ round_on waiting 1 0 ∷ round_on blocked 2 0 ∷ free_round 2 0 ∷ []) started
+    ensures blocked_run { outcomes (all_from complete 1 5 0) sealed
+        (round_on blocked 1 0 ∷ round_on waiting 1 0 ∷ round_on blocked 2 0 ∷ free_round 2 0 ∷ [])
+        started
         ≡ nothing ∷ nothing ∷ nothing ∷ handed (archived 0 first ∷ []) ∷ [] }
-    ensures broken_run { outcomes (all_from complete 1 5 0) sealed (round_on (free fail) 1 0 ∷ free_round 1 0 ∷ []) started
+    ensures broken_run { outcomes (all_from complete 1 5 0) sealed
+        (round_on (free fail) 1 0 ∷ free_round 1 0 ∷ []) started
         ≡ failed (archived 0 first ∷ []) ∷ [] }
-    ensures told_by_backlog { outcomes (all_from timely 2 5 0) sealed (stalled_round 2 0 ∷ round_on waiting 3 0 ∷ free_round 3 (5 * 10 ^ 12) ∷ []) started
+    ensures told_by_backlog { outcomes (all_from timely 2 5 0) sealed
+        (stalled_round 2 0 ∷ round_on waiting 3 0 ∷ free_round 3 (5 * 10 ^ 12) ∷ []) started
         ≡ discarded (archived 0 first ∷ archived 1 second ∷ []) ∷ nothing
         ∷ handed (backlog ∷ archived 2 third ∷ []) ∷ [] }
     ensures placed_run { let t = all_from timely 2 5 0 in
-        map (λ x. x.0) (placed_outcomes t sealed (stalled_round 2 0 ∷ round_on waiting 3 0 ∷ free_round 3 (5 * 10 ^ 12) ∷ []) (placed_at_start t))
+        map (λ x. x.0) (placed_outcomes t sealed
+        (stalled_round 2 0 ∷ round_on waiting 3 0 ∷ free_round 3 (5 * 10 ^ 12) ∷ [])
+        (placed_at_start t))
         ≡ discarded (archived 0 first ∷ archived 1 second ∷ []) ∷ nothing
         ∷ handed (backlog ∷ archived 2 third ∷ []) ∷ [] }
     ensures buffers_of_ten { let rounds = rounds_of_stream ++ free_round 20 (day_time 37600) ∷ [] in

@@ -1,5 +1,6 @@
 -- Lists of messages: what passes in them.
-use Rattle.std.proofs.Common.{◌≡◌, ◌≢◌, ◌⊎◌, inl, inr, ℕ, Bool, true, false, if◌then◌else◌, Option, Some, None, List, [], ◌∷◌, refl, sym, ◌∙◌, ap, subst}
+use Rattle.std.proofs.Common.{◌≡◌, ◌≢◌, ◌⊎◌, inl, inr, ℕ, Bool, true, false, if◌then◌else◌, Option}
+use Rattle.std.proofs.Common.{Some, None, List, [], ◌∷◌, refl, sym, ◌∙◌, ap, subst}
 use Rattle.std.specs.List.{cons_option, filter_map, AllByRecursion}
 use Rattle.station_config.specs.declared.site.Site.{Site}
 use Rattle.assoc_core.specs.declared.outcome.Outcome.{Outcome}
@@ -12,10 +13,12 @@ use Rattle.assoc_core.specs.declared.step.Step.TheVariants as step
 use Rattle.assoc_core.specs.Kind.{Kind, context, bind, unbind, start, stop, peer_abort, Message}
 use Rattle.assoc_core.specs.State.{binding_of, moved}
 use Rattle.assoc_core.specs.Association.{is_in_place, goes_on, after_step, step as step_of}
-use Rattle.assoc_core.specs.Run.{Turn, after_turn, after, Played, plays, is_pass, passed_kind, passed, is_of_bound, MayLead, AreLed}
+use Rattle.assoc_core.specs.Run.{Turn, after_turn, after, Played, plays, is_pass, passed_kind}
+use Rattle.assoc_core.specs.Run.{passed, is_of_bound, MayLead, AreLed}
 use Rattle.assoc_core.specs.Laws.{IsContextFirst, IsBindOf, AnyByRecursion, IsBoundBy}
 use Rattle.assoc_core.proofs.Told.{differ, is_false}
-use Rattle.assoc_core.proofs.Steps.{passes, opens, closed, IsOpened, opened_stays, closing_stays, was_bound, somebody, nobody}
+use Rattle.assoc_core.proofs.Steps.{passes, opens, closed, IsOpened, opened_stays, closing_stays}
+use Rattle.assoc_core.proofs.Steps.{was_bound, somebody, nobody}
 
 abbrev one : Site → State → Turn → Played
 one site s turn = record { turn = turn; step = step_of site s turn.message }
@@ -33,34 +36,42 @@ shut_either false = refl
 
 stays_closing : (site : Site) (turn : Turn) → after_turn site state.Closing turn ≡ state.Closing
 stays_closing site turn =
-    ap (λ (s : State). moved s turn.outcome) (shut_either (goes_on turn.message.kind (step_of site state.Closing turn.message)))
+    ap (λ (s : State). moved s turn.outcome) (shut_either
+    (goes_on turn.message.kind (step_of site state.Closing turn.message)))
     ∙ closing_stays turn.outcome
 
 not_passed : (site : Site) (m : Message) → is_pass (step_of site state.Closing m) ≡ false
 not_passed site m =
-    is_false (is_pass (step_of site state.Closing m)) (λ e. closed site m (is_passed (step_of site state.Closing m) e))
+    is_false (is_pass (step_of site state.Closing m))
+    (λ e. closed site m (is_passed (step_of site state.Closing m) e))
 
 -- nothing passes at a turn of a message that doesn't
-skipped : (p : Played) (others : List Kind) → is_pass p.step ≡ false → cons_option (passed_kind p) others ≡ others
+skipped : (p : Played) (others : List Kind) → is_pass p.step ≡ false
+    → cons_option (passed_kind p) others ≡ others
 skipped p others e = rw e refl
 
-pub nothing_passes : (site : Site) (turns : List Turn) → passed (plays site state.Closing turns) ≡ []
+pub nothing_passes : (site : Site) (turns : List Turn)
+    → passed (plays site state.Closing turns) ≡ []
 nothing_passes site [] = refl
 nothing_passes site (turn ∷ turns) =
-    skipped (one site state.Closing turn) (passed (plays site (after_turn site state.Closing turn) turns)) (not_passed site turn.message)
+    skipped (one site state.Closing turn) (passed
+    (plays site (after_turn site state.Closing turn) turns)) (not_passed site turn.message)
     ∙ ap (λ (s : State). passed (plays site s turns)) (stays_closing site turn)
     ∙ nothing_passes site turns
 
-ends_closed : (site : Site) (s : State) (turn : Turn) → goes_on turn.message.kind (step_of site s turn.message) ≡ false
+ends_closed : (site : Site) (s : State) (turn : Turn)
+    → goes_on turn.message.kind (step_of site s turn.message) ≡ false
     → after_turn site s turn ≡ state.Closing
 ends_closed site s turn e =
-    ap (λ (b : Bool). moved (if b then s else state.Closing) turn.outcome) e ∙ closing_stays turn.outcome
+    ap (λ (b : Bool). moved (if b then s else state.Closing) turn.outcome) e
+    ∙ closing_stays turn.outcome
 
 pub nothing_after_the_end : (site : Site) (s : State) (turn : Turn) (turns : List Turn)
     → goes_on turn.message.kind (step_of site s turn.message) ≡ false
     → passed (plays site (after_turn site s turn) turns) ≡ []
 nothing_after_the_end site s turn turns e =
-    ap (λ (s : State). passed (plays site s turns)) (ends_closed site s turn e) ∙ nothing_passes site turns
+    ap (λ (s : State). passed (plays site s turns)) (ends_closed site s turn e)
+    ∙ nothing_passes site turns
 
 -- ---- opening
 
@@ -71,13 +82,16 @@ ends _ step.Pass e = absurd (differ e)
 ends _ step.Denied e = refl
 ends _ (step.Abort diagnostic) e = refl
 
-all_of : (P : Kind → Type 0) (p : Played) (others : List Kind) → (is_pass p.step ≡ true → P p.turn.message.kind)
+all_of : (P : Kind → Type 0) (p : Played) (others : List Kind)
+    → (is_pass p.step ≡ true → P p.turn.message.kind)
     → AllByRecursion P others → AllByRecursion P (cons_option (passed_kind p) others)
 all_of P p others first rest =
-    elim (is_pass p.step) as (λ b. is_pass p.step ≡ b → AllByRecursion P (cons_option (if b then Some p.turn.message.kind else None) others))
+    elim (is_pass p.step) as (λ b. is_pass p.step ≡ b
+    → AllByRecursion P (cons_option (if b then Some p.turn.message.kind else None) others))
     [ true ↦ λ e. (first e, rest) | false ↦ λ e. rest ] refl
 
-opened_or_closed : (going : Bool) (s : State) → IsOpened s → IsOpened (if going then s else state.Closing)
+opened_or_closed : (going : Bool) (s : State) → IsOpened s
+    → IsOpened (if going then s else state.Closing)
 opened_or_closed true s is = is
 opened_or_closed false s is = record { out_of_place = refl }
 
@@ -87,7 +101,8 @@ no_context site s [] is = tt
 no_context site s (turn ∷ turns) is =
     all_of (λ k. k ≢ context) (one site s turn) (passed (plays site (after_turn site s turn) turns))
     (λ e same. differ
-    (sym (subst (λ k. is_in_place s k ≡ true) same (passes site s turn.message (is_passed (step_of site s turn.message) e)).is_placed)
+    (sym (subst (λ k. is_in_place s k ≡ true) same
+    (passes site s turn.message (is_passed (step_of site s turn.message) e)).is_placed)
     ∙ is.out_of_place))
     (no_context site (after_turn site s turn) turns
     (opened_stays (after_step s turn.message.kind (step_of site s turn.message)) turn.outcome
@@ -107,11 +122,14 @@ unbound_after : (site : Site) (turn : Turn) → MayLead turn.message.kind turn.o
 unbound_after site turn may pass same =
     ap (λ (b : Bool). moved (if b then state.Opening else state.Closing) turn.outcome)
     (goes_on_context turn.message.kind (step_of site state.Opening turn.message) same pass)
-    ∙ ap (λ (o : Outcome). moved state.Opening o) (led_context turn.outcome (subst (λ k. MayLead k turn.outcome) same may))
+    ∙ ap (λ (o : Outcome). moved state.Opening o)
+    (led_context turn.outcome (subst (λ k. MayLead k turn.outcome) same may))
 
-first_passes : (site : Site) (turn : Turn) (turns : List Turn) → MayLead turn.message.kind turn.outcome
+first_passes : (site : Site) (turn : Turn) (turns : List Turn)
+    → MayLead turn.message.kind turn.outcome
     → step_of site state.Opening turn.message ≡ step.Pass
-    → IsContextFirst (turn.message.kind ∷ passed (plays site (after_turn site state.Opening turn) turns))
+    → IsContextFirst (turn.message.kind ∷ passed
+    (plays site (after_turn site state.Opening turn) turns))
 first_passes site turn turns may pass =
     let same = opens turn.message.kind (passes site state.Opening turn.message pass).is_placed in
     let opened : IsOpened state.Unbound = record { out_of_place = refl } in (
@@ -120,26 +138,32 @@ first_passes site turn turns may pass =
           (subst IsOpened (sym (unbound_after site turn may pass same)) opened),
     )
 
-first_fails : (site : Site) (turn : Turn) (turns : List Turn) → is_pass (step_of site state.Opening turn.message) ≡ false
+first_fails : (site : Site) (turn : Turn) (turns : List Turn)
+    → is_pass (step_of site state.Opening turn.message) ≡ false
     → IsContextFirst (passed (plays site (after_turn site state.Opening turn) turns))
 first_fails site turn turns e =
     subst IsContextFirst
-    (sym (nothing_after_the_end site state.Opening turn turns (ends turn.message.kind (step_of site state.Opening turn.message) e)))
+    (sym (nothing_after_the_end site state.Opening turn turns
+    (ends turn.message.kind (step_of site state.Opening turn.message) e)))
     tt
 
-pub context_first : (site : Site) (turns : List Turn) → AreLed turns → IsContextFirst (passed (plays site state.Opening turns))
+pub context_first : (site : Site) (turns : List Turn) → AreLed turns
+    → IsContextFirst (passed (plays site state.Opening turns))
 context_first site [] led = tt
 context_first site (turn ∷ turns) led =
     elim (is_pass (step_of site state.Opening turn.message))
     as (λ b. is_pass (step_of site state.Opening turn.message) ≡ b
-    → IsContextFirst (cons_option (if b then Some turn.message.kind else None) (passed (plays site (after_turn site state.Opening turn) turns)))) [
-      | true ↦ λ e. first_passes site turn turns led.0 (is_passed (step_of site state.Opening turn.message) e)
+    → IsContextFirst (cons_option (if b then Some turn.message.kind else None)
+    (passed (plays site (after_turn site state.Opening turn) turns)))) [
+      | true ↦ λ e. first_passes site turn turns led.0
+          (is_passed (step_of site state.Opening turn.message) e)
       | false ↦ λ e. first_fails site turn turns e
     ] refl
 
 -- ---- bound
 
-led_bound : (k : Kind) (peer : ℕ) (forward : Bool) → MayLead k (outcome.Bound peer forward) → k ≡ bind
+led_bound : (k : Kind) (peer : ℕ) (forward : Bool) → MayLead k (outcome.Bound peer forward)
+    → k ≡ bind
 led_bound bind peer forward may = refl
 led_bound _ peer forward may = absurd may
 
@@ -149,7 +173,8 @@ on _ step.Pass e = refl
 on _ step.Denied e = absurd (differ (sym e))
 on _ (step.Abort diagnostic) e = absurd (differ (sym e))
 
-left_open : (going : Bool) (s : State) (binding : Binding) → binding_of (if going then s else state.Closing) ≡ Some binding
+left_open : (going : Bool) (s : State) (binding : Binding)
+    → binding_of (if going then s else state.Closing) ≡ Some binding
     → binding_of s ≡ Some binding
 left_open true s binding e = e
 left_open false s binding e = nobody binding e
@@ -158,18 +183,25 @@ is_unbound : State → Bool
 is_unbound state.Unbound = true
 is_unbound _ = false
 
-went_on : (going : Bool) (s : State) → (if going then s else state.Closing) ≡ state.Unbound → going ≡ true
+went_on : (going : Bool) (s : State) → (if going then s else state.Closing) ≡ state.Unbound
+    → going ≡ true
 went_on true s e = refl
 went_on false s e = cc
 
-one_turn : (site : Site) (s : State) (turn : Turn) (binding : Binding) → MayLead turn.message.kind turn.outcome
-    → binding_of (after_turn site s turn) ≡ Some binding → (binding_of s ≡ Some binding) ⊎ IsBindOf binding (one site s turn)
+one_turn : (site : Site) (s : State) (turn : Turn) (binding : Binding)
+    → MayLead turn.message.kind turn.outcome
+    → binding_of (after_turn site s turn) ≡ Some binding
+    → (binding_of s ≡ Some binding) ⊎ IsBindOf binding (one site s turn)
 one_turn site s turn binding may e =
-    elim (was_bound (after_step s turn.message.kind (step_of site s turn.message)) turn.outcome binding e) [
-      | inl kept ↦ inl (left_open (goes_on turn.message.kind (step_of site s turn.message)) s binding kept)
+    elim (was_bound (after_step s turn.message.kind (step_of site s turn.message)) turn.outcome
+    binding e) [
+      | inl kept ↦ inl (left_open (goes_on turn.message.kind (step_of site s turn.message)) s
+          binding kept)
       | inr told ↦ inr (record {
-        passes = on turn.message.kind (step_of site s turn.message) (went_on (goes_on turn.message.kind (step_of site s turn.message)) s told.0);
-        kind = led_bound turn.message.kind binding.peer binding.forward (subst (λ (o : Outcome). MayLead turn.message.kind o) told.1 may);
+        passes = on turn.message.kind (step_of site s turn.message)
+            (went_on (goes_on turn.message.kind (step_of site s turn.message)) s told.0);
+        kind = led_bound turn.message.kind binding.peer binding.forward
+            (subst (λ (o : Outcome). MayLead turn.message.kind o) told.1 may);
         outcome = told.1;
       })
     ]
@@ -180,18 +212,22 @@ bound_in : (site : Site) (s : State) (turns : List Turn) (binding : Binding) →
 bound_in site s [] binding led e = inl e
 bound_in site s (turn ∷ turns) binding led e =
     elim (bound_in site (after_turn site s turn) turns binding led.1 e) [
-      | inl before ↦ elim (one_turn site s turn binding led.0 before) [ inl old ↦ inl old | inr now ↦ inr (inl now) ]
+      | inl before ↦ elim (one_turn site s turn binding led.0 before)
+          [ inl old ↦ inl old | inr now ↦ inr (inl now) ]
       | inr later ↦ inr (inr later)
     ]
 
-pub service_after_bind : (site : Site) (turns : List Turn) (m : Message) → AreLed turns → is_of_bound m.kind ≡ true
+pub service_after_bind : (site : Site) (turns : List Turn) (m : Message) → AreLed turns
+    → is_of_bound m.kind ≡ true
     → step_of site (after site state.Opening turns) m ≡ step.Pass
     → (binding : Binding) × IsBoundBy site turns binding
 service_after_bind site turns m led served pass =
-    let who = somebody (after site state.Opening turns) m.kind (passes site (after site state.Opening turns) m pass).is_placed served in (
+    let who = somebody (after site state.Opening turns) m.kind
+    (passes site (after site state.Opening turns) m pass).is_placed served in (
       who.0,
       record {
         bound = who.1;
-        by_bind = elim (bound_in site state.Opening turns who.0 led who.1) [ inl e ↦ nobody who.0 e | inr any ↦ any ];
+        by_bind = elim (bound_in site state.Opening turns who.0 led who.1)
+            [ inl e ↦ nobody who.0 e | inr any ↦ any ];
       },
     )

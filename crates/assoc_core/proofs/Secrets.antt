@@ -15,7 +15,8 @@ same_octets : (s : Secret) (credentials : Option (List ℕ)) (now : ℕ)
     → auth s credentials now ≡ auth (by_parts s.name.now s.pass.now s.hash s.delay) credentials now
 same_octets s credentials now = refl
 
-pub same_answer : (peer : Peer) (s : Secret) (credentials : Option (List ℕ)) (now : ℕ) → IsSecretOf peer s
+pub same_answer : (peer : Peer) (s : Secret) (credentials : Option (List ℕ)) (now : ℕ)
+    → IsSecretOf peer s
     → auth s credentials now ≡ auth (secret_of peer) credentials now
 same_answer peer s credentials now is =
     let answer : Secret → Result (Unit {0}) AuthFault = λ t. auth t credentials now in

@@ -1,5 +1,7 @@
 -- What a message that passes shows.
-use Rattle.std.proofs.Common.{◌≡◌, ◌≢◌, ◌⊎◌, inl, inr, ℕ, Bool, true, false, not, ◌&&◌, ◌||◌, if◌then◌else◌, Option, Some, None, Result, Ok, Err, List, refl, sym, ◌∙◌, ap, subst}
+use Rattle.std.proofs.Common.{◌≡◌, ◌≢◌, ◌⊎◌, inl, inr, ℕ, Bool, true, false, not, ◌&&◌, ◌||◌}
+use Rattle.std.proofs.Common.{if◌then◌else◌, Option, Some, None, Result, Ok, Err, List, refl, sym}
+use Rattle.std.proofs.Common.{◌∙◌, ap, subst}
 use Rattle.std.specs.Prelude.{IsSomeAnd, is_some, is_ok}
 use Rattle.isp1_auth.specs.declared.auth_fault.AuthFault.{AuthFault}
 use Rattle.isp1_auth.specs.Auth.{auth}
@@ -8,7 +10,8 @@ use Rattle.station_config.specs.declared.level.Level.TheVariants as level
 use Rattle.station_config.specs.declared.peer.Peer.{Peer}
 use Rattle.station_config.specs.declared.site.Site.{Site}
 use Rattle.assoc_core.specs.declared.outcome.Outcome.{Outcome}
-use Rattle.assoc_core.specs.declared.outcome.Outcome.TheVariants.{Context, Bound, Denied, Started, Stopped, Unbound, Kept}
+use Rattle.assoc_core.specs.declared.outcome.Outcome.TheVariants.{Context, Bound, Denied, Started}
+use Rattle.assoc_core.specs.declared.outcome.Outcome.TheVariants.{Stopped, Unbound, Kept}
 use Rattle.assoc_core.specs.declared.state.Binding.{Binding}
 use Rattle.assoc_core.specs.declared.state.State.{State}
 use Rattle.assoc_core.specs.declared.state.State.TheVariants as state
@@ -18,7 +21,8 @@ use Rattle.assoc_core.specs.Numbers.{protocol_error, encoding_error}
 use Rattle.assoc_core.specs.Kind.{Kind, context, heartbeat, bind, peer_abort, Message}
 use Rattle.assoc_core.specs.Table.{next, follows}
 use Rattle.assoc_core.specs.State.{phase_of, binding_of, moved}
-use Rattle.assoc_core.specs.Access.{sender, has_credentials, is_asked, secret_of, is_authentic, may_send, is_admitted}
+use Rattle.assoc_core.specs.Access.{sender, has_credentials, is_asked, secret_of, is_authentic}
+use Rattle.assoc_core.specs.Access.{may_send, is_admitted}
 use Rattle.assoc_core.specs.Association.{is_decoded, is_in_place, refusal, goes_on, step as step_of}
 use Rattle.assoc_core.specs.Run.{is_of_bound}
 use Rattle.assoc_core.specs.Laws.{HasSender}
@@ -48,7 +52,8 @@ pub record Passes (decoded placed admitted : Bool) : Type 0 where
   pub is_placed : placed ≡ true
   pub is_admitted : admitted ≡ true
 
-by_tests : (decoded placed admitted : Bool) (k : Kind) → judged decoded placed admitted k ≡ step.Pass
+by_tests : (decoded placed admitted : Bool) (k : Kind)
+    → judged decoded placed admitted k ≡ step.Pass
     → Passes decoded placed admitted
 by_tests true true true k e = record { is_decoded = refl; is_placed = refl; is_admitted = refl }
 by_tests false placed admitted k e = absurd (no_pass encoding_error e)
@@ -82,41 +87,53 @@ pub record IsOpened (s : State) : Type 0 where
 pub opened_stays : (s : State) (outcome : Outcome) → IsOpened s → IsOpened (moved s outcome)
 opened_stays state.Opening outcome is = absurd (differ is.out_of_place)
 opened_stays state.Unbound outcome is =
-    elim outcome as (λ o. IsOpened (moved state.Unbound o)) [ Context ↦ record { out_of_place = refl } | _ ↦ record { out_of_place = refl } ]
+    elim outcome as (λ o. IsOpened (moved state.Unbound o))
+    [ Context ↦ record { out_of_place = refl } | _ ↦ record { out_of_place = refl } ]
 opened_stays (state.Ready binding) outcome is =
-    elim outcome as (λ o. IsOpened (moved (state.Ready binding) o)) [ Context ↦ record { out_of_place = refl } | _ ↦ record { out_of_place = refl } ]
+    elim outcome as (λ o. IsOpened (moved (state.Ready binding) o))
+    [ Context ↦ record { out_of_place = refl } | _ ↦ record { out_of_place = refl } ]
 opened_stays (state.Active binding) outcome is =
-    elim outcome as (λ o. IsOpened (moved (state.Active binding) o)) [ Context ↦ record { out_of_place = refl } | _ ↦ record { out_of_place = refl } ]
+    elim outcome as (λ o. IsOpened (moved (state.Active binding) o))
+    [ Context ↦ record { out_of_place = refl } | _ ↦ record { out_of_place = refl } ]
 opened_stays state.Closing outcome is =
-    elim outcome as (λ o. IsOpened (moved state.Closing o)) [ Context ↦ record { out_of_place = refl } | _ ↦ record { out_of_place = refl } ]
+    elim outcome as (λ o. IsOpened (moved state.Closing o))
+    [ Context ↦ record { out_of_place = refl } | _ ↦ record { out_of_place = refl } ]
 
 pub closing_stays : (outcome : Outcome) → moved state.Closing outcome ≡ state.Closing
 closing_stays Context = refl
 closing_stays _ = refl
 
-pub by_the_table : (s : State) (outcome : Outcome) → phase_of (moved s outcome) ≡ next (phase_of s) outcome
+pub by_the_table : (s : State) (outcome : Outcome)
+    → phase_of (moved s outcome) ≡ next (phase_of s) outcome
 by_the_table state.Opening outcome =
-    elim outcome as (λ o. phase_of (moved state.Opening o) ≡ next (phase_of state.Opening) o) [ Context ↦ refl | _ ↦ refl ]
+    elim outcome as (λ o. phase_of (moved state.Opening o) ≡ next (phase_of state.Opening) o)
+    [ Context ↦ refl | _ ↦ refl ]
 by_the_table state.Unbound outcome =
-    elim outcome as (λ o. phase_of (moved state.Unbound o) ≡ next (phase_of state.Unbound) o) [ Context ↦ refl | _ ↦ refl ]
+    elim outcome as (λ o. phase_of (moved state.Unbound o) ≡ next (phase_of state.Unbound) o)
+    [ Context ↦ refl | _ ↦ refl ]
 by_the_table (state.Ready binding) outcome =
-    elim outcome as (λ o. phase_of (moved (state.Ready binding) o) ≡ next (phase_of (state.Ready binding)) o) [ Context ↦ refl | _ ↦ refl ]
+    elim outcome as (λ o. phase_of (moved (state.Ready binding) o)
+    ≡ next (phase_of (state.Ready binding)) o) [ Context ↦ refl | _ ↦ refl ]
 by_the_table (state.Active binding) outcome =
-    elim outcome as (λ o. phase_of (moved (state.Active binding) o) ≡ next (phase_of (state.Active binding)) o) [ Context ↦ refl | _ ↦ refl ]
+    elim outcome as (λ o. phase_of (moved (state.Active binding) o)
+    ≡ next (phase_of (state.Active binding)) o) [ Context ↦ refl | _ ↦ refl ]
 by_the_table state.Closing outcome =
-    elim outcome as (λ o. phase_of (moved state.Closing o) ≡ next (phase_of state.Closing) o) [ Context ↦ refl | _ ↦ refl ]
+    elim outcome as (λ o. phase_of (moved state.Closing o) ≡ next (phase_of state.Closing) o)
+    [ Context ↦ refl | _ ↦ refl ]
 
 -- ---- who is bound
 
 abbrev Stays : State → Binding → Type 0
 Stays s binding = (binding_of s ≡ Some binding) ⊎ (s ≡ state.Closing)
 
-ready_stays : (binding : Binding) (outcome : Outcome) → Stays (moved (state.Ready binding) outcome) binding
+ready_stays : (binding : Binding) (outcome : Outcome)
+    → Stays (moved (state.Ready binding) outcome) binding
 ready_stays binding Denied = inr refl
 ready_stays binding Unbound = inr refl
 ready_stays binding _ = inl refl
 
-active_stays : (binding : Binding) (outcome : Outcome) → Stays (moved (state.Active binding) outcome) binding
+active_stays : (binding : Binding) (outcome : Outcome)
+    → Stays (moved (state.Active binding) outcome) binding
 active_stays binding Denied = inr refl
 active_stays binding _ = inl refl
 
@@ -136,9 +153,11 @@ stays_bound state.Closing outcome binding e = nobody binding e
 -- who is bound after an outcome was so before, or was told by it in unbound
 abbrev pub WasBound : State → Outcome → Binding → Type 0
 WasBound s outcome binding =
-    (binding_of s ≡ Some binding) ⊎ ((s ≡ state.Unbound) × (outcome ≡ Bound binding.peer binding.forward))
+    (binding_of s ≡ Some binding) ⊎ ((s ≡ state.Unbound)
+    × (outcome ≡ Bound binding.peer binding.forward))
 
-told_in_unbound : (outcome : Outcome) (binding : Binding) → binding_of (moved state.Unbound outcome) ≡ Some binding
+told_in_unbound : (outcome : Outcome) (binding : Binding)
+    → binding_of (moved state.Unbound outcome) ≡ Some binding
     → WasBound state.Unbound outcome binding
 told_in_unbound (Bound peer forward) binding e =
     let own : Binding = record { peer = peer; forward = forward } in
@@ -146,23 +165,27 @@ told_in_unbound (Bound peer forward) binding e =
     inr (refl, ap (λ (b : Binding). Bound b.peer b.forward) same)
 told_in_unbound _ binding e = nobody binding e
 
-told_in_opening : (outcome : Outcome) (binding : Binding) → binding_of (moved state.Opening outcome) ≡ Some binding
+told_in_opening : (outcome : Outcome) (binding : Binding)
+    → binding_of (moved state.Opening outcome) ≡ Some binding
     → WasBound state.Opening outcome binding
 told_in_opening Context binding e = nobody binding e
 told_in_opening _ binding e = nobody binding e
 
 from_ready : (own : Binding) (outcome : Outcome) (binding : Binding)
-    → binding_of (moved (state.Ready own) outcome) ≡ Some binding → ◌≡◌ {A = Option Binding} (Some own) (Some binding)
+    → binding_of (moved (state.Ready own) outcome) ≡ Some binding
+    → ◌≡◌ {A = Option Binding} (Some own) (Some binding)
 from_ready own Denied binding e = nobody binding e
 from_ready own Unbound binding e = nobody binding e
 from_ready own _ binding e = e
 
 from_active : (own : Binding) (outcome : Outcome) (binding : Binding)
-    → binding_of (moved (state.Active own) outcome) ≡ Some binding → ◌≡◌ {A = Option Binding} (Some own) (Some binding)
+    → binding_of (moved (state.Active own) outcome) ≡ Some binding
+    → ◌≡◌ {A = Option Binding} (Some own) (Some binding)
 from_active own Denied binding e = nobody binding e
 from_active own _ binding e = e
 
-pub was_bound : (s : State) (outcome : Outcome) (binding : Binding) → binding_of (moved s outcome) ≡ Some binding
+pub was_bound : (s : State) (outcome : Outcome) (binding : Binding)
+    → binding_of (moved s outcome) ≡ Some binding
     → WasBound s outcome binding
 was_bound state.Opening outcome binding e = told_in_opening outcome binding e
 was_bound state.Unbound outcome binding e = told_in_unbound outcome binding e
@@ -201,7 +224,8 @@ authentic peer m false is e = absurd (differ (sym is))
 
 -- the sender of a message that is admitted, with its credentials where they are asked for
 pub by_sender : (p : Option Peer) (m : Message) → may_send p m ≡ true
-    → IsSomeAnd p (λ peer. is_asked peer.level m.kind ≡ true → auth (secret_of peer) m.credentials m.now ≡ Ok tt)
+    → IsSomeAnd p (λ peer. is_asked peer.level m.kind ≡ true
+    → auth (secret_of peer) m.credentials m.now ≡ Ok tt)
 by_sender None m e = absurd (differ (sym e))
 by_sender (Some peer) m e = λ asked. authentic peer m (is_asked peer.level m.kind) asked e
 
@@ -209,7 +233,8 @@ or_second : (a b : Bool) → a ≡ true → (not a || b) ≡ true → b ≡ true
 or_second true b is e = e
 or_second false b is e = absurd (differ (sym is))
 
-weaker : {X : Type 0} {P Q : X → Type 0} (o : Option X) → ((x : X) → P x → Q x) → IsSomeAnd o P → IsSomeAnd o Q
+weaker : {X : Type 0} {P Q : X → Type 0} (o : Option X) → ((x : X) → P x → Q x) → IsSomeAnd o P
+    → IsSomeAnd o Q
 weaker None f h = h
 weaker (Some x) f h = f x h
 
@@ -218,12 +243,14 @@ pub credentials_hold : (site : Site) (s : State) (m : Message) → step_of site 
 credentials_hold site s m pass has =
     let sent =
     by_sender (sender site.peers s m.kind m.initiator) m
-    (or_second (has_credentials m.kind) (may_send (sender site.peers s m.kind m.initiator) m) has (passes site s m pass).is_admitted) in
+    (or_second (has_credentials m.kind) (may_send (sender site.peers s m.kind m.initiator) m) has
+    (passes site s m pass).is_admitted) in
     record {
       all =
           weaker (sender site.peers s m.kind m.initiator)
           (λ peer right of_all. right (ap (λ (l : Level). is_asked l m.kind) of_all ∙ has)) sent;
       binds =
           weaker (sender site.peers s m.kind m.initiator)
-          (λ peer right of_bind same. right (ap (λ (l : Level). is_asked l m.kind) of_bind ∙ ap (λ k. is_asked level.Bind k) same)) sent;
+          (λ peer right of_bind same. right (ap (λ (l : Level). is_asked l m.kind) of_bind
+          ∙ ap (λ k. is_asked level.Bind k) same)) sent;
     }

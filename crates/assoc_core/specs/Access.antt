@@ -1,5 +1,6 @@
 -- Whose credentials are asked for, and of what (CCSDS 913.1-B; the levels are own).
-use Rattle.std.specs.Prelude.{◌≡◌, ℕ, Bool, true, false, not, ◌||◌, List, Option, Some, None, option_and_then, option_map, slice_get, is_ok, if◌then◌else◌}
+use Rattle.std.specs.Prelude.{◌≡◌, ℕ, Bool, true, false, not, ◌||◌, List, Option, Some, None}
+use Rattle.std.specs.Prelude.{option_and_then, option_map, slice_get, is_ok, if◌then◌else◌}
 use Rattle.std.specs.Borrow.{Bor}
 use Rattle.isp1_auth.specs.declared.hash.Hash.{Hash}
 use Rattle.isp1_auth.specs.declared.hash.Hash.TheVariants.{Sha1, Sha256}

@@ -2,11 +2,13 @@
 use Rattle.std.specs.Prelude.{Bool, true, false, not, is_some, if◌then◌else◌}
 use Rattle.station_config.specs.declared.site.Site.{Site}
 use Rattle.assoc_core.specs.declared.state.State.{State}
-use Rattle.assoc_core.specs.declared.state.State.TheVariants.{Opening, Unbound, Ready, Active, Closing}
+use Rattle.assoc_core.specs.declared.state.State.TheVariants.{Opening, Unbound, Ready, Active}
+use Rattle.assoc_core.specs.declared.state.State.TheVariants.{Closing}
 use Rattle.assoc_core.specs.declared.step.Step.{Step}
 use Rattle.assoc_core.specs.declared.step.Step.TheVariants.{Pass, Denied, Abort}
 use Rattle.assoc_core.specs.Numbers.{access_denied, protocol_error, encoding_error}
-use Rattle.assoc_core.specs.Kind.{Kind, bind, peer_abort, throw, transfer, other, undecoded, Message}
+use Rattle.assoc_core.specs.Kind.{Kind, bind, peer_abort, throw, transfer, other, undecoded}
+use Rattle.assoc_core.specs.Kind.{Message}
 use Rattle.assoc_core.specs.Table.{follows}
 use Rattle.assoc_core.specs.State.{phase_of}
 use Rattle.assoc_core.specs.Access.{is_admitted}
@@ -36,7 +38,8 @@ abbrev pub refusal : Kind → Step
 refusal bind = Denied
 refusal _ = Abort access_denied
 
--- Decoding comes before the state, the state before credentials, and credentials before the service.
+-- Decoding comes before the state, the state before credentials, and credentials before the
+-- service.
 abbrev pub step : Site → State → Message → Step
 step site state m =
     if not (is_decoded state m.kind) then Abort encoding_error

@@ -1,6 +1,8 @@
 -- The checks of a BIND (CCSDS 911.1-B, annex A, has the diagnostics; the conditions and their order
 -- are own).
-use Rattle.std.specs.Prelude.{ℕ, Bool, false, not, ◌||◌, ◌==◌, if◌then◌else◌, Option, Some, None, is_none, option_and_then, Result, Ok, Err, List, [], ◌∷◌, position, slice_get}
+use Rattle.std.specs.Prelude.{ℕ, Bool, false, not, ◌||◌, ◌==◌, if◌then◌else◌, Option, Some, None}
+use Rattle.std.specs.Prelude.{is_none, option_and_then, Result, Ok, Err, List, [], ◌∷◌, position}
+use Rattle.std.specs.Prelude.{slice_get}
 use Rattle.std.specs.List.{list_any}
 use Rattle.std.specs.Option.{option_map_or}
 use Rattle.sle_common.specs.declared.instance_id.InstancePart.{InstancePart}
@@ -12,10 +14,15 @@ use Rattle.station_config.specs.declared.service.Service.{Service}
 use Rattle.station_config.specs.declared.service.Service.TheVariants.{Raf, Rcf, Cltu}
 use Rattle.station_config.specs.declared.site.Site.{Site}
 use Rattle.assoc_core.specs.declared.bind_fault.BindFault.{BindFault}
-use Rattle.assoc_core.specs.declared.bind_fault.BindFault.TheVariants.{AccessDenied, ServiceTypeNotSupported, VersionNotSupported, NoSuchServiceInstance, SiNotAccessibleToThisInitiator, InconsistentServiceType}
+use Rattle.assoc_core.specs.declared.bind_fault.BindFault.TheVariants.{AccessDenied}
+use Rattle.assoc_core.specs.declared.bind_fault.BindFault.TheVariants.{ServiceTypeNotSupported}
+use Rattle.assoc_core.specs.declared.bind_fault.BindFault.TheVariants.{VersionNotSupported}
+use Rattle.assoc_core.specs.declared.bind_fault.BindFault.TheVariants.{NoSuchServiceInstance}
+use Rattle.assoc_core.specs.declared.bind_fault.BindFault.TheVariants.{SiNotAccessibleToThisInitiator}
+use Rattle.assoc_core.specs.declared.bind_fault.BindFault.TheVariants.{InconsistentServiceType}
 
--- what a BIND asks for: the place of the peer that sends it, if it is one that may bind; the service
--- type and version; and the attributes and values of the instance
+-- what a BIND asks for: the place of the peer that sends it, if it is one that may bind; the
+-- service type and version; and the attributes and values of the instance
 pub record Ask : Type 0 where
   pub peer : Option ℕ
   pub service : ℕ

@@ -3,7 +3,10 @@ use Rattle.std.specs.Prelude.{ℕ, List, [], Option}
 use Rattle.sle_common.specs.declared.credentials.Credentials.{Credentials}
 use Rattle.sle_common.specs.Credentials.{credentials_of}
 use Rattle.assoc_core.specs.declared.pdu_kind.PduKind.{PduKind}
-use Rattle.assoc_core.specs.declared.pdu_kind.PduKind.TheVariants.{Context, Heartbeat, Bind, Unbind, PeerAbort, Start, Stop, Report, Parameter, Throw, Transfer, Other, Undecoded}
+use Rattle.assoc_core.specs.declared.pdu_kind.PduKind.TheVariants.{Context, Heartbeat, Bind, Unbind}
+use Rattle.assoc_core.specs.declared.pdu_kind.PduKind.TheVariants.{PeerAbort, Start, Stop, Report}
+use Rattle.assoc_core.specs.declared.pdu_kind.PduKind.TheVariants.{Parameter, Throw, Transfer}
+use Rattle.assoc_core.specs.declared.pdu_kind.PduKind.TheVariants.{Other, Undecoded}
 
 -- a context and a heartbeat are messages of the transport; other has a tag that is out of place in
 -- unbound; undecoded spells no PDU that the provider decodes

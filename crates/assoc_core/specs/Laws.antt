@@ -1,5 +1,6 @@
 -- What holds of every list of messages of an association, and of its BIND.
-use Rattle.std.specs.Prelude.{◌≡◌, ◌≢◌, ◌↔◌, ◌⊎◌, ℕ, Bool, IsTrue, IsFalse, IsSomeAnd, Option, Some, List, [], ◌∷◌, slice_get, Contains, Result, Ok, Any}
+use Rattle.std.specs.Prelude.{◌≡◌, ◌≢◌, ◌↔◌, ◌⊎◌, ℕ, Bool, IsTrue, IsFalse, IsSomeAnd, Option, Some}
+use Rattle.std.specs.Prelude.{List, [], ◌∷◌, slice_get, Contains, Result, Ok, Any}
 use Rattle.std.specs.List.{AllByRecursion}
 use Rattle.sle_common.specs.declared.instance_id.InstancePart.{InstancePart}
 use Rattle.isp1_auth.specs.Auth.{auth}
@@ -18,7 +19,8 @@ use Rattle.assoc_core.specs.Table.{next}
 use Rattle.assoc_core.specs.State.{phase_of, binding_of, moved}
 use Rattle.assoc_core.specs.Access.{sender, has_credentials, secret_of}
 use Rattle.assoc_core.specs.Association.{step, goes_on}
-use Rattle.assoc_core.specs.Run.{Turn, after_turn, after, Played, plays, passed, is_of_bound, AreLed}
+use Rattle.assoc_core.specs.Run.{Turn, after_turn, after, Played, plays, passed, is_of_bound}
+use Rattle.assoc_core.specs.Run.{AreLed}
 use Rattle.assoc_core.specs.Bind.{Ask, type_of, bind_answer}
 
 -- the first is a context, and no other is
@@ -75,7 +77,8 @@ pub record HasSender (site : Site) (state : State) (m : Message) : Type 0 where
       (λ peer. peer.level ≡ level.All → auth (secret_of peer) m.credentials m.now ≡ Ok tt)
   pub binds :
       IsSomeAnd (sender site.peers state m.kind m.initiator)
-      (λ peer. peer.level ≡ level.Bind → m.kind ≡ bind → auth (secret_of peer) m.credentials m.now ≡ Ok tt)
+      (λ peer. peer.level ≡ level.Bind → m.kind ≡ bind
+      → auth (secret_of peer) m.credentials m.now ≡ Ok tt)
 
 abbrev pub CredentialsHold : Type 0
 CredentialsHold =
@@ -85,7 +88,8 @@ CredentialsHold =
 -- The states that follow are the table's.
 abbrev pub MovesByTheTable : Type 0
 MovesByTheTable =
-    (state : State) (outcome : Outcome) → phase_of (moved state outcome) ≡ next (phase_of state) outcome
+    (state : State) (outcome : Outcome) → phase_of (moved state outcome)
+    ≡ next (phase_of state) outcome
 
 -- Who is bound stays bound until closing.
 abbrev pub BoundUntilClosing : Type 0

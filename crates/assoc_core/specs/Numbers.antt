@@ -1,7 +1,12 @@
 -- The numbers of association (CCSDS 911.1-B, annex A).
 use Rattle.std.specs.Prelude.{ℕ}
 use Rattle.assoc_core.specs.declared.bind_fault.BindFault.{BindFault}
-use Rattle.assoc_core.specs.declared.bind_fault.BindFault.TheVariants.{AccessDenied, ServiceTypeNotSupported, VersionNotSupported, NoSuchServiceInstance, SiNotAccessibleToThisInitiator, InconsistentServiceType}
+use Rattle.assoc_core.specs.declared.bind_fault.BindFault.TheVariants.{AccessDenied}
+use Rattle.assoc_core.specs.declared.bind_fault.BindFault.TheVariants.{ServiceTypeNotSupported}
+use Rattle.assoc_core.specs.declared.bind_fault.BindFault.TheVariants.{VersionNotSupported}
+use Rattle.assoc_core.specs.declared.bind_fault.BindFault.TheVariants.{NoSuchServiceInstance}
+use Rattle.assoc_core.specs.declared.bind_fault.BindFault.TheVariants.{SiNotAccessibleToThisInitiator}
+use Rattle.assoc_core.specs.declared.bind_fault.BindFault.TheVariants.{InconsistentServiceType}
 
 -- diagnostics of PEER-ABORT
 abbrev pub access_denied : ℕ

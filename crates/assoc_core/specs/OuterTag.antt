@@ -3,7 +3,8 @@ use Rattle.std.specs.Prelude.{ℕ, nat_eq, if◌then◌else◌, Option, Some, No
 use Rattle.std.specs.Cmp.Lexicographic.{pointwise}
 use Rattle.ber_core.specs.Tree.{first_identifier}
 use Rattle.assoc_core.specs.declared.outer_tag.OuterTag.{OuterTag}
-use Rattle.assoc_core.specs.declared.outer_tag.OuterTag.TheVariants.{Bind, PeerAbort, Other, Missing}
+use Rattle.assoc_core.specs.declared.outer_tag.OuterTag.TheVariants.{Bind, PeerAbort, Other}
+use Rattle.assoc_core.specs.declared.outer_tag.OuterTag.TheVariants.{Missing}
 
 -- BIND is [100], constructed, and PEER-ABORT [104], primitive
 abbrev pub tag_told : Option (List ℕ) → OuterTag

@@ -4,7 +4,8 @@ use Rattle.assoc_core.specs.declared.outcome.Outcome.{Outcome}
 use Rattle.assoc_core.specs.declared.outcome.Outcome.TheVariants.{Bound}
 use Rattle.assoc_core.specs.declared.state.Binding.{Binding}
 use Rattle.assoc_core.specs.declared.state.State.{State}
-use Rattle.assoc_core.specs.declared.state.State.TheVariants.{Opening, Unbound, Ready, Active, Closing}
+use Rattle.assoc_core.specs.declared.state.State.TheVariants.{Opening, Unbound, Ready, Active}
+use Rattle.assoc_core.specs.declared.state.State.TheVariants.{Closing}
 use Rattle.assoc_core.specs.Table.{Phase, opening, unbound, ready, active, closing, next}
 
 abbrev pub phase_of : State → Phase

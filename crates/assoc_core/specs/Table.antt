@@ -2,8 +2,10 @@
 -- provider's state tables; opening and closing are own).
 use Rattle.std.specs.Prelude.{Option, Some, None, unwrap_or, option_and_then}
 use Rattle.assoc_core.specs.declared.outcome.Outcome.{Outcome}
-use Rattle.assoc_core.specs.declared.outcome.Outcome.TheVariants.{Context, Bound, Denied, Started, Stopped, Unbound, Kept}
-use Rattle.assoc_core.specs.Kind.{Kind, context, heartbeat, bind, unbind, peer_abort, start, stop, report, parameter, throw, transfer}
+use Rattle.assoc_core.specs.declared.outcome.Outcome.TheVariants.{Context, Bound, Denied, Started}
+use Rattle.assoc_core.specs.declared.outcome.Outcome.TheVariants.{Stopped, Unbound, Kept}
+use Rattle.assoc_core.specs.Kind.{Kind, context, heartbeat, bind, unbind, peer_abort, start, stop}
+use Rattle.assoc_core.specs.Kind.{report, parameter, throw, transfer}
 
 pub data Phase : Type 0 where
   opening : Phase
@@ -13,7 +15,8 @@ pub data Phase : Type 0 where
   closing : Phase
 
 -- In this state this message is accepted, and then the state is this one: where the message has a
--- return, after a positive one. THROW-EVENT and TRANSFER-DATA are decoded for forward services alone.
+-- return, after a positive one. THROW-EVENT and TRANSFER-DATA are decoded for forward services
+-- alone.
 abbrev pub follows : Phase → Kind → Option Phase
 follows opening context = Some unbound
 follows unbound bind = Some ready

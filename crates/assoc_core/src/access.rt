@@ -3,7 +3,8 @@ ghost use Rattle.std.specs.Prelude.{◌≡◌, option_copied};
 ghost use Rattle.sle_common.specs.Credentials.{credentials_of};
 ghost use Rattle.station_config.specs.Drafts.{place_of};
 ghost use Rattle.station_config.specs.Validity.{IsSite};
-ghost use Rattle.assoc_core.specs.Access.{sender, IsSecretOf, is_asked, is_authentic, may_send, is_admitted};
+ghost use Rattle.assoc_core.specs.Access.{sender, IsSecretOf, is_asked, is_authentic, may_send};
+ghost use Rattle.assoc_core.specs.Access.{is_admitted};
 ghost use Rattle.assoc_core.specs.Kind.{kind_of, initiator_of, message_of};
 
 use crate::pdu_kind::PduKind;
@@ -12,8 +13,8 @@ use isp1_auth::{Hash, Secret, check};
 use sle_common::Credentials;
 use station_config::{Level, Peer, Site};
 
-/// The place of the peer of this name among the site's, if one has it. It goes over the site's peers
-/// once.
+/// The place of the peer of this name among the site's, if one has it. It goes over the site's
+/// peers once.
 pub fn peer_of(site: &Site, initiator: &[u8]) -> Option<u32>
     requires { IsSite site.now }
     ensures { result ≡ place_of initiator.now site.now.peers }
@@ -33,7 +34,8 @@ fn place_of(peers: &[Peer], initiator: &[u8]) -> Option<usize>
 
 // The peer that sends a message.
 fn sender<'a>(site: &'a Site, state: State, kind: PduKind<'_>) -> Option<&'a Peer>
-    ensures { option_copied result ≡ sender site.now.peers state (kind_of kind.entry) (initiator_of kind.entry) }
+    ensures { option_copied result ≡ sender site.now.peers state (kind_of kind.entry)
+        (initiator_of kind.entry) }
 {
     let peers = site.peers.as_slice();
     let place = match kind {

@@ -55,7 +55,8 @@ impl Association {
         credentials: &Credentials<'_>,
         now: u128,
     ) -> Step
-        ensures reply { result ≡ step site.now self.old (message_of kind.entry credentials.now now) }
+        ensures reply { result ≡ step site.now self.old
+            (message_of kind.entry credentials.now now) }
         ensures after { self.new ≡ after_step self.old (kind_of kind.entry) result }
     {
         let step = judge(self.state, site, kind, credentials, now);

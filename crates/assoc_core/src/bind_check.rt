@@ -17,11 +17,11 @@ const RCF: u16 = 2;
 
 const FORWARD_CLTU: u16 = 16;
 
-/// The place of the instance that a BIND asks for, among the site's, or the first cause for which it
-/// is refused. `peer` is the place of the peer that sends it, and none where it may not bind: where
-/// its initiator is no peer (`peer_of`), or its credentials fail (`Association::invoke`). That an
-/// instance is bound already is the book's to say. It takes no memory, and goes over the site's
-/// instances once.
+/// The place of the instance that a BIND asks for, among the site's, or the first cause for which
+/// it is refused. `peer` is the place of the peer that sends it, and none where it may not bind:
+/// where its initiator is no peer (`peer_of`), or its credentials fail (`Association::invoke`).
+/// That an instance is bound already is the book's to say. It takes no memory, and goes over the
+/// site's instances once.
 pub fn check_bind(
     site: &Site,
     peer: Option<u32>,

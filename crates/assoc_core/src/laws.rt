@@ -1,6 +1,8 @@
 // What holds of every list of messages, and of every BIND. A law's function does nothing: its
 // contract is the law.
-ghost use Rattle.assoc_core.specs.Laws.{ContextFirst, ServiceAfterBind, NothingWhileClosing, NothingAfterTheEnd, CredentialsHold, MovesByTheTable, BoundUntilClosing, BindsItsOwn, SameIdentifier};
+ghost use Rattle.assoc_core.specs.Laws.{ContextFirst, ServiceAfterBind, NothingWhileClosing};
+ghost use Rattle.assoc_core.specs.Laws.{NothingAfterTheEnd, CredentialsHold, MovesByTheTable};
+ghost use Rattle.assoc_core.specs.Laws.{BoundUntilClosing, BindsItsOwn, SameIdentifier};
 
 /// In opening nothing but a context passes, and no other context passes later.
 pub fn context_first()

@@ -1,8 +1,8 @@
 // Makes credentials, checks them, or takes the digest alone of the octets that it protects, so that
 // the three can be timed side by side.
 //
-// The words choose: `make`, `check` or `digest`, `sha1` or `sha256`, and a number of rounds. With no
-// word of a kind all of that kind are run, three rounds each. Each line ends with a sum by which
+// The words choose: `make`, `check` or `digest`, `sha1` or `sha256`, and a number of rounds. With
+// no word of a kind all of that kind are run, three rounds each. Each line ends with a sum by which
 // `bench/auth` tests what was done: of the last octets of the digests, or of the credentials that
 // were accepted.
 #![tactic(auto)]

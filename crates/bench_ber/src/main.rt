@@ -123,8 +123,8 @@ fn read_often(rounds: u64, by_calls: bool, buffer: &[u8]) -> Result<usize, BerFa
     Ok(octets)
 }
 
-/// Writes the first item of the buffer ten times, as often as asked, and answers how many octets the
-/// frames had together.
+/// Writes the first item of the buffer ten times, as often as asked, and answers how many octets
+/// the frames had together.
 fn write_often(rounds: u64, buffer: &[u8], writer: &mut Writer) -> Result<usize, BerFault> {
     let mut octets: usize = 0;
     let Some(item) = TransferBuffer::decode_raf(buffer)?.next() else {

@@ -1,7 +1,8 @@
-// Feeds a stream of PDUs to a feeder in pieces, or copies the same pieces, so that the two can be timed.
+// Feeds a stream of PDUs to a feeder in pieces, or copies the same pieces, so that the two can be
+// timed.
 //
-// The words are `feed ROUNDS` or `copy ROUNDS`; with none, it is one round of `feed`. A round is 720,896 octets:
-// 64 PDUs of 11,264 octets with their headers, in 11 pieces of 64 KiB.
+// The words are `feed ROUNDS` or `copy ROUNDS`; with none, it is one round of `feed`. A round is
+// 720,896 octets: 64 PDUs of 11,264 octets with their headers, in 11 pieces of 64 KiB.
 #![tactic(auto)]
 
 use isp1_tml::{Feeder, head};

@@ -1,8 +1,8 @@
 // Appends batches of frames to a journal in a file, or recovers it, so that each can be timed.
 //
-// The words are `append FILE ENTRIES BATCHES`, for a file that isn't there or is empty, or
-// `recover FILE`. With no words a file of the present folder gets three batches of one entry and two
-// of 256, is recovered, and is removed.
+// The words are `append FILE ENTRIES BATCHES`, for a file that isn't there or is empty, or `recover
+// FILE`. With no words a file of the present folder gets three batches of one entry and two of 256,
+// is recovered, and is removed.
 #![tactic(auto)]
 
 ghost use Rattle.std.specs.Prelude.{◌≤◌, IsTrue, length};
@@ -61,8 +61,8 @@ fn append_often(
     Ok(())
 }
 
-/// Appends batches of as many entries to a journal, and tells how many octets it uses then. It is an
-/// error where a journal holds no such batch.
+/// Appends batches of as many entries to a journal, and tells how many octets it uses then. It is
+/// an error where a journal holds no such batch.
 fn append(
     rt: &HostRuntime,
     journal: &mut Journal<FileDisk>,

@@ -1,21 +1,27 @@
 -- The content octets of an INTEGER (X.690 8.3).
-use Rattle.std.specs.Prelude.{ℕ, ◌-◌, ◌^◌, ℤ, pos, negsuc, ◌-ℤ◌, ◌≤ℤ◌, Bool, false, ◌==◌, ◌&&◌, ◌||◌, List, [], ◌∷◌, length, slice_index, nat_lt, nat_le, if◌then◌else◌}
+use Rattle.std.specs.Prelude.{ℕ, ◌-◌, ◌^◌, ℤ, pos, negsuc, ◌-ℤ◌, ◌≤ℤ◌, Bool, false, ◌==◌, ◌&&◌}
+use Rattle.std.specs.Prelude.{◌||◌, List, [], ◌∷◌, length, slice_index, nat_lt, nat_le}
+use Rattle.std.specs.Prelude.{if◌then◌else◌}
 use Rattle.ber_core.specs.Length.{number_of}
 use Rattle.std.specs.Int.{w128, to_be_bytes, cast_unsigned}
 
--- The first octet says nothing that the sign of the second doesn't say: the standard forbids it (8.3.2).
+-- The first octet says nothing that the sign of the second doesn't say: the standard forbids it
+-- (8.3.2).
 abbrev pub is_redundant : List ℕ → Bool
-is_redundant (first ∷ second ∷ octets) = (first == 0 && nat_lt second 128) || (first == 255 && nat_le 128 second)
+is_redundant (first ∷ second ∷ octets) = (first == 0 && nat_lt second 128)
+    || (first == 255 && nat_le 128 second)
 is_redundant octets = false
 
 unfoldable pub without_redundant : List ℕ → List ℕ
 without_redundant [] = []
-without_redundant (first ∷ octets) = if is_redundant (first ∷ octets) then without_redundant octets else first ∷ octets
+without_redundant (first ∷ octets) = if is_redundant (first ∷ octets) then without_redundant octets
+    else first ∷ octets
 
 -- the number that content octets say in two's complement (8.3.3)
 abbrev pub signed_of : List ℕ → ℤ
 signed_of octets =
-    if nat_lt (slice_index octets 0) 128 then pos (number_of octets) else pos (number_of octets) -ℤ pos (256 ^ length octets)
+    if nat_lt (slice_index octets 0) 128 then pos (number_of octets)
+    else pos (number_of octets) -ℤ pos (256 ^ length octets)
 
 -- more than 64 bits, signed or unsigned, in the fewest octets
 abbrev pub is_wide : List ℕ → Bool

@@ -1,6 +1,7 @@
--- The length octets of an element (X.690 8.1.3), in the definite form. Every definition that speaks of a
--- length cites IsLength or shortest_length, so that a further form has one place.
-use Rattle.std.specs.Prelude.{◌≡◌, ℕ, zero, suc, ◌+◌, ◌*◌, ◌^◌, ◌<◌, ◌≤◌, ◌⊎◌, List, [], ◌∷◌, length, nat_lt, if◌then◌else◌}
+-- The length octets of an element (X.690 8.1.3), in the definite form. Every definition that speaks
+-- of a length cites IsLength or shortest_length, so that a further form has one place.
+use Rattle.std.specs.Prelude.{◌≡◌, ℕ, zero, suc, ◌+◌, ◌*◌, ◌^◌, ◌<◌, ◌≤◌, ◌⊎◌, List, [], ◌∷◌}
+use Rattle.std.specs.Prelude.{length, nat_lt, if◌then◌else◌}
 use Rattle.std.specs.List.{AllByRecursion}
 use Rattle.std.specs.Int.{w64, to_be_bytes}
 
@@ -27,7 +28,8 @@ pub record IsLong (octets : List ℕ) : Type 0 where
   pub at_most_eight : length octets ≤ 8
   pub octets_all : IsOctets octets
 
--- The octets spell the length n: in the short form (8.1.3.4), or in the long one, which may begin with octets 0.
+-- The octets spell the length n: in the short form (8.1.3.4), or in the long one, which may begin
+-- with octets 0.
 abbrev pub IsLength : List ℕ → ℕ → Type 0
 IsLength spelled n =
     ((n < 128) × (spelled ≡ n ∷ []))

@@ -1,5 +1,8 @@
--- How a canonical spelling is put together, and how long it is: theorems for those who write one or measure it.
-use Rattle.std.proofs.Common.{◌≡◌, ℕ, zero, suc, ℤ, ◌+◌, ◌≤◌, true, false, nat_lt, if◌then◌else◌, List, [], ◌∷◌, ◌++◌, length, length-append, append_assoc, append-nil, refl, sym, ◌∙◌, ap, arith}
+-- How a canonical spelling is put together, and how long it is: theorems for those who write one or
+-- measure it.
+use Rattle.std.proofs.Common.{◌≡◌, ℕ, zero, suc, ℤ, ◌+◌, ◌≤◌, true, false, nat_lt, if◌then◌else◌}
+use Rattle.std.proofs.Common.{List, [], ◌∷◌, ◌++◌, length, length-append, append_assoc, append-nil}
+use Rattle.std.proofs.Common.{refl, sym, ◌∙◌, ap, arith}
 use Rattle.std.specs.List.{flat_map}
 use Rattle.std.specs.Int.{w64, w128, to_be_bytes, cast_unsigned}
 use Rattle.ber_core.specs.Length.{long_form, without_zeros, shortest_length}
@@ -9,15 +12,19 @@ use Rattle.ber_core.specs.Spelling.{element, canonical, canonical_all}
 
 -- ---- put together
 
-pub spelled-primitive : (tag content : List ℕ) → canonical (primitive tag content) ≡ tag ++ (shortest_length (length content) ++ content)
+pub spelled-primitive : (tag content : List ℕ)
+    → canonical (primitive tag content) ≡ tag ++ (shortest_length (length content) ++ content)
 unfolding canonical element
 spelled-primitive tag content = refl
 
-pub spelled-constructed : (tag : List ℕ) (members : Trees) → canonical (constructed tag members) ≡ tag ++ (shortest_length (length (canonical_all members)) ++ canonical_all members)
+pub spelled-constructed : (tag : List ℕ) (members : Trees)
+    → canonical (constructed tag members) ≡ tag
+    ++ (shortest_length (length (canonical_all members)) ++ canonical_all members)
 unfolding canonical element
 spelled-constructed tag members = refl
 
-pub spelled-tree_and : (t : Tree) (ts : Trees) → canonical_all (tree_and t ts) ≡ canonical t ++ canonical_all ts
+pub spelled-tree_and : (t : Tree) (ts : Trees)
+    → canonical_all (tree_and t ts) ≡ canonical t ++ canonical_all ts
 unfolding canonical
 spelled-tree_and t ts = refl
 
@@ -34,34 +41,54 @@ pub spelled-alone : (t : Tree) → canonical_all (trees (t ∷ [])) ≡ canonica
 unfolding canonical
 spelled-alone t = append-nil (canonical t)
 
-regrouped : (w tag size content : List ℕ) → w ++ tag ++ size ++ content ≡ w ++ (tag ++ (size ++ content))
+regrouped : (w tag size content : List ℕ) → w ++ tag ++ size ++ content
+    ≡ w ++ (tag ++ (size ++ content))
 regrouped w tag size content = simp append_assoc
 
 -- a head and the content behind it, appended one after the other, are one element
-pub append_within : (w head new tag content : List ℕ) (n : ℕ) (members : Trees) → canonical_all members ≡ content → n ≡ length (canonical_all members) → head ≡ w ++ tag ++ shortest_length n → new ≡ head ++ content
+pub append_within : (w head new tag content : List ℕ) (n : ℕ) (members : Trees)
+    → canonical_all members ≡ content → n ≡ length (canonical_all members)
+    → head ≡ w ++ tag ++ shortest_length n → new ≡ head ++ content
     → new ≡ w ++ canonical (constructed tag members)
 append_within w head new tag content n members is count headed appended =
-    appended ∙ ap (λ front. front ++ content) headed ∙ ap (λ content. w ++ tag ++ shortest_length n ++ content) (sym is)
+    appended ∙ ap (λ front. front ++ content) headed
+    ∙ ap (λ content. w ++ tag ++ shortest_length n ++ content) (sym is)
     ∙ ap (λ n. w ++ tag ++ shortest_length n ++ canonical_all members) count
-    ∙ regrouped w tag (shortest_length (length (canonical_all members))) (canonical_all members) ∙ ap (λ octets. w ++ octets) (sym (spelled-constructed tag members))
+    ∙ regrouped w tag (shortest_length (length (canonical_all members))) (canonical_all members)
+    ∙ ap (λ octets. w ++ octets) (sym (spelled-constructed tag members))
 
 -- ---- how long
 
-pub length-parts : (tag size content : List ℕ) → length (tag ++ (size ++ content)) ≡ length tag + length size + length content
-length-parts tag size content = omega (arith, length-append tag (size ++ content), length-append size content)
+pub length-parts : (tag size content : List ℕ)
+    → length (tag ++ (size ++ content)) ≡ length tag + length size + length content
+length-parts tag size content = omega (
+  arith,
+  length-append tag (size ++ content),
+  length-append size content,
+)
 
-pub length-element : (tag content : List ℕ) → length (element tag content) ≡ length tag + length (shortest_length (length content)) + length content
+pub length-element : (tag content : List ℕ) → length (element tag content)
+    ≡ length tag + length (shortest_length (length content)) + length content
 unfolding element
 length-element tag content = length-parts tag (shortest_length (length content)) content
 
-pub length-primitive : (tag content : List ℕ) → length (canonical (primitive tag content)) ≡ length tag + length (shortest_length (length content)) + length content
-length-primitive tag content = ap length (spelled-primitive tag content) ∙ length-parts tag (shortest_length (length content)) content
+pub length-primitive : (tag content : List ℕ)
+    → length (canonical (primitive tag content))
+    ≡ length tag + length (shortest_length (length content)) + length content
+length-primitive tag content = ap length (spelled-primitive tag content)
+    ∙ length-parts tag (shortest_length (length content)) content
 
-pub length-constructed : (tag : List ℕ) (members : Trees) → length (canonical (constructed tag members)) ≡ length tag + length (shortest_length (length (canonical_all members))) + length (canonical_all members)
-length-constructed tag members = ap length (spelled-constructed tag members) ∙ length-parts tag (shortest_length (length (canonical_all members))) (canonical_all members)
+pub length-constructed : (tag : List ℕ) (members : Trees)
+    → length (canonical (constructed tag members))
+    ≡ length tag + length (shortest_length (length (canonical_all members))) + length
+    (canonical_all members)
+length-constructed tag members = ap length (spelled-constructed tag members)
+    ∙ length-parts tag (shortest_length (length (canonical_all members))) (canonical_all members)
 
-pub length-tree_and : (t : Tree) (ts : Trees) → length (canonical_all (tree_and t ts)) ≡ length (canonical t) + length (canonical_all ts)
-length-tree_and t ts = ap length (spelled-tree_and t ts) ∙ length-append (canonical t) (canonical_all ts)
+pub length-tree_and : (t : Tree) (ts : Trees)
+    → length (canonical_all (tree_and t ts)) ≡ length (canonical t) + length (canonical_all ts)
+length-tree_and t ts = ap length (spelled-tree_and t ts)
+    ∙ length-append (canonical t) (canonical_all ts)
 
 pub length-no_trees : length (canonical_all no_trees) ≡ 0
 length-no_trees = ap length spelled-no_trees
@@ -81,14 +108,16 @@ length-without_zeros (suc n ∷ octets) = omega arith
 pub few-shortest_length : (n : ℕ) → length (shortest_length n) ≤ 9
 unfolding shortest_length
 few-shortest_length n =
-    elim (nat_lt n 128) as (λ b. length (if b then n ∷ [] else long_form (without_zeros (to_be_bytes w64 n))) ≤ 9)
+    elim (nat_lt n 128) as (λ b. length (if b then n ∷ []
+    else long_form (without_zeros (to_be_bytes w64 n))) ≤ 9)
     [ true ↦ omega arith | false ↦ omega (arith, length-without_zeros (to_be_bytes w64 n)) ]
 
 length-without_redundant : (octets : List ℕ) → length (without_redundant octets) ≤ length octets
 unfolding without_redundant
 length-without_redundant [] = omega arith
 length-without_redundant (first ∷ octets) =
-    elim (is_redundant (first ∷ octets)) as (λ b. length (if b then without_redundant octets else first ∷ octets) ≤ length (first ∷ octets))
+    elim (is_redundant (first ∷ octets)) as (λ b.
+    length (if b then without_redundant octets else first ∷ octets) ≤ length (first ∷ octets))
     [ true ↦ omega (arith, length-without_redundant octets) | false ↦ omega arith ]
 
 pub few-integer_octets : (z : ℤ) → length (integer_octets z) ≤ 16

@@ -1,5 +1,7 @@
--- What a spelling spells: a tree of elements, each with its tag as identifier octets (X.690 8.1.1 and 8.1.2).
-use Rattle.std.specs.Prelude.{◌≡◌, ℕ, ◌/◌, ◌%◌, Bool, true, false, ◌==◌, ◌&&◌, not, List, [], ◌∷◌, option_map, Option, Some, None, nat_lt, nat_le, if◌then◌else◌}
+-- What a spelling spells: a tree of elements, each with its tag as identifier octets (X.690 8.1.1
+-- and 8.1.2).
+use Rattle.std.specs.Prelude.{◌≡◌, ℕ, ◌/◌, ◌%◌, Bool, true, false, ◌==◌, ◌&&◌, not, List, [], ◌∷◌}
+use Rattle.std.specs.Prelude.{option_map, Option, Some, None, nat_lt, nat_le, if◌then◌else◌}
 use Rattle.ber_core.specs.Length.{IsOctets}
 
 -- A primitive element has a tag and content octets, a constructed one a tag and the elements in it.
@@ -25,10 +27,11 @@ begins_number (octet ∷ octets) = nat_le 31 octet && not (octet == 128)
 abbrev pub through_last : List ℕ → Option (List ℕ)
 through_last [] = None
 through_last (octet ∷ octets) =
-    if nat_lt octet 128 then Some (octet ∷ []) else option_map (λ rest. octet ∷ rest) (through_last octets)
+    if nat_lt octet 128 then Some (octet ∷ [])
+    else option_map (λ rest. octet ∷ rest) (through_last octets)
 
--- The identifier at the front of octets, if one stands there whole: a single octet, or one whose low five bits are set
--- and a number from 31 on (8.1.2.3 and 8.1.2.4).
+-- The identifier at the front of octets, if one stands there whole: a single octet, or one whose
+-- low five bits are set and a number from 31 on (8.1.2.3 and 8.1.2.4).
 unfoldable pub first_identifier : List ℕ → Option (List ℕ)
 first_identifier [] = None
 first_identifier (first ∷ octets) =

@@ -10,8 +10,10 @@ pub record View : Type 0 where
 
 abbrev pub view_code : Coded View
 view_code =
-    code_by (List ℕ × (ℕ × List ℕ)) (coded× (coded_list coded_ℕ) (coded× coded_ℕ (coded_list coded_ℕ)))
-    (λ v. (v.octets, (v.place, v.ends))) (λ p. record { octets = p.0; place = p.1.0; ends = p.1.1 }) (λ _. refl)
+    code_by (List ℕ × (ℕ × List ℕ)) (coded× (coded_list coded_ℕ)
+    (coded× coded_ℕ (coded_list coded_ℕ)))
+    (λ v. (v.octets, (v.place, v.ends))) (λ p. record { octets = p.0; place = p.1.0; ends = p.1.1 })
+    (λ _. refl)
 
 -- the end of the innermost entered element, or where none is entered, of the octets
 abbrev pub end_before : List ℕ → ℕ → ℕ

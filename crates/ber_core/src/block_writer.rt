@@ -7,7 +7,8 @@ ghost use Rattle.ber_core.specs.Spelling.{canonical};
 use crate::size::{complement_of, integer_content, significant};
 use std::marker::Model;
 
-/// Appends elements to a block of a fixed size that it holds itself, with no memory. Contracts see it as a `Writer`.
+/// Appends elements to a block of a fixed size that it holds itself, with no memory. Contracts see
+/// it as a `Writer`.
 #[derive(Drop)]
 pub struct BlockWriter<const SIZE: usize> {
     block: [u8; SIZE],
@@ -62,13 +63,15 @@ impl<const SIZE: usize> BlockWriter<SIZE> {
         self.end = end;
     }
 
-    /// Appends the identifier and the shortest length of an element with so many content octets, which the caller
-    /// appends next.
+    /// Appends the identifier and the shortest length of an element with so many content octets,
+    /// which the caller appends next.
     #[tactic(auto, unfolding(crate::specs::Length::shortest_length))]
     pub fn head(&mut self, identifier: &[u8], content: usize)
         requires { length identifier.now + length (shortest_length content) ≤ self.old.room }
-        ensures octets { self.new.octets ≡ self.old.octets ++ identifier.now ++ shortest_length content }
-        ensures room { self.new.room + length identifier.now + length (shortest_length content) ≡ self.old.room }
+        ensures octets { self.new.octets ≡ self.old.octets ++ identifier.now
+            ++ shortest_length content }
+        ensures room { self.new.room + length identifier.now + length (shortest_length content)
+            ≡ self.old.room }
     {
         self.raw(identifier);
         if content < 128 {
@@ -84,21 +87,26 @@ impl<const SIZE: usize> BlockWriter<SIZE> {
     /// Appends an INTEGER (X.690 8.3).
     pub fn integer(&mut self, identifier: &[u8], value: i128)
         requires value { Has64Bits value }
-        requires fits { length (canonical (primitive identifier.now (integer_octets value))) ≤ self.old.room }
-        ensures octets { self.new.octets ≡ self.old.octets ++ canonical (primitive identifier.now (integer_octets value)) }
-        ensures room { self.new.room + length (canonical (primitive identifier.now (integer_octets value))) ≡ self.old.room }
+        requires fits { length (canonical (primitive identifier.now (integer_octets value)))
+            ≤ self.old.room }
+        ensures octets { self.new.octets ≡ self.old.octets
+            ++ canonical (primitive identifier.now (integer_octets value)) }
+        ensures room { self.new.room + length
+            (canonical (primitive identifier.now (integer_octets value))) ≡ self.old.room }
     {
         let octets = complement_of(value);
         self.octet_string(identifier, integer_content(&octets, value));
     }
 
-    /// Appends a primitive element with these content octets: an OCTET STRING (X.690 8.7), a VisibleString (8.23) or
-    /// an OBJECT IDENTIFIER (8.19).
+    /// Appends a primitive element with these content octets: an OCTET STRING (X.690 8.7), a
+    /// VisibleString (8.23) or an OBJECT IDENTIFIER (8.19).
     #[tactic(auto, unfolding(crate::specs::Spelling::canonical, crate::specs::Spelling::element))]
     pub fn octet_string(&mut self, identifier: &[u8], octets: &[u8])
         requires { length (canonical (primitive identifier.now octets.now)) ≤ self.old.room }
-        ensures octets { self.new.octets ≡ self.old.octets ++ canonical (primitive identifier.now octets.now) }
-        ensures room { self.new.room + length (canonical (primitive identifier.now octets.now)) ≡ self.old.room }
+        ensures octets { self.new.octets ≡ self.old.octets
+            ++ canonical (primitive identifier.now octets.now) }
+        ensures room { self.new.room + length (canonical (primitive identifier.now octets.now))
+            ≡ self.old.room }
     {
         self.head(identifier, octets.len());
         self.raw(octets);
@@ -108,8 +116,10 @@ impl<const SIZE: usize> BlockWriter<SIZE> {
     #[tactic(auto, unfolding(crate::specs::Spelling::canonical, crate::specs::Spelling::element))]
     pub fn null(&mut self, identifier: &[u8])
         requires { length (canonical (primitive identifier.now [])) ≤ self.old.room }
-        ensures octets { self.new.octets ≡ self.old.octets ++ canonical (primitive identifier.now []) }
-        ensures room { self.new.room + length (canonical (primitive identifier.now [])) ≡ self.old.room }
+        ensures octets { self.new.octets ≡ self.old.octets
+            ++ canonical (primitive identifier.now []) }
+        ensures room { self.new.room + length (canonical (primitive identifier.now []))
+            ≡ self.old.room }
     {
         self.head(identifier, 0);
     }

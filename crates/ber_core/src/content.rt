@@ -1,11 +1,13 @@
-// The rules of content octets. Each function answers what the content says, or its fault, with the place at which the
-// content begins.
+// The rules of content octets. Each function answers what the content says, or its fault, with the
+// place at which the content begins.
 
-ghost use Rattle.std.specs.Prelude.{◌≡◌, ◌∷◌, [], ℕ, ℤ, ◌+◌, ◌*◌, ◌^◌, ◌<◌, ◌≤◌, ◌≤ℤ◌, ◌&&◌, true, length, IfOk};
+ghost use Rattle.std.specs.Prelude.{◌≡◌, ◌∷◌, [], ℕ, ℤ, ◌+◌, ◌*◌, ◌^◌, ◌<◌, ◌≤◌, ◌≤ℤ◌, ◌&&◌, true};
+ghost use Rattle.std.specs.Prelude.{length, IfOk};
 ghost use Rattle.std.specs.List.{list_all};
 ghost use Rattle.ber_core.specs.Length.{number_of};
 ghost use Rattle.ber_core.specs.Integer.{is_wide, signed_of};
-ghost use Rattle.ber_core.specs.Reading.{Gives, integer_of, string_of, visible_of, object_id_of, null_of, has_length, is_visible, are_subidentifiers};
+ghost use Rattle.ber_core.specs.Reading.{Gives, integer_of, string_of, visible_of, object_id_of};
+ghost use Rattle.ber_core.specs.Reading.{null_of, has_length, is_visible, are_subidentifiers};
 
 use crate::fault::BerFault;
 use crate::size::has_redundant_first;

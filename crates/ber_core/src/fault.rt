@@ -2,16 +2,16 @@
 use std::error::Error;
 use std::fmt;
 
-/// The first fault of octets in the place of an element, in reading order. A place counts from the first octet that the
-/// reader was given.
+/// The first fault of octets in the place of an element, in reading order. A place counts from the
+/// first octet that the reader was given.
 #[derive(Clone, Copy, Debug, PartialEq, Eq)]
 pub enum BerFault {
     /// The input ends inside the outermost element, which begins here.
     Cut { place: usize },
     /// The element that begins here has another identifier; its first octet is `found`.
     WrongTag { place: usize, found: u8 },
-    /// The length here isn't definite, or not of at most 8 octets, or passes the element around it; or an octet is
-    /// missing or too many here.
+    /// The length here isn't definite, or not of at most 8 octets, or passes the element around it;
+    /// or an octet is missing or too many here.
     BadLength { place: usize },
     /// The content that begins here breaks the rules of its type or is out of its range.
     BadContent { place: usize },

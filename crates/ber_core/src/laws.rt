@@ -1,6 +1,8 @@
 // What holds of every tree and every spelling.
 
-ghost use Rattle.ber_core.specs.Reading.{FoundWhereSpelled, IntegerWhereSpelled, IntegerReadBack, ElementReadBack, ContentIsInside, ContentIsOctets, RestIsBehind};
+ghost use Rattle.ber_core.specs.Reading.{FoundWhereSpelled, IntegerWhereSpelled, IntegerReadBack};
+ghost use Rattle.ber_core.specs.Reading.{ElementReadBack, ContentIsInside, ContentIsOctets};
+ghost use Rattle.ber_core.specs.Reading.{RestIsBehind};
 ghost use Rattle.ber_core.specs.Whole.{ReadWhereSpelled, AllReadAreSpelled, AllSpelledAreRead};
 ghost use Rattle.ber_core.specs.Length.{IsSlice};
 ghost use Rattle.ber_core.specs.Spelling.{CanonicalSpells, NoneBeginsAnother, OneTree};
@@ -20,13 +22,14 @@ pub fn one_tree()
     ensures { OneTree }
 {}
 
-/// A reader finds an element's content exactly where the element is spelled, before the end of the element around it
-/// and within the limit on nesting.
+/// A reader finds an element's content exactly where the element is spelled, before the end of the
+/// element around it and within the limit on nesting.
 pub fn found_where_spelled()
     ensures { FoundWhereSpelled }
 {}
 
-/// A reader reads an INTEGER exactly from its octets, where it has at most 64 bits and is in the range.
+/// A reader reads an INTEGER exactly from its octets, where it has at most 64 bits and is in the
+/// range.
 pub fn integer_where_spelled()
     ensures { IntegerWhereSpelled }
 {}
@@ -56,8 +59,8 @@ pub fn rest_is_behind()
     ensures { RestIsBehind }
 {}
 
-/// A reader's calls in a tree's order read it exactly where it is spelled, before the end of the element around it and
-/// within the limit on nesting.
+/// A reader's calls in a tree's order read it exactly where it is spelled, before the end of the
+/// element around it and within the limit on nesting.
 pub fn read_where_spelled()
     ensures { ReadWhereSpelled }
 {}

@@ -1,8 +1,13 @@
-ghost use Rattle.std.specs.Prelude.{◌≡◌, ℕ, ℤ, ◌+◌, ◌-◌, ◌^◌, ◌<◌, ◌≤◌, ◌≤ℤ◌, ◌==◌, ◌↔◌, IsTrue, IsOk, IsSome, IfOk, IfSome, take, drop, option_map, List, length, Ok, Err};
+ghost use Rattle.std.specs.Prelude.{◌≡◌, ℕ, ℤ, ◌+◌, ◌-◌, ◌^◌, ◌<◌, ◌≤◌, ◌≤ℤ◌, ◌==◌, ◌↔◌, IsTrue};
+ghost use Rattle.std.specs.Prelude.{IsOk, IsSome, IfOk, IfSome, take, drop, option_map, List};
+ghost use Rattle.std.specs.Prelude.{length, Ok, Err};
 ghost use Rattle.ber_core.specs.Length.{IsSlice};
 ghost use Rattle.ber_core.specs.Tree.{begins_number, through_last, first_identifier};
 ghost use Rattle.ber_core.specs.View.{View, view_before, end_of, left};
-ghost use Rattle.ber_core.specs.Reading.{Reads, Gives, missing, content_from, content_behind, content_at, next_content, is_next, primitive_at, integer_of, string_of, visible_of, object_id_of, null_of, enter, leave};
+ghost use Rattle.ber_core.specs.Reading.{Reads, Gives, missing, content_from, content_behind};
+ghost use Rattle.ber_core.specs.Reading.{content_at, next_content, is_next, primitive_at};
+ghost use Rattle.ber_core.specs.Reading.{integer_of, string_of, visible_of, object_id_of, null_of};
+ghost use Rattle.ber_core.specs.Reading.{enter, leave};
 
 use crate::content::number_of;
 use crate::fault::BerFault;
@@ -11,7 +16,8 @@ use std::marker::Model;
 
 const DEEPEST: usize = 16;
 
-/// Reads elements from octets, which it lends, and takes no memory. A fault leaves it where it stood.
+/// Reads elements from octets, which it lends, and takes no memory. A fault leaves it where it
+/// stood.
 #[derive(Drop)]
 pub struct Reader<'a> {
     octets: &'a [u8],
@@ -29,9 +35,14 @@ impl<'a> Model for Reader<'a> {
 
     ghost coded = { view_code };
 
-    ghost view = { λ r. record { octets = r.octets.now; place = r.place; ends = drop r.free r.ends } };
+    ghost view = { λ r. record {
+      octets = r.octets.now;
+      place = r.place;
+      ends = drop r.free r.ends;
+    } };
 
-    ghost invariant = { λ r. (r.free ≤ 16) × IsInside r.place (drop r.free r.ends) (length r.octets.now) };
+    ghost invariant = { λ r. (r.free ≤ 16) × IsInside r.place (drop r.free r.ends)
+        (length r.octets.now) };
 }
 
 impl<'a> Reader<'a> {
@@ -117,7 +128,8 @@ impl<'a> Reader<'a> {
         size: usize,
         rest: &'a [u8],
     ) -> Result<(usize, &'a [u8]), BerFault>
-        ensures exact { Gives (λ found. (found.0, found.1.now)) result (content_from self.now at start size rest.now) }
+        ensures exact { Gives (λ found. (found.0, found.1.now)) result
+            (content_from self.now at start size rest.now) }
         ensures place { IfOk result (λ found. found.0 ≡ start) }
         ensures within { IfOk result (λ found. length found.1.now ≤ length rest.now) }
     {
@@ -135,9 +147,11 @@ impl<'a> Reader<'a> {
     ) -> Result<(usize, &'a [u8]), BerFault>
         requires count { count ≤ 8 }
         requires place { at + 1 + length rest.now < 2 ^ 64 }
-        ensures exact { Gives (λ found. (found.0, found.1.now)) result (content_behind self.now at count rest.now) }
+        ensures exact { Gives (λ found. (found.0, found.1.now)) result
+            (content_behind self.now at count rest.now) }
         ensures place { IfOk result (λ found. at < found.0) }
-        ensures within { IfOk result (λ found. found.0 + length found.1.now ≤ at + 1 + length rest.now) }
+        ensures within { IfOk result (λ found.
+            found.0 + length found.1.now ≤ at + 1 + length rest.now) }
     {
         if rest.len() < count {
             return Err(self.missing(at));
@@ -148,9 +162,11 @@ impl<'a> Reader<'a> {
 
     fn content_at(&self, at: usize, rest: &'a [u8]) -> Result<(usize, &'a [u8]), BerFault>
         requires { at + length rest.now < 2 ^ 64 }
-        ensures exact { Gives (λ found. (found.0, found.1.now)) result (content_at self.now at rest.now) }
+        ensures exact { Gives (λ found. (found.0, found.1.now)) result
+            (content_at self.now at rest.now) }
         ensures place { IfOk result (λ found. at < found.0) }
-        ensures within { IfOk result (λ found. found.0 + length found.1.now ≤ at + length rest.now) }
+        ensures within { IfOk result (λ found.
+            found.0 + length found.1.now ≤ at + length rest.now) }
         ensures room { IsOk result → length self.now.ends < 16 }
     {
         let Some((first, rest)) = rest.split_first() else {
@@ -169,7 +185,8 @@ impl<'a> Reader<'a> {
     // The content of the next element, and where it begins.
     #[inline(always)]
     fn next_content(&self, identifier: &[u8]) -> Result<(usize, &'a [u8]), BerFault>
-        ensures exact { Gives (λ found. (found.0, found.1.now)) result (next_content self.now identifier.now) }
+        ensures exact { Gives (λ found. (found.0, found.1.now)) result
+            (next_content self.now identifier.now) }
         ensures place { IfOk result (λ found. self.now.place ≤ found.0) }
         ensures within { IfOk result (λ found. found.0 + length found.1.now ≤ end_of self.now) }
         ensures fits { IfOk result (λ found. found.0 + length found.1.now < 2 ^ 64) }
@@ -181,12 +198,13 @@ impl<'a> Reader<'a> {
         }
     }
 
-    // The content of an element with an identifier of one octet and a length of one octet, where one stands next: most
-    // elements are so.
+    // The content of an element with an identifier of one octet and a length of one octet, where
+    // one stands next: most elements are so.
     #[inline(always)]
     #[tactic(auto, unfolding(crate::specs::Reading::next_content))]
     fn short_content(&self, identifier: &[u8]) -> Option<(usize, &'a [u8])>
-        ensures exact { IfSome result (λ found. next_content self.now identifier.now ≡ Ok (found.0, found.1.now)) }
+        ensures exact { IfSome result (λ found. next_content self.now identifier.now
+            ≡ Ok (found.0, found.1.now)) }
         ensures place { IfSome result (λ found. self.now.place ≤ found.0) }
         ensures within { IfSome result (λ found. found.0 + length found.1.now ≤ end_of self.now) }
         ensures fits { IfSome result (λ found. found.0 + length found.1.now < 2 ^ 64) }
@@ -208,7 +226,8 @@ impl<'a> Reader<'a> {
     // The content of the next element, where it often has more than 127 octets.
     #[inline(always)]
     fn next_long_content(&self, identifier: &[u8]) -> Result<(usize, &'a [u8]), BerFault>
-        ensures exact { Gives (λ found. (found.0, found.1.now)) result (next_content self.now identifier.now) }
+        ensures exact { Gives (λ found. (found.0, found.1.now)) result
+            (next_content self.now identifier.now) }
         ensures place { IfOk result (λ found. self.now.place ≤ found.0) }
         ensures within { IfOk result (λ found. found.0 + length found.1.now ≤ end_of self.now) }
         ensures fits { IfOk result (λ found. found.0 + length found.1.now < 2 ^ 64) }
@@ -220,12 +239,13 @@ impl<'a> Reader<'a> {
         }
     }
 
-    // The content of an element with an identifier of one octet and a length of two octets in the long form, where one
-    // stands next: frames are so, and what stands around them.
+    // The content of an element with an identifier of one octet and a length of two octets in the
+    // long form, where one stands next: frames are so, and what stands around them.
     #[inline(always)]
     #[tactic(auto, unfolding(crate::specs::Reading::next_content))]
     fn long_content(&self, identifier: &[u8]) -> Option<(usize, &'a [u8])>
-        ensures exact { IfSome result (λ found. next_content self.now identifier.now ≡ Ok (found.0, found.1.now)) }
+        ensures exact { IfSome result (λ found. next_content self.now identifier.now
+            ≡ Ok (found.0, found.1.now)) }
         ensures place { IfSome result (λ found. self.now.place ≤ found.0) }
         ensures within { IfSome result (λ found. found.0 + length found.1.now ≤ end_of self.now) }
         ensures fits { IfSome result (λ found. found.0 + length found.1.now < 2 ^ 64) }
@@ -252,7 +272,8 @@ impl<'a> Reader<'a> {
     #[inline(never)]
     #[tactic(auto, unfolding(crate::specs::Reading::next_content))]
     fn any_content(&self, identifier: &[u8]) -> Result<(usize, &'a [u8]), BerFault>
-        ensures exact { Gives (λ found. (found.0, found.1.now)) result (next_content self.now identifier.now) }
+        ensures exact { Gives (λ found. (found.0, found.1.now)) result
+            (next_content self.now identifier.now) }
         ensures place { IfOk result (λ found. self.now.place ≤ found.0) }
         ensures within { IfOk result (λ found. found.0 + length found.1.now ≤ end_of self.now) }
         ensures fits { IfOk result (λ found. found.0 + length found.1.now < 2 ^ 64) }
@@ -272,8 +293,8 @@ impl<'a> Reader<'a> {
         })
     }
 
-    /// The identifier octets of the next element (X.690 8.1.2), or none where no whole ones stand before the end of the
-    /// innermost entered element, or where none is entered, of the octets.
+    /// The identifier octets of the next element (X.690 8.1.2), or none where no whole ones stand
+    /// before the end of the innermost entered element, or where none is entered, of the octets.
     #[tactic(auto, unfolding(crate::specs::Tree::first_identifier))]
     pub fn identifier(&self) -> Option<&'a [u8]>
         ensures { option_map (λ octets. octets.now) result ≡ first_identifier (left self.now) }
@@ -298,7 +319,8 @@ impl<'a> Reader<'a> {
         self.left().starts_with(identifier)
     }
 
-    /// Whether the innermost entered element, or where none is entered, the octets, have no further octet.
+    /// Whether the innermost entered element, or where none is entered, the octets, have no further
+    /// octet.
     #[inline(always)]
     pub fn at_end(&self) -> bool
         ensures { IsTrue result ↔ (self.now.place ≡ end_of self.now) }
@@ -319,7 +341,8 @@ impl<'a> Reader<'a> {
         Ok(())
     }
 
-    /// Leaves the innermost entered element, or where none is entered, tests that the octets end here.
+    /// Leaves the innermost entered element, or where none is entered, tests that the octets end
+    /// here.
     #[inline(always)]
     #[tactic(auto, using(crate::specs::Facts::Ends::leaving))]
     pub fn leave(&mut self) -> Result<(), BerFault>
@@ -343,7 +366,8 @@ impl<'a> Reader<'a> {
         least: i128,
         greatest: i128,
     ) -> Result<i128, BerFault>
-        ensures exact { Reads (λ value. value) self.old self.new result (primitive_at (integer_of least greatest) self.old identifier.now) }
+        ensures exact { Reads (λ value. value) self.old self.new result
+            (primitive_at (integer_of least greatest) self.old identifier.now) }
         ensures octets { self.new.octets ≡ self.old.octets }
         ensures range { IfOk result (λ value. (least ≤ℤ value) × (value ≤ℤ greatest)) }
     {
@@ -361,7 +385,8 @@ impl<'a> Reader<'a> {
         least: usize,
         greatest: usize,
     ) -> Result<&'a [u8], BerFault>
-        ensures exact { Reads (λ octets. octets.now) self.old self.new result (primitive_at (string_of least greatest) self.old identifier.now) }
+        ensures exact { Reads (λ octets. octets.now) self.old self.new result
+            (primitive_at (string_of least greatest) self.old identifier.now) }
         ensures octets { self.new.octets ≡ self.old.octets }
     {
         let (start, content) = self.next_long_content(identifier)?;
@@ -377,7 +402,8 @@ impl<'a> Reader<'a> {
         least: usize,
         greatest: usize,
     ) -> Result<&'a [u8], BerFault>
-        ensures exact { Reads (λ octets. octets.now) self.old self.new result (primitive_at (visible_of least greatest) self.old identifier.now) }
+        ensures exact { Reads (λ octets. octets.now) self.old self.new result
+            (primitive_at (visible_of least greatest) self.old identifier.now) }
         ensures octets { self.new.octets ≡ self.old.octets }
     {
         let (start, content) = self.next_content(identifier)?;
@@ -388,7 +414,8 @@ impl<'a> Reader<'a> {
 
     /// Reads an OBJECT IDENTIFIER, and answers its content octets (X.690 8.19).
     pub fn object_id(&mut self, identifier: &[u8]) -> Result<&'a [u8], BerFault>
-        ensures exact { Reads (λ octets. octets.now) self.old self.new result (primitive_at object_id_of self.old identifier.now) }
+        ensures exact { Reads (λ octets. octets.now) self.old self.new result
+            (primitive_at object_id_of self.old identifier.now) }
         ensures octets { self.new.octets ≡ self.old.octets }
     {
         let (start, content) = self.next_content(identifier)?;
@@ -400,7 +427,8 @@ impl<'a> Reader<'a> {
     /// Reads a NULL (X.690 8.8).
     #[inline(always)]
     pub fn null(&mut self, identifier: &[u8]) -> Result<(), BerFault>
-        ensures exact { Reads (λ _. tt) self.old self.new result (primitive_at null_of self.old identifier.now) }
+        ensures exact { Reads (λ _. tt) self.old self.new result
+            (primitive_at null_of self.old identifier.now) }
         ensures octets { self.new.octets ≡ self.old.octets }
     {
         let (start, content) = self.next_content(identifier)?;

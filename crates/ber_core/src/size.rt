@@ -1,6 +1,7 @@
 // How many octets an element takes, and the fewest octets of a number.
 
-ghost use Rattle.std.specs.Prelude.{◌≡◌, ℕ, ◌+◌, ◌*◌, ◌^◌, ◌<◌, ◌≤◌, ◌↔◌, IsTrue, ℤ, pos, negsuc, ◌≤ℤ◌, length};
+ghost use Rattle.std.specs.Prelude.{◌≡◌, ℕ, ◌+◌, ◌*◌, ◌^◌, ◌<◌, ◌≤◌, ◌↔◌, IsTrue, ℤ, pos, negsuc};
+ghost use Rattle.std.specs.Prelude.{◌≤ℤ◌, length};
 ghost use Rattle.std.specs.Int.{w128, to_be_bytes, cast_unsigned};
 ghost use Rattle.ber_core.specs.Length.{without_zeros, shortest_length};
 ghost use Rattle.ber_core.specs.Integer.{is_redundant, without_redundant, integer_octets};

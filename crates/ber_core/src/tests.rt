@@ -3,7 +3,8 @@ use std::alloc::Global;
 use std::process::Abort;
 use std::test::Fail;
 
-/// INTEGERs and their elements, made with Python: `n.to_bytes(k, "big", signed=True)` at the least `k` that takes `n`.
+/// INTEGERs and their elements, made with Python: `n.to_bytes(k, "big", signed=True)` at the least
+/// `k` that takes `n`.
 const INTEGERS: [(i128, &[u8]); 10] = [
     (0, &[2, 1, 0]),
     (-1, &[2, 1, 0xff]),
@@ -36,8 +37,8 @@ fn integers_have_the_fewest_octets(rt: HostRuntime) -> Result<(), Fail> {
     Ok(())
 }
 
-/// Lengths and their octets: the examples of X.690 8.1.3.4 and 8.1.3.5, and the least and the greatest of several
-/// numbers of octets.
+/// Lengths and their octets: the examples of X.690 8.1.3.4 and 8.1.3.5, and the least and the
+/// greatest of several numbers of octets.
 const LENGTHS: [(usize, &[u8]); 10] = [
     (0, &[0]),
     (38, &[38]),
@@ -51,7 +52,8 @@ const LENGTHS: [(usize, &[u8]); 10] = [
     (1099511627776, &[0x86, 1, 0, 0, 0, 0, 0]),
 ];
 
-// An element with this identifier and so many content octets begins with the identifier and these length octets.
+// An element with this identifier and so many content octets begins with the identifier and these
+// length octets.
 fn begins_with(
     rt: &impl Abort,
     alloc: Global,

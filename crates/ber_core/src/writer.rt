@@ -11,7 +11,8 @@ use crate::size::{
 use std::alloc::Global;
 use std::marker::Model;
 
-/// Appends elements to a buffer of a fixed size. Contracts see it as the octets appended and the room that is left.
+/// Appends elements to a buffer of a fixed size. Contracts see it as the octets appended and the
+/// room that is left.
 #[derive(Drop)]
 pub struct Writer {
     buffer: Vec<u8>,
@@ -71,13 +72,15 @@ impl Writer {
         self.buffer.extend_from_slice(octets).unwrap();
     }
 
-    /// Appends the identifier and the shortest length of an element with so many content octets, which the caller
-    /// appends next.
+    /// Appends the identifier and the shortest length of an element with so many content octets,
+    /// which the caller appends next.
     #[tactic(auto, unfolding(crate::specs::Length::shortest_length))]
     pub fn head(&mut self, identifier: &[u8], content: usize)
         requires { length identifier.now + length (shortest_length content) ≤ self.old.room }
-        ensures octets { self.new.octets ≡ self.old.octets ++ identifier.now ++ shortest_length content }
-        ensures room { self.new.room + length identifier.now + length (shortest_length content) ≡ self.old.room }
+        ensures octets { self.new.octets ≡ self.old.octets ++ identifier.now
+            ++ shortest_length content }
+        ensures room { self.new.room + length identifier.now + length (shortest_length content)
+            ≡ self.old.room }
     {
         let [octet] = identifier else {
             return self.any_head(identifier, content);
@@ -97,8 +100,10 @@ impl Writer {
     #[tactic(auto, unfolding(crate::specs::Length::shortest_length))]
     fn any_head(&mut self, identifier: &[u8], content: usize)
         requires { length identifier.now + length (shortest_length content) ≤ self.old.room }
-        ensures octets { self.new.octets ≡ self.old.octets ++ identifier.now ++ shortest_length content }
-        ensures room { self.new.room + length identifier.now + length (shortest_length content) ≡ self.old.room }
+        ensures octets { self.new.octets ≡ self.old.octets ++ identifier.now
+            ++ shortest_length content }
+        ensures room { self.new.room + length identifier.now + length (shortest_length content)
+            ≡ self.old.room }
     {
         self.raw(identifier);
         if content < 128 {
@@ -114,9 +119,12 @@ impl Writer {
     /// Appends an INTEGER (X.690 8.3).
     pub fn integer(&mut self, identifier: &[u8], value: i128)
         requires value { Has64Bits value }
-        requires fits { length (canonical (primitive identifier.now (integer_octets value))) ≤ self.old.room }
-        ensures octets { self.new.octets ≡ self.old.octets ++ canonical (primitive identifier.now (integer_octets value)) }
-        ensures room { self.new.room + length (canonical (primitive identifier.now (integer_octets value))) ≡ self.old.room }
+        requires fits { length (canonical (primitive identifier.now (integer_octets value)))
+            ≤ self.old.room }
+        ensures octets { self.new.octets ≡ self.old.octets
+            ++ canonical (primitive identifier.now (integer_octets value)) }
+        ensures room { self.new.room + length
+            (canonical (primitive identifier.now (integer_octets value))) ≡ self.old.room }
     {
         if has_one_octet(value) {
             self.octet_string(identifier, &one_octet(value));
@@ -130,20 +138,25 @@ impl Writer {
     #[tactic(auto, unfolding(crate::specs::Integer::integer_octets))]
     fn any_integer(&mut self, identifier: &[u8], value: i128)
         requires value { Has64Bits value }
-        requires fits { length (canonical (primitive identifier.now (integer_octets value))) ≤ self.old.room }
-        ensures octets { self.new.octets ≡ self.old.octets ++ canonical (primitive identifier.now (integer_octets value)) }
-        ensures room { self.new.room + length (canonical (primitive identifier.now (integer_octets value))) ≡ self.old.room }
+        requires fits { length (canonical (primitive identifier.now (integer_octets value)))
+            ≤ self.old.room }
+        ensures octets { self.new.octets ≡ self.old.octets
+            ++ canonical (primitive identifier.now (integer_octets value)) }
+        ensures room { self.new.room + length
+            (canonical (primitive identifier.now (integer_octets value))) ≡ self.old.room }
     {
         self.octet_string(identifier, shortest_complement(&value.to_be_bytes()));
     }
 
-    /// Appends a primitive element with these content octets: an OCTET STRING (X.690 8.7), a VisibleString (8.23) or
-    /// an OBJECT IDENTIFIER (8.19).
+    /// Appends a primitive element with these content octets: an OCTET STRING (X.690 8.7), a
+    /// VisibleString (8.23) or an OBJECT IDENTIFIER (8.19).
     #[tactic(auto, unfolding(crate::specs::Spelling::canonical, crate::specs::Spelling::element))]
     pub fn octet_string(&mut self, identifier: &[u8], octets: &[u8])
         requires { length (canonical (primitive identifier.now octets.now)) ≤ self.old.room }
-        ensures octets { self.new.octets ≡ self.old.octets ++ canonical (primitive identifier.now octets.now) }
-        ensures room { self.new.room + length (canonical (primitive identifier.now octets.now)) ≡ self.old.room }
+        ensures octets { self.new.octets ≡ self.old.octets
+            ++ canonical (primitive identifier.now octets.now) }
+        ensures room { self.new.room + length (canonical (primitive identifier.now octets.now))
+            ≡ self.old.room }
     {
         self.head(identifier, octets.len());
         self.raw(octets);
@@ -153,8 +166,10 @@ impl Writer {
     #[tactic(auto, unfolding(crate::specs::Spelling::canonical, crate::specs::Spelling::element))]
     pub fn null(&mut self, identifier: &[u8])
         requires { length (canonical (primitive identifier.now [])) ≤ self.old.room }
-        ensures octets { self.new.octets ≡ self.old.octets ++ canonical (primitive identifier.now []) }
-        ensures room { self.new.room + length (canonical (primitive identifier.now [])) ≡ self.old.room }
+        ensures octets { self.new.octets ≡ self.old.octets
+            ++ canonical (primitive identifier.now []) }
+        ensures room { self.new.room + length (canonical (primitive identifier.now []))
+            ≡ self.old.room }
     {
         self.head(identifier, 0);
     }

@@ -1,6 +1,8 @@
--- CHOICE (X.690 8.13): the alternative whose identifier stands next. One of more alternatives is an alternative and the
--- CHOICE of the others.
-use Rattle.std.proofs.Common.{◌≡◌, ℕ, ◌≤◌, max, Bool, true, false, if◌then◌else◌, List, [], ◌∷◌, length, Option, Some, None, Result, Ok, ◌⊎◌, inl, inr, refl, subst, arith}
+-- CHOICE (X.690 8.13): the alternative whose identifier stands next. One of more alternatives is an
+-- alternative and the CHOICE of the others.
+use Rattle.std.proofs.Common.{◌≡◌, ℕ, ◌≤◌, max, Bool, true, false, if◌then◌else◌, List, [], ◌∷◌}
+use Rattle.std.proofs.Common.{length, Option, Some, None, Result, Ok, ◌⊎◌, inl, inr, refl, subst}
+use Rattle.std.proofs.Common.{arith}
 use Rattle.ber_core.specs.declared.fault.BerFault.{BerFault}
 use Rattle.ber_core.specs.Length.{IsSlice}
 use Rattle.ber_core.specs.Tree.{Tree}
@@ -22,47 +24,66 @@ abbrev pub EitherFits : {X Y : Type 0} → (X → Type 0) → (Y → Type 0) →
 EitherFits F G (inl x) = F x
 EitherFits F G (inr y) = G y
 
-abbrev pub either_at : {X Y : Type 0} → List ℕ → (View → Result (X × View) BerFault) → (View → Result (Y × View) BerFault) → View → Result ((X ⊎ Y) × View) BerFault
-either_at tag first second view = if is_next tag view then taken inl (first view) else taken inr (second view)
+abbrev pub either_at : {X Y : Type 0} → List ℕ → (View → Result (X × View) BerFault)
+    → (View → Result (Y × View) BerFault) → View → Result ((X ⊎ Y) × View) BerFault
+either_at tag first second view = if is_next tag view then taken inl (first view)
+    else taken inr (second view)
 
-module _ {X Y : Type 0} (tag : List ℕ) (a : Element X) (b : Element Y) (only : a.starts ≡ tag ∷ []) (apart : is_apart tag b.starts ≡ true) where
-  pub first_next : (view new : View) (x : X) → read_tree (a.tree x) view ≡ Ok new → is_next tag view ≡ true
-  first_next view new x e = or_alone (is_next tag view) (subst (λ starts. begin_with starts (left view) ≡ true) only (a.begins view new x e))
+module _ {X Y : Type 0} (tag : List ℕ) (a : Element X) (b : Element Y) (only : a.starts ≡ tag ∷ [])
+    (apart : is_apart tag b.starts ≡ true) where
+  pub first_next : (view new : View) (x : X) → read_tree (a.tree x) view ≡ Ok new
+      → is_next tag view ≡ true
+  first_next view new x e = or_alone (is_next tag view)
+      (subst (λ starts. begin_with starts (left view) ≡ true) only (a.begins view new x e))
 
-  pub second_next : (view new : View) (y : Y) → read_tree (b.tree y) view ≡ Ok new → is_next tag view ≡ false
+  pub second_next : (view new : View) (y : Y) → read_tree (b.tree y) view ≡ Ok new
+      → is_next tag view ≡ false
   second_next view new y e = apart_so tag b.starts (left view) apart (b.begins view new y e)
 
   abbrev pub AnyRead : View → View → X ⊎ Y → Type 0
   AnyRead view new z = WasRead (EitherFits a.Fits b.Fits) (either_tree a.tree b.tree) view new z
 
-  pub either_sound : (view new : View) (z : X ⊎ Y) → IsSlice view.octets → either_at tag a.read b.read view ≡ Ok (z, new) → AnyRead view new z
+  pub either_sound : (view new : View) (z : X ⊎ Y) → IsSlice view.octets
+      → either_at tag a.read b.read view ≡ Ok (z, new) → AnyRead view new z
   either_sound view new z slice e =
-      elim (chosen (is_next tag view) (taken inl (a.read view)) (taken inr (b.read view)) (Ok (z, new)) e) [
+      elim (chosen (is_next tag view) (taken inl (a.read view)) (taken inr (b.read view))
+      (Ok (z, new)) e) [
         | inl h ↦
             let (x, read, is) = taken_ok inl (a.read view) z new h.1 in
             let was = a.sound view new x slice read in
-            subst (λ z. AnyRead view new z) is (record { fits = was.fits; stands = was.stands; formed = was.formed })
+            subst (λ z. AnyRead view new z) is
+            (record { fits = was.fits; stands = was.stands; formed = was.formed })
         | inr h ↦
             let (y, read, is) = taken_ok inr (b.read view) z new h.1 in
             let was = b.sound view new y slice read in
-            subst (λ z. AnyRead view new z) is (record { fits = was.fits; stands = was.stands; formed = was.formed })
+            subst (λ z. AnyRead view new z) is
+            (record { fits = was.fits; stands = was.stands; formed = was.formed })
       ]
 
-  pub either_complete : (view new : View) (z : X ⊎ Y) → EitherFits a.Fits b.Fits z → read_tree (either_tree a.tree b.tree z) view ≡ Ok new → either_at tag a.read b.read view ≡ Ok (z, new)
+  pub either_complete : (view new : View) (z : X ⊎ Y) → EitherFits a.Fits b.Fits z
+      → read_tree (either_tree a.tree b.tree z) view ≡ Ok new
+      → either_at tag a.read b.read view ≡ Ok (z, new)
   either_complete view new (inl x) fits e =
-      if_true (is_next tag view) _ _ _ (first_next view new x e) (taken_again inl (a.read view) x (inl x) new (a.complete view new x fits e) refl)
+      if_true (is_next tag view) _ _ _ (first_next view new x e)
+      (taken_again inl (a.read view) x (inl x) new (a.complete view new x fits e) refl)
   either_complete view new (inr y) fits e =
-      if_false (is_next tag view) _ _ _ (second_next view new y e) (taken_again inr (b.read view) y (inr y) new (b.complete view new y fits e) refl)
+      if_false (is_next tag view) _ _ _ (second_next view new y e)
+      (taken_again inr (b.read view) y (inr y) new (b.complete view new y fits e) refl)
 
-  pub either_begins : (view new : View) (z : X ⊎ Y) → read_tree (either_tree a.tree b.tree z) view ≡ Ok new → begin_with (tag ∷ b.starts) (left view) ≡ true
-  either_begins view new (inl x) e = or_first (is_next tag view) (begin_with b.starts (left view)) (first_next view new x e)
-  either_begins view new (inr y) e = or_more (is_next tag view) (begin_with b.starts (left view)) (b.begins view new y e)
+  pub either_begins : (view new : View) (z : X ⊎ Y)
+      → read_tree (either_tree a.tree b.tree z) view ≡ Ok new
+      → begin_with (tag ∷ b.starts) (left view) ≡ true
+  either_begins view new (inl x) e = or_first (is_next tag view) (begin_with b.starts (left view))
+      (first_next view new x e)
+  either_begins view new (inr y) e = or_more (is_next tag view) (begin_with b.starts (left view))
+      (b.begins view new y e)
 
   pub either_shallow : (z : X ⊎ Y) → depth (either_tree a.tree b.tree z) ≤ max a.levels b.levels
   either_shallow (inl x) = omega (arith, a.shallow x)
   either_shallow (inr y) = omega (arith, b.shallow y)
 
-  pub either_few : (z : X ⊎ Y) → EitherFits a.Fits b.Fits z → length (canonical (either_tree a.tree b.tree z)) ≤ max a.most b.most
+  pub either_few : (z : X ⊎ Y) → EitherFits a.Fits b.Fits z
+      → length (canonical (either_tree a.tree b.tree z)) ≤ max a.most b.most
   either_few (inl x) fits = omega (arith, a.few x fits)
   either_few (inr y) fits = omega (arith, b.few y fits)
 
@@ -100,24 +121,30 @@ option_back (inl x) = refl
 option_back (inr none) = refl
 
 -- a NULL under the context tag 0, or this element
-abbrev pub optional : {X : Type 0} (tag : List ℕ) (f : Element X) → f.starts ≡ tag ∷ [] → is_apart tag ((0x80 ∷ []) ∷ []) ≡ true → Element (Option X)
+abbrev pub optional : {X : Type 0} (tag : List ℕ) (f : Element X) → f.starts ≡ tag ∷ []
+    → is_apart tag ((0x80 ∷ []) ∷ []) ≡ true → Element (Option X)
 optional tag f only apart =
-    element_as (either tag f (simple (0x80 ∷ []) null refl) only apart) (record { to = option_of; from = of_option; there = option_there; back = option_back })
+    element_as (either tag f (simple (0x80 ∷ []) null refl) only apart)
+    (record { to = option_of; from = of_option; there = option_there; back = option_back })
 
 -- ---- a value of two forms, told apart by the identifier and by the value
 
-abbrev pub forms_at : {X : Type 0} → List ℕ → (View → Result (X × View) BerFault) → (View → Result (X × View) BerFault) → View → Result (X × View) BerFault
+abbrev pub forms_at : {X : Type 0} → List ℕ → (View → Result (X × View) BerFault)
+    → (View → Result (X × View) BerFault) → View → Result (X × View) BerFault
 forms_at tag first second view = if is_next tag view then first view else second view
 
-module _ {X : Type 0} (tag : List ℕ) (a b : Element X) (is_first : X → Bool) (only : a.starts ≡ tag ∷ []) (apart : is_apart tag b.starts ≡ true)
-    (a_first : (x : X) → a.Fits x → is_first x ≡ true) (b_second : (x : X) → b.Fits x → is_first x ≡ false) where
+module _ {X : Type 0} (tag : List ℕ) (a b : Element X) (is_first : X
+    → Bool) (only : a.starts ≡ tag ∷ []) (apart : is_apart tag b.starts ≡ true)
+    (a_first : (x : X) → a.Fits x → is_first x ≡ true) (b_second : (x : X) → b.Fits x
+    → is_first x ≡ false) where
   abbrev pub forms_tree : X → Tree
   forms_tree x = if is_first x then a.tree x else b.tree x
 
   abbrev pub FormsFit : X → Type 0
   FormsFit x = EitherFits a.Fits b.Fits (if is_first x then inl x else inr x)
 
-  pub forms_sound : (view new : View) (x : X) → IsSlice view.octets → forms_at tag a.read b.read view ≡ Ok (x, new) → WasRead FormsFit forms_tree view new x
+  pub forms_sound : (view new : View) (x : X) → IsSlice view.octets
+      → forms_at tag a.read b.read view ≡ Ok (x, new) → WasRead FormsFit forms_tree view new x
   forms_sound view new x slice e =
       elim (chosen (is_next tag view) (a.read view) (b.read view) (Ok (x, new)) e) [
         | inl h ↦
@@ -130,29 +157,39 @@ module _ {X : Type 0} (tag : List ℕ) (a b : Element X) (is_first : X → Bool)
             record { fits = rw is was.fits; stands = rw is was.stands; formed = rw is was.formed }
       ]
 
-  by_form : (form : Bool) (view new : View) (x : X) → EitherFits a.Fits b.Fits (if form then inl x else inr x) → read_tree (if form then a.tree x else b.tree x) view ≡ Ok new
+  by_form : (form : Bool) (view new : View) (x : X)
+      → EitherFits a.Fits b.Fits (if form then inl x else inr x)
+      → read_tree (if form then a.tree x else b.tree x) view ≡ Ok new
       → forms_at tag a.read b.read view ≡ Ok (x, new)
-  by_form true view new x fits e = if_true (is_next tag view) _ _ _ (first_next tag a b only apart view new x e) (a.complete view new x fits e)
-  by_form false view new x fits e = if_false (is_next tag view) _ _ _ (second_next tag a b only apart view new x e) (b.complete view new x fits e)
+  by_form true view new x fits e = if_true (is_next tag view) _ _ _
+      (first_next tag a b only apart view new x e) (a.complete view new x fits e)
+  by_form false view new x fits e = if_false (is_next tag view) _ _ _
+      (second_next tag a b only apart view new x e) (b.complete view new x fits e)
 
-  pub forms_complete : (view new : View) (x : X) → FormsFit x → read_tree (forms_tree x) view ≡ Ok new → forms_at tag a.read b.read view ≡ Ok (x, new)
+  pub forms_complete : (view new : View) (x : X) → FormsFit x
+      → read_tree (forms_tree x) view ≡ Ok new → forms_at tag a.read b.read view ≡ Ok (x, new)
   forms_complete view new x fits e = by_form (is_first x) view new x fits e
 
-  begins_by_form : (form : Bool) (view new : View) (x : X) → read_tree (if form then a.tree x else b.tree x) view ≡ Ok new → begin_with (tag ∷ b.starts) (left view) ≡ true
+  begins_by_form : (form : Bool) (view new : View) (x : X)
+      → read_tree (if form then a.tree x else b.tree x) view ≡ Ok new
+      → begin_with (tag ∷ b.starts) (left view) ≡ true
   begins_by_form true view new x e = either_begins tag a b only apart view new (inl x) e
   begins_by_form false view new x e = either_begins tag a b only apart view new (inr x) e
 
-  pub forms_begin : (view new : View) (x : X) → read_tree (forms_tree x) view ≡ Ok new → begin_with (tag ∷ b.starts) (left view) ≡ true
+  pub forms_begin : (view new : View) (x : X) → read_tree (forms_tree x) view ≡ Ok new
+      → begin_with (tag ∷ b.starts) (left view) ≡ true
   forms_begin view new x e = begins_by_form (is_first x) view new x e
 
-  shallow_by_form : (form : Bool) (x : X) → depth (if form then a.tree x else b.tree x) ≤ max a.levels b.levels
+  shallow_by_form : (form : Bool) (x : X) → depth (if form then a.tree x else b.tree x)
+      ≤ max a.levels b.levels
   shallow_by_form true x = omega (arith, a.shallow x)
   shallow_by_form false x = omega (arith, b.shallow x)
 
   pub forms_shallow : (x : X) → depth (forms_tree x) ≤ max a.levels b.levels
   forms_shallow x = shallow_by_form (is_first x) x
 
-  few_by_form : (form : Bool) (x : X) → EitherFits a.Fits b.Fits (if form then inl x else inr x) → length (canonical (if form then a.tree x else b.tree x)) ≤ max a.most b.most
+  few_by_form : (form : Bool) (x : X) → EitherFits a.Fits b.Fits (if form then inl x else inr x)
+      → length (canonical (if form then a.tree x else b.tree x)) ≤ max a.most b.most
   few_by_form true x fits = omega (arith, a.few x fits)
   few_by_form false x fits = omega (arith, b.few x fits)
 

@@ -1,11 +1,14 @@
 -- Identifier octets (X.690 8.1.2): what is one, and which of several stands next.
-use Rattle.std.proofs.Common.{◌≡◌, ℕ, ◌%◌, Bool, true, false, not, ◌&&◌, ◌||◌, ◌==◌, if◌then◌else◌, nat_eq, nat_lt, List, [], ◌∷◌, ◌++◌, length, drop, get_or, Some, Result, Ok, Err, ◌⊎◌, inl, inr, refl, sym, ◌∙◌, ap, arith}
+use Rattle.std.proofs.Common.{◌≡◌, ℕ, ◌%◌, Bool, true, false, not, ◌&&◌, ◌||◌, ◌==◌, if◌then◌else◌}
+use Rattle.std.proofs.Common.{nat_eq, nat_lt, List, [], ◌∷◌, ◌++◌, length, drop, get_or, Some}
+use Rattle.std.proofs.Common.{Result, Ok, Err, ◌⊎◌, inl, inr, refl, sym, ◌∙◌, ap, arith}
 use Rattle.std.specs.List.{starts_with, list_all}
 use Rattle.std.proofs.lemmas.Bool.{ltb-true}
 use Rattle.std.proofs.lemmas.Bool.Decides.{nat_tests}
 use Rattle.ber_core.specs.declared.fault.BerFault.{BerFault}
 use Rattle.ber_core.specs.Length.{IsOctets}
-use Rattle.ber_core.specs.Tree.{first_identifier, begins_number, through_last, is_constructed, IsTag}
+use Rattle.ber_core.specs.Tree.{first_identifier, begins_number, through_last, is_constructed}
+use Rattle.ber_core.specs.Tree.{IsTag}
 use Rattle.ber_core.specs.View.{View, left}
 use Rattle.ber_core.specs.Reading.{next_content}
 use Rattle.ber_core.specs.Facts.Found.{front_of}
@@ -22,7 +25,8 @@ ends_number (octet ∷ next ∷ octets) = not (nat_lt octet 128) && ends_number 
 abbrev pub is_whole : List ℕ → Bool
 is_whole [] = false
 is_whole (first ∷ []) = not (first % 32 == 31)
-is_whole (first ∷ next ∷ octets) = first % 32 == 31 && begins_number (next ∷ octets) && ends_number (next ∷ octets)
+is_whole (first ∷ next ∷ octets) = first % 32 == 31 && begins_number (next ∷ octets)
+    && ends_number (next ∷ octets)
 
 abbrev pub has_form : Bool → List ℕ → Bool
 has_form true tag = is_constructed tag
@@ -30,7 +34,8 @@ has_form false tag = not (is_constructed tag)
 
 -- one whole identifier, of a constructed element or of a primitive one
 abbrev pub is_identifier : Bool → List ℕ → Bool
-is_identifier of_constructed tag = is_whole tag && list_all (λ octet. nat_lt octet 256) tag && has_form of_constructed tag
+is_identifier of_constructed tag = is_whole tag && list_all (λ octet. nat_lt octet 256) tag
+    && has_form of_constructed tag
 
 pub both : (a b : Bool) → (a && b) ≡ true → (a ≡ true) × (b ≡ true)
 both true b e = (refl, e)
@@ -40,7 +45,8 @@ pub not_false : (a : Bool) → not a ≡ true → a ≡ false
 not_false true e = cc
 not_false false e = refl
 
-through_whole : (octet : ℕ) (octets : List ℕ) → ends_number (octet ∷ octets) ≡ true → through_last (octet ∷ octets) ≡ Some (octet ∷ octets)
+through_whole : (octet : ℕ) (octets : List ℕ) → ends_number (octet ∷ octets) ≡ true
+    → through_last (octet ∷ octets) ≡ Some (octet ∷ octets)
 through_whole octet [] e = rw e refl
 through_whole octet (next ∷ octets) e =
     let h = both (not (nat_lt octet 128)) (ends_number (next ∷ octets)) e in
@@ -51,7 +57,8 @@ unfolding first_identifier
 first_whole [] e = cc
 first_whole (first ∷ []) e = rw e refl
 first_whole (first ∷ next ∷ octets) e =
-    let h = both (first % 32 == 31 && begins_number (next ∷ octets)) (ends_number (next ∷ octets)) e in
+    let h = both (first % 32 == 31 && begins_number (next ∷ octets)) (ends_number (next ∷ octets)) e
+    in
     let g = both (first % 32 == 31) (begins_number (next ∷ octets)) h.0 in
     rw (g.0, g.1, through_whole next octets h.1) refl
 
@@ -61,15 +68,22 @@ below (octet ∷ octets) e =
     let h = both (nat_lt octet 256) (list_all (λ octet. nat_lt octet 256) octets) e in
     (ltb-true octet 256 h.0, below octets h.1)
 
-formed : (of_constructed : Bool) (tag : List ℕ) → has_form of_constructed tag ≡ true → is_constructed tag ≡ of_constructed
+formed : (of_constructed : Bool) (tag : List ℕ) → has_form of_constructed tag ≡ true
+    → is_constructed tag ≡ of_constructed
 formed true tag e = e
 formed false tag e = not_false (is_constructed tag) e
 
-pub identifier_so : (of_constructed : Bool) (tag : List ℕ) → is_identifier of_constructed tag ≡ true → IsTag tag of_constructed
+pub identifier_so : (of_constructed : Bool) (tag : List ℕ) → is_identifier of_constructed tag ≡ true
+    → IsTag tag of_constructed
 identifier_so of_constructed tag e =
-    let h = both (is_whole tag && list_all (λ octet. nat_lt octet 256) tag) (has_form of_constructed tag) e in
+    let h = both (is_whole tag && list_all (λ octet. nat_lt octet 256) tag)
+    (has_form of_constructed tag) e in
     let g = both (is_whole tag) (list_all (λ octet. nat_lt octet 256) tag) h.0 in
-    record { octets_all = below tag g.1; whole = first_whole tag g.0; bit = formed of_constructed tag h.1 }
+    record {
+      octets_all = below tag g.1;
+      whole = first_whole tag g.0;
+      bit = formed of_constructed tag h.1;
+    }
 
 -- ---- which of several stands next
 
@@ -88,7 +102,8 @@ is_apart tag [] = true
 is_apart tag (other ∷ others) = are_apart tag other && is_apart tag others
 
 -- an element that is found begins with its identifier
-pub found_begins : (view : View) (tag : List ℕ) (found : ℕ × List ℕ) → next_content view tag ≡ Ok found → starts_with nat_eq (left view) tag ≡ true
+pub found_begins : (view : View) (tag : List ℕ) (found : ℕ × List ℕ)
+    → next_content view tag ≡ Ok found → starts_with nat_eq (left view) tag ≡ true
 unfolding next_content
 found_begins view tag found e =
     elim (chosen (starts_with nat_eq (left view) tag) _ _ (Ok found) e) [
@@ -96,14 +111,16 @@ found_begins view tag found e =
       | inr h ↦ absurd (refused (starts_with nat_eq tag (left view)) _ _ found h.1)
     ]
   where
-    refused : {A : Type 0} (test : Bool) (fault unlike : BerFault) (x : A) → ◌≡◌ {A = Result A BerFault} (if test then Err fault else Err unlike) (Ok x) → ⊥
+    refused : {A : Type 0} (test : Bool) (fault unlike : BerFault) (x : A)
+        → ◌≡◌ {A = Result A BerFault} (if test then Err fault else Err unlike) (Ok x) → ⊥
     refused true fault unlike x e = err_ok fault x e
     refused false fault unlike x e = err_ok unlike x e
 
 eq_self : (n : ℕ) → nat_eq n n ≡ true
 eq_self n = grind (arith, nat_tests)
 
-one_begins_other : (tag other x y : List ℕ) → tag ++ x ≡ other ++ y → (starts_with nat_eq other tag ≡ true) ⊎ (starts_with nat_eq tag other ≡ true)
+one_begins_other : (tag other x y : List ℕ) → tag ++ x ≡ other ++ y
+    → (starts_with nat_eq other tag ≡ true) ⊎ (starts_with nat_eq tag other ≡ true)
 one_begins_other [] other x y e = inl refl
 one_begins_other (first ∷ tag) [] x y e = inr refl
 one_begins_other (first ∷ tag) (second ∷ other) x y e =
@@ -114,10 +131,12 @@ one_begins_other (first ∷ tag) (second ∷ other) x y e =
       | inr h ↦ inr (rw (same, eq_self second) h)
     ]
 
-not_both : (tag other octets : List ℕ) → are_apart tag other ≡ true → starts_with nat_eq octets other ≡ true → starts_with nat_eq octets tag ≡ true → ⊥
+not_both : (tag other octets : List ℕ) → are_apart tag other ≡ true
+    → starts_with nat_eq octets other ≡ true → starts_with nat_eq octets tag ≡ true → ⊥
 not_both tag other octets apart begins_other begins_tag =
     let h = both (not (starts_with nat_eq other tag)) (not (starts_with nat_eq tag other)) apart in
-    elim (one_begins_other tag other (drop (length tag) octets) (drop (length other) octets) (sym (front_of octets tag begins_tag) ∙ front_of octets other begins_other)) [
+    elim (one_begins_other tag other (drop (length tag) octets) (drop (length other) octets)
+    (sym (front_of octets tag begins_tag) ∙ front_of octets other begins_other)) [
       | inl so ↦ true_false (sym so ∙ not_false (starts_with nat_eq other tag) h.0)
       | inr so ↦ true_false (sym so ∙ not_false (starts_with nat_eq tag other) h.1)
     ]
@@ -146,7 +165,9 @@ never true no_way = absurd (no_way refl)
 never false no_way = refl
 
 -- where one of those stands next, this one doesn't
-pub apart_so : (tag : List ℕ) (others : List (List ℕ)) (octets : List ℕ) → is_apart tag others ≡ true → begin_with others octets ≡ true → starts_with nat_eq octets tag ≡ false
+pub apart_so : (tag : List ℕ) (others : List (List ℕ)) (octets : List ℕ)
+    → is_apart tag others ≡ true → begin_with others octets ≡ true
+    → starts_with nat_eq octets tag ≡ false
 apart_so tag [] octets apart e = cc
 apart_so tag (other ∷ others) octets apart e =
     let h = both (are_apart tag other) (is_apart tag others) apart in

@@ -23,7 +23,8 @@ pub record SameWhere {X : Type 0} (Fits : X → Type 0) (Y : Type 0) : Type 1 wh
   pub back : (x : X) → Fits x → Holds (to x) × (from (to x) ≡ x)
 
 module _ {X Y : Type 0} (f : Element X) (s : SameWhere f.Fits Y) where
-  pub element_sound : (view new : View) (y : Y) → IsSlice view.octets → taken s.to (f.read view) ≡ Ok (y, new) → WasRead s.Holds (λ y. f.tree (s.from y)) view new y
+  pub element_sound : (view new : View) (y : Y) → IsSlice view.octets
+      → taken s.to (f.read view) ≡ Ok (y, new) → WasRead s.Holds (λ y. f.tree (s.from y)) view new y
   element_sound view new y slice e =
       let (x, read, is) = taken_ok s.to (f.read view) y new e in
       let was = f.sound view new x slice read in
@@ -35,7 +36,8 @@ module _ {X Y : Type 0} (f : Element X) (s : SameWhere f.Fits Y) where
         formed = rw (sym from) was.formed;
       }
 
-  pub element_complete : (view new : View) (y : Y) → s.Holds y → read_tree (f.tree (s.from y)) view ≡ Ok new → taken s.to (f.read view) ≡ Ok (y, new)
+  pub element_complete : (view new : View) (y : Y) → s.Holds y
+      → read_tree (f.tree (s.from y)) view ≡ Ok new → taken s.to (f.read view) ≡ Ok (y, new)
   element_complete view new y holds e =
       let (fits, same) = s.there y holds in
       taken_again s.to (f.read view) (s.from y) y new (f.complete view new (s.from y) fits e) same
@@ -56,7 +58,9 @@ module _ {X Y : Type 0} (f : Element X) (s : SameWhere f.Fits Y) where
   }
 
 module _ {X Y : Type 0} (m : Members X) (s : SameWhere m.Fits Y) where
-  pub members_sound : (view new : View) (y : Y) → IsSlice view.octets → taken s.to (m.read view) ≡ Ok (y, new) → WereRead s.Holds (λ y. m.trees (s.from y)) view new y
+  pub members_sound : (view new : View) (y : Y) → IsSlice view.octets
+      → taken s.to (m.read view) ≡ Ok (y, new)
+      → WereRead s.Holds (λ y. m.trees (s.from y)) view new y
   members_sound view new y slice e =
       let (x, read, is) = taken_ok s.to (m.read view) y new e in
       let were = m.sound view new x slice read in
@@ -68,10 +72,13 @@ module _ {X Y : Type 0} (m : Members X) (s : SameWhere m.Fits Y) where
         formed = rw (sym from) were.formed;
       }
 
-  pub members_complete : (view new : View) (y : Y) → s.Holds y → read_trees (m.trees (s.from y)) view ≡ Ok new → new.place ≡ end_of new → taken s.to (m.read view) ≡ Ok (y, new)
+  pub members_complete : (view new : View) (y : Y) → s.Holds y
+      → read_trees (m.trees (s.from y)) view ≡ Ok new → new.place ≡ end_of new
+      → taken s.to (m.read view) ≡ Ok (y, new)
   members_complete view new y holds e at_end =
       let (fits, same) = s.there y holds in
-      taken_again s.to (m.read view) (s.from y) y new (m.complete view new (s.from y) fits e at_end) same
+      taken_again s.to (m.read view) (s.from y) y new (m.complete view new (s.from y) fits e at_end)
+      same
 
   abbrev pub members_where : Members Y
   members_where = record {

@@ -41,8 +41,10 @@ pub fn encode<'a, E: Element<'a>>(value: &E::Value, writer: &mut Writer)
     requires fits { E.shape.Fits (E.seen value.now) }
     requires small { E.shape.most < 2 ^ 64 }
     requires room { length (canonical (E.shape.tree (E.seen value.now))) ≤ writer.old.room }
-    ensures octets { writer.new.octets ≡ writer.old.octets ++ canonical (E.shape.tree (E.seen value.now)) }
-    ensures room { writer.new.room + length (canonical (E.shape.tree (E.seen value.now))) ≡ writer.old.room }
+    ensures octets { writer.new.octets ≡ writer.old.octets
+        ++ canonical (E.shape.tree (E.seen value.now)) }
+    ensures room { writer.new.room + length (canonical (E.shape.tree (E.seen value.now)))
+        ≡ writer.old.room }
 {
     E::write(value, writer);
 }

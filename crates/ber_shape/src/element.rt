@@ -4,8 +4,8 @@ ghost use Rattle.ber_core.specs.Spelling.{canonical};
 
 use ber_core::{BerFault, Reader, Writer};
 
-/// A type of elements: its shape, and the three functions that meet it. It may be the type of the values, or a type that
-/// only names it.
+/// A type of elements: its shape, and the three functions that meet it. It may be the type of the
+/// values, or a type that only names it.
 pub trait Element<'a> {
     ghost use Rattle.std.specs.Prelude.{◌≡◌, true, nat_le};
     ghost use Rattle.ber_shape.specs.Element.{Element};
@@ -39,6 +39,8 @@ pub trait Element<'a> {
         requires fits { shape.Fits (seen value.now) }
         requires small { shape.most < 2 ^ 64 }
         requires room { length (canonical (shape.tree (seen value.now))) ≤ writer.old.room }
-        ensures octets { writer.new.octets ≡ writer.old.octets ++ canonical (shape.tree (seen value.now)) }
-        ensures room { writer.new.room + length (canonical (shape.tree (seen value.now))) ≡ writer.old.room };
+        ensures octets { writer.new.octets ≡ writer.old.octets
+            ++ canonical (shape.tree (seen value.now)) }
+        ensures room { writer.new.room + length (canonical (shape.tree (seen value.now)))
+            ≡ writer.old.room };
 }

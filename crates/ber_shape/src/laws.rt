@@ -11,8 +11,8 @@ use crate::members::Members;
 use crate::pdu::Pdu;
 use crate::sequence::Sequence;
 
-/// An element is read exactly where a tree of a value that fits is spelled, and as that value; the canonical spelling is
-/// read back; octets spell one value at most; their tree is well formed.
+/// An element is read exactly where a tree of a value that fits is spelled, and as that value; the
+/// canonical spelling is read back; octets spell one value at most; their tree is well formed.
 pub fn is_exact<'a, E: Element<'a>>()
     requires { nat_lt E.shape.most (2 ^ 64) ≡ true }
     ensures { IsExact E.shape }

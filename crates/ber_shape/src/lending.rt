@@ -1,4 +1,5 @@
-// Lists that are lent: a list is checked whole once, and then read item by item from the same octets.
+// Lists that are lent: a list is checked whole once, and then read item by item from the same
+// octets.
 
 ghost use Rattle.std.specs.Prelude.{◌≡◌, ◌<◌, ◌≤◌, ◌++◌, ◌+◌, ◌^◌, length, IsOk};
 ghost use Rattle.ber_core.specs.Reading.{Gives};
@@ -10,12 +11,14 @@ ghost use Rattle.ber_shape.specs.Lent.{Lends, LendsSome, passed, SplitsFirst, le
 use crate::element::Element;
 use ber_core::{BerFault, Reader, Writer, laws};
 
-/// The octets of at most so many elements that stand next, up to the end of the element around them, or the first fault.
+/// The octets of at most so many elements that stand next, up to the end of the element around
+/// them, or the first fault.
 pub fn lend_list<'a, E: Element<'a>>(
     most: usize,
     reader: &mut Reader<'a>,
 ) -> Result<&'a [u8], BerFault>
-    ensures exact { Lends (list_of E.shape most) reader.old reader.new (lent (λ octets. octets.now) result) }
+    ensures exact { Lends (list_of E.shape most) reader.old reader.new
+        (lent (λ octets. octets.now) result) }
     ensures octets { reader.new.octets ≡ reader.old.octets }
 {
     reader.octets();
@@ -24,13 +27,14 @@ pub fn lend_list<'a, E: Element<'a>>(
     Ok(reader.since(start))
 }
 
-/// The octets of one element and at most so many more that stand next, up to the end of the element around them, or the
-/// first fault. They are read as a list of at most one more.
+/// The octets of one element and at most so many more that stand next, up to the end of the element
+/// around them, or the first fault. They are read as a list of at most one more.
 pub fn lend_some<'a, E: Element<'a>>(
     more: usize,
     reader: &mut Reader<'a>,
 ) -> Result<&'a [u8], BerFault>
-    ensures exact { LendsSome E.shape more reader.old reader.new (lent (λ octets. octets.now) result) }
+    ensures exact { LendsSome E.shape more reader.old reader.new
+        (lent (λ octets. octets.now) result) }
     ensures octets { reader.new.octets ≡ reader.old.octets }
 {
     reader.octets();
@@ -60,7 +64,8 @@ pub fn split_first<'a, E: Element<'a>>(
     octets: &'a [u8],
 ) -> Option<(E::Value, &'a [u8])>
     requires { IsOk (whole (list_of E.shape most).read octets.now) }
-    ensures { SplitsFirst (list_of E.shape most) (λ found. (E.seen found.0, found.1.now)) octets.now result }
+    ensures { SplitsFirst (list_of E.shape most) (λ found. (E.seen found.0, found.1.now)) octets.now
+        result }
 {
     laws::slice(octets);
     let mut reader = Reader::new(octets);
@@ -78,7 +83,8 @@ pub fn list_size<'a, E: Element<'a>>(most: usize, octets: &'a [u8]) -> usize
     requires some { IsOk (whole (list_of E.shape most).read octets.now) }
     requires each { E.shape.most < 2 ^ 64 }
     requires small { times most E.shape.most < 2 ^ 64 }
-    ensures exact { result ≡ length (canonical_all (each_tree E.shape.tree (values (list_of E.shape most) octets.now))) }
+    ensures exact { result ≡ length (canonical_all
+        (each_tree E.shape.tree (values (list_of E.shape most) octets.now))) }
     ensures within { result ≤ times most E.shape.most }
 {
     laws::slice(octets);
@@ -95,9 +101,12 @@ pub fn list_size<'a, E: Element<'a>>(most: usize, octets: &'a [u8]) -> usize
 pub fn write_list<'a, E: Element<'a>>(most: usize, octets: &'a [u8], writer: &mut Writer)
     requires some { IsOk (whole (list_of E.shape most).read octets.now) }
     requires each { E.shape.most < 2 ^ 64 }
-    requires room { length (canonical_all (each_tree E.shape.tree (values (list_of E.shape most) octets.now))) ≤ writer.old.room }
-    ensures octets { writer.new.octets ≡ writer.old.octets ++ canonical_all (each_tree E.shape.tree (values (list_of E.shape most) octets.now)) }
-    ensures room { writer.new.room + length (canonical_all (each_tree E.shape.tree (values (list_of E.shape most) octets.now))) ≡ writer.old.room }
+    requires room { length (canonical_all (each_tree E.shape.tree
+        (values (list_of E.shape most) octets.now))) ≤ writer.old.room }
+    ensures octets { writer.new.octets ≡ writer.old.octets
+        ++ canonical_all (each_tree E.shape.tree (values (list_of E.shape most) octets.now)) }
+    ensures room { writer.new.room + length (canonical_all
+        (each_tree E.shape.tree (values (list_of E.shape most) octets.now))) ≡ writer.old.room }
 {
     laws::slice(octets);
     let mut rest = octets;

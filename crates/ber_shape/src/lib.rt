@@ -1,8 +1,9 @@
-// Types of elements by their shapes: a shape says how octets are read, which tree a value has and which values fit, and
-// comes with the proof that these agree. A codec of a type is its shape and three functions that meet it.
+// Types of elements by their shapes: a shape says how octets are read, which tree a value has and
+// which values fit, and comes with the proof that these agree. A codec of a type is its shape and
+// three functions that meet it.
 //
-// No call takes memory. Reading costs one pass over the octets and lends from them; writing copies each octet once, after
-// the lengths of the elements around it were added up.
+// No call takes memory. Reading costs one pass over the octets and lends from them; writing copies
+// each octet once, after the lengths of the elements around it were added up.
 #![tactic(auto)]
 
 mod codec;

@@ -7,7 +7,8 @@ ghost use Rattle.ber_shape.specs.Steps.{within_at};
 use crate::element::Element;
 use ber_core::{BerFault, Reader, Writer, element_length};
 
-/// What stands in an element, one behind the other up to its end: its shape, and the three functions that meet it.
+/// What stands in an element, one behind the other up to its end: its shape, and the three
+/// functions that meet it.
 pub trait Members<'a> {
     ghost use Rattle.std.specs.Prelude.{◌≡◌, true, nat_le};
     ghost use Rattle.ber_shape.specs.Members.{Members};
@@ -41,8 +42,10 @@ pub trait Members<'a> {
         requires fits { shape.Fits (seen value.now) }
         requires small { shape.most < 2 ^ 64 }
         requires room { length (canonical_all (shape.trees (seen value.now))) ≤ writer.old.room }
-        ensures octets { writer.new.octets ≡ writer.old.octets ++ canonical_all (shape.trees (seen value.now)) }
-        ensures room { writer.new.room + length (canonical_all (shape.trees (seen value.now))) ≡ writer.old.room };
+        ensures octets { writer.new.octets ≡ writer.old.octets
+            ++ canonical_all (shape.trees (seen value.now)) }
+        ensures room { writer.new.room + length (canonical_all (shape.trees (seen value.now)))
+            ≡ writer.old.room };
 }
 
 /// Reads a constructed element and what stands in it.
@@ -51,7 +54,8 @@ pub fn read_within<'a, M: Members<'a>>(
     identifier: &[u8],
     reader: &mut Reader<'a>,
 ) -> Result<M::Value, BerFault>
-    ensures exact { Gives (λ value. (M.seen value, reader.new)) result (within_at identifier.now M.shape.read reader.old) }
+    ensures exact { Gives (λ value. (M.seen value, reader.new)) result
+        (within_at identifier.now M.shape.read reader.old) }
     ensures octets { reader.new.octets ≡ reader.old.octets }
 {
     reader.element(identifier)?;
@@ -65,7 +69,8 @@ pub fn read_within<'a, M: Members<'a>>(
 pub fn size_within<'a, M: Members<'a>>(identifier: &[u8], value: &M::Value) -> usize
     requires fits { M.shape.Fits (M.seen value.now) }
     requires small { length identifier.now + 9 + M.shape.most < 2 ^ 64 }
-    ensures exact { result ≡ length (canonical (constructed identifier.now (M.shape.trees (M.seen value.now)))) }
+    ensures exact { result ≡ length (canonical
+        (constructed identifier.now (M.shape.trees (M.seen value.now)))) }
     ensures within { result ≤ length identifier.now + 9 + M.shape.most }
 {
     element_length(identifier, M::size(value))
@@ -76,9 +81,12 @@ pub fn size_within<'a, M: Members<'a>>(identifier: &[u8], value: &M::Value) -> u
 pub fn write_within<'a, M: Members<'a>>(identifier: &[u8], value: &M::Value, writer: &mut Writer)
     requires fits { M.shape.Fits (M.seen value.now) }
     requires small { length identifier.now + 9 + M.shape.most < 2 ^ 64 }
-    requires room { length (canonical (constructed identifier.now (M.shape.trees (M.seen value.now)))) ≤ writer.old.room }
-    ensures octets { writer.new.octets ≡ writer.old.octets ++ canonical (constructed identifier.now (M.shape.trees (M.seen value.now))) }
-    ensures room { writer.new.room + length (canonical (constructed identifier.now (M.shape.trees (M.seen value.now)))) ≡ writer.old.room }
+    requires room { length (canonical (constructed identifier.now
+        (M.shape.trees (M.seen value.now)))) ≤ writer.old.room }
+    ensures octets { writer.new.octets ≡ writer.old.octets
+        ++ canonical (constructed identifier.now (M.shape.trees (M.seen value.now))) }
+    ensures room { writer.new.room + length (canonical
+        (constructed identifier.now (M.shape.trees (M.seen value.now)))) ≡ writer.old.room }
 {
     writer.head(identifier, M::size(value));
     M::write(value, writer);
@@ -89,7 +97,8 @@ pub fn read_around<'a, E: Element<'a>>(
     identifier: &[u8],
     reader: &mut Reader<'a>,
 ) -> Result<E::Value, BerFault>
-    ensures exact { Gives (λ value. (E.seen value, reader.new)) result (within_at identifier.now E.shape.read reader.old) }
+    ensures exact { Gives (λ value. (E.seen value, reader.new)) result
+        (within_at identifier.now E.shape.read reader.old) }
     ensures octets { reader.new.octets ≡ reader.old.octets }
 {
     reader.element(identifier)?;
@@ -103,7 +112,8 @@ pub fn read_around<'a, E: Element<'a>>(
 pub fn size_around<'a, E: Element<'a>>(identifier: &[u8], value: &E::Value) -> usize
     requires fits { E.shape.Fits (E.seen value.now) }
     requires small { length identifier.now + 9 + E.shape.most < 2 ^ 64 }
-    ensures exact { result ≡ length (canonical (constructed identifier.now (tree_and (E.shape.tree (E.seen value.now)) no_trees))) }
+    ensures exact { result ≡ length (canonical
+        (constructed identifier.now (tree_and (E.shape.tree (E.seen value.now)) no_trees))) }
     ensures within { result ≤ length identifier.now + 9 + E.shape.most }
 {
     element_length(identifier, E::size(value))
@@ -114,9 +124,14 @@ pub fn size_around<'a, E: Element<'a>>(identifier: &[u8], value: &E::Value) -> u
 pub fn write_around<'a, E: Element<'a>>(identifier: &[u8], value: &E::Value, writer: &mut Writer)
     requires fits { E.shape.Fits (E.seen value.now) }
     requires small { length identifier.now + 9 + E.shape.most < 2 ^ 64 }
-    requires room { length (canonical (constructed identifier.now (tree_and (E.shape.tree (E.seen value.now)) no_trees))) ≤ writer.old.room }
-    ensures octets { writer.new.octets ≡ writer.old.octets ++ canonical (constructed identifier.now (tree_and (E.shape.tree (E.seen value.now)) no_trees)) }
-    ensures room { writer.new.room + length (canonical (constructed identifier.now (tree_and (E.shape.tree (E.seen value.now)) no_trees))) ≡ writer.old.room }
+    requires room { length (canonical (constructed identifier.now
+        (tree_and (E.shape.tree (E.seen value.now)) no_trees))) ≤ writer.old.room }
+    ensures octets { writer.new.octets ≡ writer.old.octets
+        ++ canonical (constructed identifier.now
+        (tree_and (E.shape.tree (E.seen value.now)) no_trees)) }
+    ensures room { writer.new.room + length (canonical
+        (constructed identifier.now (tree_and (E.shape.tree (E.seen value.now)) no_trees)))
+        ≡ writer.old.room }
 {
     writer.head(identifier, E::size(value));
     E::write(value, writer);

@@ -24,8 +24,10 @@ pub trait Pdu<'a>: Members<'a, Value = Self> + Sized {
 
     /// The PDU that these octets spell, all of them, or the first fault.
     final fn decode(octets: &'a [u8]) -> Result<Self, BerFault>
-        ensures exact { Gives Self.Members.seen result (whole (structured tag Self.Members.shape is_tag).read octets.now) }
-        ensures spelled { IsDecoded (structured tag Self.Members.shape is_tag) Self.Members.seen octets.now result }
+        ensures exact { Gives Self.Members.seen result
+            (whole (structured tag Self.Members.shape is_tag).read octets.now) }
+        ensures spelled { IsDecoded (structured tag Self.Members.shape is_tag) Self.Members.seen
+            octets.now result }
     {
         laws::slice(octets);
         let decoded = read_pdu::<Self>(octets);
@@ -35,7 +37,8 @@ pub trait Pdu<'a>: Members<'a, Value = Self> + Sized {
     /// The number of octets that `encode` appends.
     final fn length(&self) -> usize
         requires { Self.Members.shape.Fits (Self.Members.seen self.now) }
-        ensures { result ≡ length (canonical ((structured tag Self.Members.shape is_tag).tree (Self.Members.seen self.now))) }
+        ensures { result ≡ length (canonical ((structured tag Self.Members.shape is_tag).tree
+            (Self.Members.seen self.now))) }
     {
         size_within::<Self>(Self::identifier(), self)
     }
@@ -43,16 +46,22 @@ pub trait Pdu<'a>: Members<'a, Value = Self> + Sized {
     /// Appends the canonical spelling.
     final fn encode(&self, writer: &mut Writer)
         requires fits { Self.Members.shape.Fits (Self.Members.seen self.now) }
-        requires room { length (canonical ((structured tag Self.Members.shape is_tag).tree (Self.Members.seen self.now))) ≤ writer.old.room }
-        ensures octets { writer.new.octets ≡ writer.old.octets ++ canonical ((structured tag Self.Members.shape is_tag).tree (Self.Members.seen self.now)) }
-        ensures room { writer.new.room + length (canonical ((structured tag Self.Members.shape is_tag).tree (Self.Members.seen self.now))) ≡ writer.old.room }
+        requires room { length (canonical ((structured tag Self.Members.shape is_tag).tree
+            (Self.Members.seen self.now))) ≤ writer.old.room }
+        ensures octets { writer.new.octets ≡ writer.old.octets
+            ++ canonical ((structured tag Self.Members.shape is_tag).tree
+            (Self.Members.seen self.now)) }
+        ensures room { writer.new.room + length
+            (canonical ((structured tag Self.Members.shape is_tag).tree
+            (Self.Members.seen self.now))) ≡ writer.old.room }
     {
         write_within::<Self>(Self::identifier(), self, writer);
     }
 }
 
 fn read_pdu<'a, P: Pdu<'a>>(octets: &'a [u8]) -> Result<P, BerFault>
-    ensures { Gives P.Members.seen result (whole (structured P.tag P.Members.shape P.is_tag).read octets.now) }
+    ensures { Gives P.Members.seen result (whole (structured P.tag P.Members.shape P.is_tag).read
+        octets.now) }
 {
     let mut reader = Reader::new(octets);
     let value = read_within::<P>(P::identifier(), &mut reader)?;

@@ -9,8 +9,9 @@ use crate::laws::sequence_is_encodable;
 use crate::members::{Members, read_within, size_within, write_within};
 use ber_core::{BerFault, Reader, Writer, laws};
 
-/// A SEQUENCE that is a struct, under the identifier `I`: the types of its fields, and the way between the struct and
-/// their values. Contracts see it as these values, in the order in which they stand.
+/// A SEQUENCE that is a struct, under the identifier `I`: the types of its fields, and the way
+/// between the struct and their values. Contracts see it as these values, in the order in which
+/// they stand.
 pub trait Sequence<'a, I: Identifier>: Drop + Sized {
     ghost use Rattle.std.specs.Prelude.{◌≡◌, true};
     ghost use Rattle.ber_shape.specs.Fields.{encodable};
@@ -35,8 +36,10 @@ pub trait Sequence<'a, I: Identifier>: Drop + Sized {
 
     /// The struct that these octets spell, all of them, or the first fault.
     final fn decode(octets: &'a [u8]) -> Result<Self, BerFault>
-        ensures exact { Gives (λ s. Self.Fields.seen (values_of s)) result (whole (sequence_read I.octet Self.Fields.shape) octets.now) }
-        ensures spelled { IsSequence I.octet Self.Fields.shape (λ s. Self.Fields.seen (values_of s)) octets.now result }
+        ensures exact { Gives (λ s. Self.Fields.seen (values_of s)) result
+            (whole (sequence_read I.octet Self.Fields.shape) octets.now) }
+        ensures spelled { IsSequence I.octet Self.Fields.shape (λ s. Self.Fields.seen (values_of s))
+            octets.now result }
     {
         laws::slice(octets);
         sequence_is_encodable::<I, Self>();
@@ -47,7 +50,8 @@ pub trait Sequence<'a, I: Identifier>: Drop + Sized {
     /// The number of octets that `encode` appends.
     final fn length(&self) -> usize
         requires { Self.Fields.shape.Fits (Self.Fields.seen (values_of self.now)) }
-        ensures { result ≡ length (canonical (sequence_tree I.octet Self.Fields.shape (Self.Fields.seen (values_of self.now)))) }
+        ensures { result ≡ length (canonical (sequence_tree I.octet Self.Fields.shape
+            (Self.Fields.seen (values_of self.now)))) }
     {
         size_within::<Self::Fields>(&[I::octet()], &self.to_values())
     }
@@ -55,16 +59,22 @@ pub trait Sequence<'a, I: Identifier>: Drop + Sized {
     /// Appends the canonical spelling.
     final fn encode(&self, writer: &mut Writer)
         requires fits { Self.Fields.shape.Fits (Self.Fields.seen (values_of self.now)) }
-        requires room { length (canonical (sequence_tree I.octet Self.Fields.shape (Self.Fields.seen (values_of self.now)))) ≤ writer.old.room }
-        ensures octets { writer.new.octets ≡ writer.old.octets ++ canonical (sequence_tree I.octet Self.Fields.shape (Self.Fields.seen (values_of self.now))) }
-        ensures room { writer.new.room + length (canonical (sequence_tree I.octet Self.Fields.shape (Self.Fields.seen (values_of self.now)))) ≡ writer.old.room }
+        requires room { length (canonical (sequence_tree I.octet Self.Fields.shape
+            (Self.Fields.seen (values_of self.now)))) ≤ writer.old.room }
+        ensures octets { writer.new.octets ≡ writer.old.octets
+            ++ canonical (sequence_tree I.octet Self.Fields.shape
+            (Self.Fields.seen (values_of self.now))) }
+        ensures room { writer.new.room + length
+            (canonical (sequence_tree I.octet Self.Fields.shape
+            (Self.Fields.seen (values_of self.now)))) ≡ writer.old.room }
     {
         write_within::<Self::Fields>(&[I::octet()], &self.to_values(), writer);
     }
 }
 
 fn read_sequence<'a, I: Identifier, S: Sequence<'a, I>>(octets: &'a [u8]) -> Result<S, BerFault>
-    ensures { Gives (λ s. S.Fields.seen (S.values_of s)) result (whole (sequence_read I.octet S.Fields.shape) octets.now) }
+    ensures { Gives (λ s. S.Fields.seen (S.values_of s)) result
+        (whole (sequence_read I.octet S.Fields.shape) octets.now) }
 {
     let mut reader = Reader::new(octets);
     let values = read_within::<S::Fields>(&[I::octet()], &mut reader)?;

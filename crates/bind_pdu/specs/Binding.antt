@@ -1,5 +1,6 @@
 -- BIND and its return (CCSDS 911.1-B, annex A).
-use Rattle.std.proofs.Common.{◌≡◌, ℕ, ℤ, Option, List, [], ◌∷◌, ◌⊎◌, inl, inr, Result, Ok, Err, refl}
+use Rattle.std.proofs.Common.{◌≡◌, ℕ, ℤ, Option, List, [], ◌∷◌, ◌⊎◌, inl, inr, Result, Ok, Err}
+use Rattle.std.proofs.Common.{refl}
 use Rattle.ber_shape.specs.Content.{visible_string, any_integer}
 use Rattle.ber_shape.specs.Element.{Element, simple}
 use Rattle.ber_shape.specs.Members.{Members, structured, last, ◌▸◌}

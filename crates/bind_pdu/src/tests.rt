@@ -429,7 +429,8 @@ fn a_bind_that_ends_early_is_short(rt: HostRuntime) {
     }
 }
 
-// The place of the element or the length that such a BIND lacks, or of the length that is too great.
+// The place of the element or the length that such a BIND lacks, or of the length that is too
+// great.
 fn short_place(end: usize) -> usize {
     match end {
         6..=9 => 6,

@@ -9,10 +9,12 @@ use Rattle.book_sample.specs.Both.{IsSeated, DidJobs, Did}
 use Rattle.book_sample.specs.declared.work.Plan.{Plan}
 use Rattle.book_sample.specs.declared.work.Worker.{Worker}
 
-pub did_of : (lock : Lock Opening) (w w' : Worker) (plan : Plan) → IsSeated lock w → w.plan ≡ plan → DidJobs lock w w' → Did plan w'.outcomes.items w'.pass.own
+pub did_of : (lock : Lock Opening) (w w' : Worker) (plan : Plan) → IsSeated lock w → w.plan ≡ plan
+    → DidJobs lock w w' → Did plan w'.outcomes.items w'.pass.own
 did_of lock w w' plan seated is did =
     let all = did.worked in
-    let own : all.gained ≡ w'.pass.own = ap (λ xs. xs ++ all.gained) (sym seated.own) ∙ sym all.own in
+    let own : all.gained ≡ w'.pass.own = ap (λ xs. xs ++ all.gained) (sym seated.own)
+    ∙ sym all.own in
     subst (λ p. Did p w'.outcomes.items w'.pass.own) is (record {
       done = did.done;
       rest = did.rest;
@@ -21,7 +23,8 @@ did_of lock w w' plan seated is did =
       told = ap outcomes_of (sym own) ∙ all.told;
     })
 
-pub joined_two : (start : List (List (Mark Event))) (a b : List (Mark Event)) (ja jb : List (List (Mark Event)))
+pub joined_two : (start : List (List (Mark Event))) (a b : List (Mark Event))
+    (ja jb : List (List (Mark Event)))
     → start ≡ [] → ja ≡ [] → jb ≡ [] → (start ++ a ∷ ja) ++ b ∷ jb ≡ a ∷ b ∷ []
 joined_two start a b ja jb e f g =
     ap (λ s. (s ++ a ∷ ja) ++ b ∷ jb) e ∙ ap (λ x. (a ∷ x) ++ b ∷ jb) f ∙ ap (λ x. a ∷ b ∷ x) g

@@ -1,5 +1,7 @@
 -- One job more, and the end.
-use Rattle.std.proofs.Common.{◌≡◌, ◌≢◌, ℕ, ◌+◌, ◌<◌, ◌≤◌, List, [], ◌∷◌, ◌++◌, length, length-append, map, Some, refl, ap, sym, subst, ◌∙◌, append_assoc, append-nil, arith}
+use Rattle.std.proofs.Common.{◌≡◌, ◌≢◌, ℕ, ◌+◌, ◌<◌, ◌≤◌, List, [], ◌∷◌, ◌++◌, length}
+use Rattle.std.proofs.Common.{length-append, map, Some, refl, ap, sym, subst, ◌∙◌, append_assoc}
+use Rattle.std.proofs.Common.{append-nil, arith}
 use Rattle.std.proofs.lemmas.List.{map-append}
 use Rattle.turn_lock.specs.Known.{Known, Lock}
 use Rattle.turn_lock.specs.Own.{mark}
@@ -13,30 +15,49 @@ use Rattle.book_sample.specs.declared.job.Job.{Job}
 use Rattle.book_sample.specs.declared.job.Outcome.{Outcome}
 
 module _ (lock : Lock Opening) (door reading : ℕ) where
-  pub worked_nothing : (pass : Known Event Opening) → pass.lock ≡ Some lock → pass.standing ≡ Ready → Worked lock door reading [] [] pass pass
-  worked_nothing pass l r = record { lock_is = l; ready = r; joined = refl; gained = []; own = sym (append-nil pass.own); calls = refl; told = refl; legal = λ x. x }
+  pub worked_nothing : (pass : Known Event Opening) → pass.lock ≡ Some lock → pass.standing ≡ Ready
+      → Worked lock door reading [] [] pass pass
+  worked_nothing pass l r = record {
+    lock_is = l;
+    ready = r;
+    joined = refl;
+    gained = [];
+    own = sym (append-nil pass.own);
+    calls = refl;
+    told = refl;
+    legal = λ x. x;
+  }
 
-  pub worked_more : (done : List Job) (outcomes : List Outcome) (job : Job) (outcome : Outcome) (p q r : Known Event Opening)
-      → Worked lock door reading done outcomes p q → MadeOne lock.origin (call_of door reading job) outcome q r
-      → (r.lock ≡ q.lock) × (r.standing ≡ Ready) × (r.joined ≡ q.joined) → IsLegal (opened lock.origin) r.seen
+  pub worked_more : (done : List Job) (outcomes : List Outcome) (job : Job) (outcome : Outcome)
+      (p q r : Known Event Opening)
+      → Worked lock door reading done outcomes p q
+      → MadeOne lock.origin (call_of door reading job) outcome q r
+      → (r.lock ≡ q.lock) × (r.standing ≡ Ready) × (r.joined ≡ q.joined)
+      → IsLegal (opened lock.origin) r.seen
       → Worked lock door reading (done ++ job ∷ []) (outcomes ++ outcome ∷ []) p r
   worked_more done outcomes job outcome p q r so made still legal =
-      let m : Mark Event = mark made.before (called lock.origin made.before (call_of door reading job)) in
+      let m : Mark Event = mark made.before (called lock.origin made.before
+      (call_of door reading job)) in
       record {
         lock_is = still.0 ∙ so.lock_is;
         ready = still.1;
         joined = still.2 ∙ so.joined;
         gained = so.gained ++ m ∷ [];
         own = made.own ∙ ap (λ xs. xs ++ m ∷ []) so.own ∙ append_assoc p.own so.gained (m ∷ []);
-        calls = map-append (λ (x : Mark Event). x.event.call) so.gained (m ∷ []) ∙ ap (λ xs. xs ++ call_of door reading job ∷ []) so.calls ∙ sym (map-append (call_of door reading) done (job ∷ []));
-        told = map-append (λ (x : Mark Event). outcome_of x.event.reply) so.gained (m ∷ []) ∙ ap (λ xs. xs ++ outcome_of m.event.reply ∷ []) so.told ∙ ap (λ o. outcomes ++ o ∷ []) (sym made.told);
+        calls = map-append (λ (x : Mark Event). x.event.call) so.gained (m ∷ [])
+            ∙ ap (λ xs. xs ++ call_of door reading job ∷ []) so.calls
+            ∙ sym (map-append (call_of door reading) done (job ∷ []));
+        told = map-append (λ (x : Mark Event). outcome_of x.event.reply) so.gained (m ∷ [])
+            ∙ ap (λ xs. xs ++ outcome_of m.event.reply ∷ []) so.told
+            ∙ ap (λ o. outcomes ++ o ∷ []) (sym made.told);
         legal = λ _. legal;
       }
 
   -- a turn was left
   pub worked_still : (done : List Job) (outcomes : List Outcome) (p q r : Known Event Opening)
       → Worked lock door reading done outcomes p q → r.own ≡ q.own
-      → (r.lock ≡ q.lock) × (r.standing ≡ Ready) × (r.joined ≡ q.joined) → IsLegal (opened lock.origin) r.seen
+      → (r.lock ≡ q.lock) × (r.standing ≡ Ready) × (r.joined ≡ q.joined)
+      → IsLegal (opened lock.origin) r.seen
       → Worked lock door reading done outcomes p r
   worked_still done outcomes p q r so own still legal =
       record {
@@ -51,15 +72,19 @@ module _ (lock : Lock Opening) (door reading : ℕ) where
       }
 
   -- so far these jobs were done, and the others are still to be
-  pub record Working (jobs done rest : List Job) (outcomes : List Outcome) (start pass : Known Event Opening) : Type 0 where
+  pub record Working (jobs done rest : List Job) (outcomes : List Outcome)
+      (start pass : Known Event Opening) : Type 0 where
     pub split : jobs ≡ done ++ rest
     pub worked : Worked lock door reading done outcomes start pass
     pub turns : pass.left + pass.entered ≡ start.left + start.entered
     pub enough : length rest ≤ pass.left
 
-  pub working_more : (jobs done rest more : List Job) (outcomes : List Outcome) (job : Job) (outcome : Outcome) (start q r : Known Event Opening)
-      → Working jobs done rest outcomes start q → rest ≡ job ∷ more → MadeOne lock.origin (call_of door reading job) outcome q r
-      → (r.lock ≡ q.lock) × (r.standing ≡ Ready) × (r.joined ≡ q.joined) → (r.left + 1 ≡ q.left) × (r.entered ≡ q.entered + 1) → IsLegal (opened lock.origin) r.seen
+  pub working_more : (jobs done rest more : List Job) (outcomes : List Outcome) (job : Job)
+      (outcome : Outcome) (start q r : Known Event Opening)
+      → Working jobs done rest outcomes start q → rest ≡ job ∷ more
+      → MadeOne lock.origin (call_of door reading job) outcome q r
+      → (r.lock ≡ q.lock) × (r.standing ≡ Ready) × (r.joined ≡ q.joined)
+      → (r.left + 1 ≡ q.left) × (r.entered ≡ q.entered + 1) → IsLegal (opened lock.origin) r.seen
       → Working jobs (done ++ job ∷ []) more (outcomes ++ outcome ∷ []) start r
   working_more jobs done rest more outcomes job outcome start q r so is made still turn legal =
       let one = ap length is in

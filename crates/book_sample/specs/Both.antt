@@ -1,5 +1,6 @@
 -- What two workers did.
-use Rattle.std.specs.Prelude.{◌≡◌, ℕ, ◌+◌, ◌<◌, ◌≤◌, List, [], ◌∷◌, ◌++◌, map, vec_len, vec_capacity, Some}
+use Rattle.std.specs.Prelude.{◌≡◌, ℕ, ◌+◌, ◌<◌, ◌≤◌, List, [], ◌∷◌, ◌++◌, map, vec_len}
+use Rattle.std.specs.Prelude.{vec_capacity, Some}
 use Rattle.cds_time.specs.declared.cds.TheConstants.{MOMENT_END}
 use Rattle.turn_lock.specs.Known.{Known, Lock}
 use Rattle.turn_lock.specs.declared.view.Mark.{Mark}
@@ -26,7 +27,8 @@ pub record IsSeated (lock : Lock Opening) (w : Worker) : Type 0 where
 -- the worker did the first of its jobs
 abbrev pub DidJobs : Lock Opening → Worker → Worker → Type 0
 DidJobs lock old new =
-    HasWorked lock old.plan.door old.plan.reading old.plan.jobs.items new.outcomes.items old.pass new.pass
+    HasWorked lock old.plan.door old.plan.reading old.plan.jobs.items new.outcomes.items old.pass
+    new.pass
 
 -- own events are those of the first of a plan's jobs, in order, with these outcomes
 pub record Did (plan : Plan) (outcomes : List Outcome) (own : List (Mark Event)) : Type 0 where
@@ -37,7 +39,8 @@ pub record Did (plan : Plan) (outcomes : List Outcome) (own : List (Mark Event))
   pub told : outcomes_of own ≡ outcomes
 
 -- the lists that were joined are those of both workers
-pub record DidBoth (first second : Plan) (one two : List Outcome) (joined : List (List (Mark Event))) : Type 0 where
+pub record DidBoth (first second : Plan) (one two : List Outcome)
+    (joined : List (List (Mark Event))) : Type 0 where
   pub firsts : List (Mark Event)
   pub seconds : List (Mark Event)
   pub joined_are : joined ≡ firsts ∷ seconds ∷ []

@@ -15,9 +15,10 @@ use Rattle.book_sample.specs.declared.job.Outcome.{Outcome}
 abbrev pub called : Opening → List Event → Call → Event
 called o before call = event_at (replay (opened o) before) call
 
--- the pass made one call, with this outcome, after the events of some list that begins with all that
--- it had seen
-pub record MadeOne (o : Opening) (call : Call) (outcome : Outcome) (old new : Known Event Opening) : Type 0 where
+-- the pass made one call, with this outcome, after the events of some list that begins with all
+-- that it had seen
+pub record MadeOne (o : Opening) (call : Call) (outcome : Outcome)
+    (old new : Known Event Opening) : Type 0 where
   pub before : List Event
   pub later : IsPrefix old.seen before
   pub seen : new.seen ≡ before ++ called o before call ∷ []
@@ -30,8 +31,10 @@ calls_of ms = map (λ m. m.event.call) ms
 abbrev pub outcomes_of : List (Mark Event) → List Outcome
 outcomes_of ms = map (λ m. outcome_of m.event.reply) ms
 
--- the pass's own events gained those of these jobs, in order, with these outcomes, one for each turn
-pub record Worked (lock : Lock Opening) (door reading : ℕ) (done : List Job) (outcomes : List Outcome) (old new : Known Event Opening) : Type 0 where
+-- the pass's own events gained those of these jobs, in order, with these outcomes, one for each
+-- turn
+pub record Worked (lock : Lock Opening) (door reading : ℕ) (done : List Job)
+    (outcomes : List Outcome) (old new : Known Event Opening) : Type 0 where
   pub lock_is : new.lock ≡ Some lock
   pub ready : new.standing ≡ Ready
   pub joined : new.joined ≡ old.joined
@@ -42,7 +45,8 @@ pub record Worked (lock : Lock Opening) (door reading : ℕ) (done : List Job) (
   pub legal : IsLegal (opened lock.origin) old.seen → IsLegal (opened lock.origin) new.seen
 
 -- the pass did the first of these jobs, and has the turns that it had
-pub record HasWorked (lock : Lock Opening) (door reading : ℕ) (jobs : List Job) (outcomes : List Outcome) (old new : Known Event Opening) : Type 0 where
+pub record HasWorked (lock : Lock Opening) (door reading : ℕ) (jobs : List Job)
+    (outcomes : List Outcome) (old new : Known Event Opening) : Type 0 where
   pub done : List Job
   pub rest : List Job
   pub split : jobs ≡ done ++ rest

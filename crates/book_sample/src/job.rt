@@ -68,7 +68,8 @@ impl Job {
 // Publishes entries.
 fn publish(book: &mut Book, entries: Entries) -> Result<Outcome, Memory>
     ensures after { OnOk result (book.new ≡ after book.old (publish entries)) }
-    ensures outcome { IfOk result (λ outcome. outcome ≡ outcome_of (reply_to book.old (publish entries))) }
+    ensures outcome { IfOk result (λ outcome. outcome
+        ≡ outcome_of (reply_to book.old (publish entries))) }
     ensures err { OnErr result (book.new ≡ book.old) }
 {
     match book.publish(entries) {
@@ -81,7 +82,8 @@ fn publish(book: &mut Book, entries: Entries) -> Result<Outcome, Memory>
 // Has an ask answered.
 fn answer(book: &mut Book, door: u32, reading: u128, ask: &Ask) -> Result<Outcome, Memory>
     requires { reading < MOMENT_END }
-    ensures after { OnOk result (book.new ≡ after book.old (answer door reading ask.now wants_front)) }
+    ensures after { OnOk result (book.new ≡ after book.old
+        (answer door reading ask.now wants_front)) }
     ensures outcome { IfOk result (λ outcome. outcome
         ≡ outcome_of (reply_to book.old (answer door reading ask.now wants_front))) }
     ensures err { OnErr result (book.new ≡ book.old) }

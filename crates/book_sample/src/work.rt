@@ -1,5 +1,6 @@
 // Two workers, from the book's opening to its closing.
-ghost use Rattle.std.specs.Prelude.{◌≡◌, ◌+◌, ◌^◌, ◌<◌, ◌≤◌, [], ◌∷◌, length, vec_len, vec_capacity, IfOk, OnOk, Some};
+ghost use Rattle.std.specs.Prelude.{◌≡◌, ◌+◌, ◌^◌, ◌<◌, ◌≤◌, [], ◌∷◌, length, vec_len};
+ghost use Rattle.std.specs.Prelude.{vec_capacity, IfOk, OnOk, Some};
 ghost use Rattle.std.specs.Thread.{IsSync};
 ghost use Rattle.cds_time.specs.declared.cds.TheConstants.{MOMENT_END};
 ghost use Rattle.turn_lock.specs.Own.{MakeUp};
@@ -58,7 +59,8 @@ fn do_jobs<R: Wait>(
     requires turns { vec_len jobs ≤ pass.old.left }
     requires moment { reading < MOMENT_END }
     requires room { (outcomes.old.items ≡ []) × (vec_len jobs ≤ vec_capacity outcomes.old) }
-    ensures front { HasWorked station.now door reading jobs.items outcomes.new.items pass.old pass.new }
+    ensures front { HasWorked station.now door reading jobs.items outcomes.new.items pass.old
+        pass.new }
     ensures all { OnOk result (length outcomes.new.items ≡ length jobs.items) }
 {
     for job in jobs {
@@ -149,10 +151,12 @@ pub fn run_two<R: Threads + Wait + Sync>(
     requires new { book ≡ opened book.opening }
     requires turns { vec_len first.jobs + vec_len second.jobs < 2 ^ 62 }
     requires moments { (first.reading < MOMENT_END) × (second.reading < MOMENT_END) }
-    ensures book { IfOk result (λ r. (r.book.opening ≡ book.opening) × StandsAs r.book r.pass.seen) }
+    ensures book { IfOk result (λ r. (r.book.opening ≡ book.opening)
+        × StandsAs r.book r.pass.seen) }
     ensures workers { IfOk result (λ r.
         DidBoth first second r.first.items r.second.items r.pass.joined) }
-    ensures make_up { IfOk result (λ r. (r.pass.own ≡ []) × MakeUp r.pass.seen ([] ∷ r.pass.joined)) }
+    ensures make_up { IfOk result (λ r. (r.pass.own ≡ [])
+        × MakeUp r.pass.seen ([] ∷ r.pass.joined)) }
 {
     let turns = first.jobs.len() as u64 + second.jobs.len() as u64 + 1;
     let (station, mut pass): (Station, Pass<Event>) = Turns::new(alloc, book, turns)?;

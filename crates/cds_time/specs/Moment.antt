@@ -1,10 +1,13 @@
--- CDS times by CCSDS 301.0-B (day segmented, epoch 1958-01-01): the moment that one names, and its octets.
-use Rattle.std.specs.Prelude.{ℕ, ◌+◌, ◌*◌, ◌/◌, ◌%◌, Bool, ◌&&◌, nat_lt, if◌then◌else◌, Option, Some, None, List, ◌++◌, take, drop, true, false}
+-- CDS times by CCSDS 301.0-B (day segmented, epoch 1958-01-01): the moment that one names, and its
+-- octets.
+use Rattle.std.specs.Prelude.{ℕ, ◌+◌, ◌*◌, ◌/◌, ◌%◌, Bool, ◌&&◌, nat_lt, if◌then◌else◌, Option}
+use Rattle.std.specs.Prelude.{Some, None, List, ◌++◌, take, drop, true, false}
 use Rattle.std.specs.Int.{w16, w32, to_be_bytes, from_be_bytes}
 use Rattle.cds_time.specs.declared.cds.Cds.{Cds}
 use Rattle.cds_time.specs.declared.cds.Rest.{Rest}
 use Rattle.cds_time.specs.declared.cds.Rest.TheVariants.{Micros, Picos}
-use Rattle.cds_time.specs.declared.cds.TheConstants.{MILLIS_A_DAY, MICROS_A_MILLI, PICOS_A_MICRO, PICOS_A_MILLI}
+use Rattle.cds_time.specs.declared.cds.TheConstants.{MILLIS_A_DAY, MICROS_A_MILLI, PICOS_A_MICRO}
+use Rattle.cds_time.specs.declared.cds.TheConstants.{PICOS_A_MILLI}
 
 -- the part below the millisecond, in picoseconds
 abbrev pub picos_of : Rest → ℕ
@@ -28,12 +31,17 @@ moment_of time =
 
 -- a whole number of milliseconds, and microseconds below one, as a time
 abbrev pub of_millis : ℕ → ℕ → Cds
-of_millis millis micros = record { days = millis / MILLIS_A_DAY; millis = millis % MILLIS_A_DAY; rest = Micros micros }
+of_millis millis micros = record {
+  days = millis / MILLIS_A_DAY;
+  millis = millis % MILLIS_A_DAY;
+  rest = Micros micros;
+}
 
 -- the time of a moment, rounded down to the microsecond
 abbrev pub in_micros : ℕ → Cds
 in_micros moment =
-    let micros = moment / PICOS_A_MICRO in of_millis (micros / MICROS_A_MILLI) (micros % MICROS_A_MILLI)
+    let micros = moment / PICOS_A_MICRO in
+    of_millis (micros / MICROS_A_MILLI) (micros % MICROS_A_MILLI)
 
 -- 1958-01-01, the moment 0
 abbrev pub epoch : Cds

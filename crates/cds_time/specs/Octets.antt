@@ -30,10 +30,12 @@ pub record HasOctets (time : Cds) (octets : List ℕ) : Type 0 where
 abbrev pub OctetsGiveFields : Type 0
 OctetsGiveFields =
     (octets : List ℕ) → AllByRecursion (λ octet. octet < 256) octets
-    → (length octets ≡ 8 → HasOctets (of_micro_octets octets) octets) × (length octets ≡ 10 → HasOctets (of_pico_octets octets) octets)
+    → (length octets ≡ 8 → HasOctets (of_micro_octets octets) octets)
+    × (length octets ≡ 10 → HasOctets (of_pico_octets octets) octets)
 
 -- Fields that fit give octets, which give the fields again.
 abbrev pub FieldsGiveOctets : Type 0
 FieldsGiveOctets =
     (time : Cds) → FieldsFit time
-    → AllByRecursion (λ octet. octet < 256) (octets_of time) × (of_octets time.rest (octets_of time) ≡ time)
+    → AllByRecursion (λ octet. octet < 256) (octets_of time)
+    × (of_octets time.rest (octets_of time) ≡ time)

@@ -1,12 +1,14 @@
 -- The time that a machine's Unix time names (POSIX: days of 86,400 seconds since 1970-01-01).
-use Rattle.std.specs.Prelude.{◌≡◌, ℕ, ◌+◌, ◌*◌, ◌/◌, ◌%◌, nat_lt, if◌then◌else◌, Option, Some, None, unwrap_or, List, map}
+use Rattle.std.specs.Prelude.{◌≡◌, ℕ, ◌+◌, ◌*◌, ◌/◌, ◌%◌, nat_lt, if◌then◌else◌, Option, Some, None}
+use Rattle.std.specs.Prelude.{unwrap_or, List, map}
 use Rattle.std.specs.Option.{option_map, option_and_then}
 use Rattle.std.specs.Duration.{as_nanos}
 use Rattle.std.specs.declared.time.Duration.{Duration}
 use Rattle.cds_time.specs.Moment.{in_micros, epoch}
 use Rattle.cds_time.specs.declared.cds.Cds.{Cds}
 use Rattle.cds_time.specs.declared.cds.Rest.TheVariants.{Micros}
-use Rattle.cds_time.specs.declared.cds.TheConstants.{DAYS_TO_1970, MOMENT_END, PICOS_A_DAY, PICOS_A_NANO}
+use Rattle.cds_time.specs.declared.cds.TheConstants.{DAYS_TO_1970, MOMENT_END, PICOS_A_DAY}
+use Rattle.cds_time.specs.declared.cds.TheConstants.{PICOS_A_NANO}
 
 -- the moment of this many nanoseconds since 1970-01-01
 abbrev pub moment_since_1970 : ℕ → ℕ
@@ -15,7 +17,8 @@ moment_since_1970 nanos = DAYS_TO_1970 * PICOS_A_DAY + nanos * PICOS_A_NANO
 -- the time of that moment, rounded down to the microsecond, or none past the last day
 abbrev pub of_unix_time : ℕ → Option Cds
 of_unix_time nanos =
-    if nat_lt (moment_since_1970 nanos) MOMENT_END then Some (in_micros (moment_since_1970 nanos)) else None
+    if nat_lt (moment_since_1970 nanos) MOMENT_END then Some (in_micros (moment_since_1970 nanos))
+    else None
 
 -- what a machine shows, in nanoseconds
 abbrev pub nanos_of : Option Duration → Option ℕ

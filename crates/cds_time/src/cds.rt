@@ -1,7 +1,9 @@
 // Times by their fields, and the moments that they name.
-ghost use Rattle.std.specs.Prelude.{◌≡◌, ◌+◌, ◌*◌, ◌/◌, ◌<◌, ◌≤◌, ◌++◌, length, take, drop, Some, IfSome, IsTrue};
+ghost use Rattle.std.specs.Prelude.{◌≡◌, ◌+◌, ◌*◌, ◌/◌, ◌<◌, ◌≤◌, ◌++◌, length, take, drop, Some};
+ghost use Rattle.std.specs.Prelude.{IfSome, IsTrue};
 ghost use Rattle.std.specs.Duration.{as_nanos};
-ghost use Rattle.cds_time.specs.Moment.{moment_of, octets_of, of_micro_octets, of_pico_octets, is_micros, in_micros};
+ghost use Rattle.cds_time.specs.Moment.{moment_of, octets_of, of_micro_octets, of_pico_octets};
+ghost use Rattle.cds_time.specs.Moment.{is_micros, in_micros};
 ghost use Rattle.cds_time.specs.Unix.{of_unix_time};
 
 use std::time::Duration;

@@ -5,9 +5,11 @@ use Rattle.std.specs.List.{list_any}
 use Rattle.cltu_queue.specs.declared.in_air.InAir.{InAir}
 use Rattle.cltu_queue.specs.declared.taken.Taken.{Taken}
 use Rattle.cltu_queue.specs.Machine.{Machine, is_idle, is_this}
-use Rattle.cltu_queue.specs.Forward.{Event, start, transfer, stop, take, done, interrupted, uplink, notice, Reply, took, forward}
+use Rattle.cltu_queue.specs.Forward.{Event, start, transfer, stop, take, done, interrupted, uplink}
+use Rattle.cltu_queue.specs.Forward.{notice, Reply, took, forward}
 use Rattle.cltu_queue.specs.Run.{steps, after, radiation_by, radiations, lands}
-use Rattle.cltu_queue.proofs.Cases.{start_by, transfer_by, take_by, IsNamed, done_by, interrupted_by, changed_by, with_uplink, uplink_by, notice_by}
+use Rattle.cltu_queue.proofs.Cases.{start_by, transfer_by, take_by, IsNamed, done_by}
+use Rattle.cltu_queue.proofs.Cases.{interrupted_by, changed_by, with_uplink, uplink_by, notice_by}
 use Rattle.cltu_queue.proofs.Turns.{ready_of, or_false}
 use Rattle.cltu_queue.proofs.Lawful.{radiations-cons}
 
@@ -24,7 +26,8 @@ busy : (m : Machine) (a : InAir) → m.in_air ≡ Some a → is_idle m ≡ false
 busy m a is ready = let e : Some a ≡ None = sym is ∙ (ready_of m ready).none_aloft in cc
 
 -- the end of another radiation isn't told
-unnamed : (m : Machine) (run id : ℕ) (a b : InAir) → m.in_air ≡ Some a → is_this run id a ≡ false → IsNamed m run id b → ⊥
+unnamed : (m : Machine) (run id : ℕ) (a b : InAir) → m.in_air ≡ Some a → is_this run id a ≡ false
+    → IsNamed m run id b → ⊥
 unnamed m run id a b is other named =
     let same : b ≡ a = let e : Some b ≡ Some a = sym named.in_air ∙ is in cc in
     true≢false (sym named.this ∙ subst (λ c. is_this run id c ≡ false) (sym same) other)
@@ -36,17 +39,21 @@ aloft m (start first) a is other =
     start_by (AloftOf a (start first)) m first (record { stays = is; radiates_none = refl })
     (λ d. record { stays = is; radiates_none = refl }) (record { stays = is; radiates_none = refl })
 aloft m (transfer cltu now) a is other =
-    transfer_by (AloftOf a (transfer cltu now)) m cltu now (record { stays = is; radiates_none = refl })
-    (λ d. record { stays = is; radiates_none = refl }) (λ going fits. record { stays = is; radiates_none = refl })
+    transfer_by (AloftOf a (transfer cltu now)) m cltu now
+    (record { stays = is; radiates_none = refl })
+    (λ d. record { stays = is; radiates_none = refl })
+    (λ going fits. record { stays = is; radiates_none = refl })
 aloft m stop a is other = record { stays = is; radiates_none = refl }
 aloft m (take now) a is other =
     take_by (λ (r : Machine × Taken). IsAloft a (take now) r.0 (took r.1)) m now
     (record { stays = is; radiates_none = refl }) (λ head ready. absurd (busy m a is ready))
-    (λ until. record { stays = is; radiates_none = refl }) (λ head others may. absurd (busy m a is may.ready))
+    (λ until. record { stays = is; radiates_none = refl })
+    (λ head others may. absurd (busy m a is may.ready))
 aloft m (done run id now) a is other =
     record {
       stays =
-          done_by (λ (n : Machine). n.in_air ≡ Some a) m run id now is (λ b named. absurd (unnamed m run id a b is other named))
+          done_by (λ (n : Machine). n.in_air ≡ Some a) m run id now is
+          (λ b named. absurd (unnamed m run id a b is other named))
           (λ b named current. absurd (unnamed m run id a b is other named));
       radiates_none = refl;
     }
@@ -62,7 +69,8 @@ aloft m (uplink production status) a is other =
     record {
       stays =
           uplink_by (λ (n : Machine). n.in_air ≡ Some a) m production status
-          (changed_by (λ (n : Machine). n.in_air ≡ Some a) (with_uplink production status m) is is is is) is;
+          (changed_by (λ (n : Machine). n.in_air ≡ Some a) (with_uplink production status m) is is
+          is is) is;
       radiates_none = refl;
     }
 aloft m notice a is other =

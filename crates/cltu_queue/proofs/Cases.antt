@@ -1,5 +1,7 @@
 -- What each event may come to.
-use Rattle.std.proofs.Common.{◌≡◌, ℕ, Bool, true, false, not, ◌&&◌, ◌||◌, ◌==◌, nat_lt, if◌then◌else◌, Option, Some, None, Result, Ok, Err, List, [], ◌∷◌, refl, sym, subst}
+use Rattle.std.proofs.Common.{◌≡◌, ℕ, Bool, true, false, not, ◌&&◌, ◌||◌, ◌==◌, nat_lt}
+use Rattle.std.proofs.Common.{if◌then◌else◌, Option, Some, None, Result, Ok, Err, List, [], ◌∷◌}
+use Rattle.std.proofs.Common.{refl, sym, subst}
 use Rattle.std.proofs.lemmas.Bool.{not-false}
 use Rattle.cltu_queue.specs.declared.cltu.Cltu.{Cltu}
 use Rattle.cltu_queue.specs.declared.in_air.InAir.{InAir}
@@ -9,13 +11,23 @@ use Rattle.cltu_queue.specs.declared.cltu_fault.CltuFault.TheVariants.{Refused}
 use Rattle.cltu_queue.specs.declared.taken.Taken.{Taken}
 use Rattle.cltu_queue.specs.declared.taken.Taken.TheVariants.{Idle, Waits, Expired, Radiate}
 use Rattle.cltu_queue.specs.declared.notice.Notice.{Notice}
-use Rattle.cltu_queue.specs.Numbers.{operational, interrupted as broken, halted, out_of_service, unable_to_comply, production_operational, production_interrupted, production_halted, last_run}
+use Rattle.cltu_queue.specs.Numbers.{operational, interrupted as broken, halted, out_of_service}
+use Rattle.cltu_queue.specs.Numbers.{unable_to_comply, production_operational}
+use Rattle.cltu_queue.specs.Numbers.{production_interrupted, production_halted, last_run}
 use Rattle.cltu_queue.specs.Times.{latest_of, is_above}
-use Rattle.cltu_queue.specs.Machine.{Machine, new_run, on_start, room_of, refusal, queued, queued_unless, on_transfer, is_idle, begins_at, expired, radiating, on_radiation, on_radiation_of, on_take, on_take_of, is_this, is_of_run, landed, ended, on_done, on_done_of, broken_off, on_interrupted, on_interrupted_of, discarded, with_production_notice, production_changed, on_uplink, on_notice_of}
-use Rattle.cltu_queue.specs.Forward.{start, transfer, notice, Reply, unfit, started, transferred, notified, forward}
+use Rattle.cltu_queue.specs.Machine.{Machine, new_run, on_start, room_of, refusal, queued}
+use Rattle.cltu_queue.specs.Machine.{queued_unless, on_transfer, is_idle, begins_at, expired}
+use Rattle.cltu_queue.specs.Machine.{radiating, on_radiation, on_radiation_of, on_take, on_take_of}
+use Rattle.cltu_queue.specs.Machine.{is_this, is_of_run, landed, ended, on_done, on_done_of}
+use Rattle.cltu_queue.specs.Machine.{broken_off, on_interrupted, on_interrupted_of, discarded}
+use Rattle.cltu_queue.specs.Machine.{with_production_notice, production_changed, on_uplink}
+use Rattle.cltu_queue.specs.Machine.{on_notice_of}
+use Rattle.cltu_queue.specs.Forward.{start, transfer, notice, Reply, unfit, started, transferred}
+use Rattle.cltu_queue.specs.Forward.{notified, forward}
 
 -- what holds of both parts of a choice holds of it
-pub choose : {X : Type 0} (P : X → Type 0) (b : Bool) (x y : X) → (b ≡ true → P x) → (b ≡ false → P y)
+pub choose : {X : Type 0} (P : X → Type 0) (b : Bool) (x y : X) → (b ≡ true → P x)
+    → (b ≡ false → P y)
     → P (if b then x else y)
 choose P true x y p q = p refl
 choose P false x y p q = q refl
@@ -30,9 +42,13 @@ pub start_by : (P : Machine × Reply → Type 0) (m : Machine) (first : ℕ)
     → P (new_run first m, started (Ok tt))
     → P (forward m (start first))
 start_by P m first misfits refuses begins =
-    choose P m.started (m, unfit) ((on_start m first).0, started (on_start m first).1) (λ _. misfits)
+    choose P m.started (m, unfit) (
+      (on_start m first).0,
+      started (on_start m first).1,
+    ) (λ _. misfits)
     (λ _. choose (Starts P) (m.production == halted) (m, Err out_of_service)
-    (if m.production == broken || m.run == last_run then (m, Err unable_to_comply) else (new_run first m, Ok tt))
+    (if m.production == broken || m.run == last_run then (m, Err unable_to_comply)
+    else (new_run first m, Ok tt))
     (λ _. refuses out_of_service)
     (λ _. choose (Starts P) (m.production == broken || m.run == last_run) (m, Err unable_to_comply)
     (new_run first m, Ok tt) (λ _. refuses unable_to_comply) (λ _. begins)))
@@ -56,8 +72,12 @@ pub transfer_by : (P : Machine × Reply → Type 0) (m : Machine) (cltu : Cltu) 
     → P (queued m cltu, transferred (Ok (room_of (queued m cltu)))))
     → P (forward m (transfer cltu now))
 transfer_by P m cltu now misfits refuses accepts =
-    choose P m.started ((on_transfer m cltu now).0, transferred (on_transfer m cltu now).1) (m, unfit)
-    (λ going. transfer_of P m cltu now (refusal m cltu now) refl refuses (accepts going)) (λ _. misfits)
+    choose P m.started ((on_transfer m cltu now).0, transferred (on_transfer m cltu now).1) (
+      m,
+      unfit,
+    )
+    (λ going. transfer_of P m cltu now (refusal m cltu now) refl refuses (accepts going))
+    (λ _. misfits)
 
 -- a CLTU that is first may radiate now
 pub record MayRadiate (m : Machine) (now : ℕ) (head : Cltu) (others : List Cltu) : Type 0 where
@@ -77,11 +97,15 @@ take_of P m now [] is idle expires waits radiates = idle
 take_of P m now (head ∷ others) is idle expires waits radiates =
     choose P (is_idle m) (m, Idle)
     (if is_above (Some now) (latest_of head) then (expired head.id m, Expired head.id)
-    else (if nat_lt now (begins_at m head) then (m, Waits (begins_at m head)) else on_radiation m now)) (λ _. idle)
+    else (if nat_lt now (begins_at m head) then (m, Waits (begins_at m head))
+    else on_radiation m now)) (λ _. idle)
     (λ ready. choose P (is_above (Some now) (latest_of head)) (expired head.id m, Expired head.id)
     (if nat_lt now (begins_at m head) then (m, Waits (begins_at m head)) else on_radiation m now)
     (λ _. expires head ready)
-    (λ timely. choose P (nat_lt now (begins_at m head)) (m, Waits (begins_at m head)) (on_radiation m now)
+    (λ timely. choose P (nat_lt now (begins_at m head)) (
+      m,
+      Waits (begins_at m head),
+    ) (on_radiation m now)
     (λ _. waits (begins_at m head))
     (λ due. subst (λ ws. P (on_radiation_of ws m now)) (sym is)
     (radiates head others (record { first = is; ready = ready; timely = timely; due = due })))))
@@ -108,7 +132,8 @@ done_of : (Q : Machine → Type 0) (m : Machine) (run id now : ℕ) (x : Option 
     → Q (on_done_of x m run id now)
 done_of Q m run id now None is stays lands ends = stays
 done_of Q m run id now (Some a) is stays lands ends =
-    choose Q (not (is_this run id a)) m (if is_of_run m a then ended a now m else landed m) (λ _. stays)
+    choose Q (not (is_this run id a)) m (if is_of_run m a then ended a now m else landed m)
+    (λ _. stays)
     (λ this. choose Q (is_of_run m a) (ended a now m) (landed m)
     (λ current. ends a (record { in_air = is; this = not-false (is_this run id a) this }) current)
     (λ _. lands a (record { in_air = is; this = not-false (is_this run id a) this })))
@@ -128,7 +153,8 @@ interrupted_of : (Q : Machine → Type 0) (m : Machine) (run id : ℕ) (x : Opti
     → Q (on_interrupted_of x m run id)
 interrupted_of Q m run id None is stays lands breaks = stays
 interrupted_of Q m run id (Some a) is stays lands breaks =
-    choose Q (not (is_this run id a)) m (if is_of_run m a then broken_off a m else landed m) (λ _. stays)
+    choose Q (not (is_this run id a)) m (if is_of_run m a then broken_off a m else landed m)
+    (λ _. stays)
     (λ this. choose Q (is_of_run m a) (broken_off a m) (landed m)
     (λ current. breaks a (record { in_air = is; this = not-false (is_this run id a) this }) current)
     (λ _. lands a (record { in_air = is; this = not-false (is_this run id a) this })))
@@ -151,10 +177,14 @@ pub changed_by : (Q : Machine → Type 0) (m : Machine)
 changed_by Q m resumes breaks halts stays =
     choose Q (m.production == operational) (with_production_notice production_operational m)
     (if m.production == broken then with_production_notice production_interrupted (discarded m)
-    else (if m.production == halted then with_production_notice production_halted (discarded m) else m)) (λ _. resumes)
-    (λ _. choose Q (m.production == broken) (with_production_notice production_interrupted (discarded m))
-    (if m.production == halted then with_production_notice production_halted (discarded m) else m) (λ _. breaks)
-    (λ _. choose Q (m.production == halted) (with_production_notice production_halted (discarded m)) m (λ _. halts)
+    else (if m.production == halted then with_production_notice production_halted (discarded m)
+    else m)) (λ _. resumes)
+    (λ _. choose Q (m.production == broken) (with_production_notice production_interrupted
+    (discarded m))
+    (if m.production == halted then with_production_notice production_halted (discarded m) else m)
+    (λ _. breaks)
+    (λ _. choose Q (m.production == halted) (with_production_notice production_halted (discarded m))
+    m (λ _. halts)
     (λ _. stays)))
 
 -- with production and uplink set
@@ -167,7 +197,8 @@ pub uplink_by : (Q : Machine → Type 0) (m : Machine) (production status : ℕ)
     → Q (with_uplink production status m)
     → Q (on_uplink m production status)
 uplink_by Q m production status changes stays =
-    choose Q (m.started && not (m.production == production)) (production_changed (with_uplink production status m))
+    choose Q (m.started && not (m.production == production))
+    (production_changed (with_uplink production status m))
     (with_uplink production status m) (λ _. changes) (λ _. stays)
 
 notice_of : (P : Machine × Option Notice → Type 0) (m : Machine) (ns : List Notice) → m.notices ≡ ns

@@ -1,5 +1,7 @@
 -- What waits stays within the room, and the notices stay few.
-use Rattle.std.proofs.Common.{◌≡◌, ℕ, suc, ◌+◌, ◌-◌, ◌≤◌, ◌<◌, Bool, true, false, ◌==◌, if◌then◌else◌, Some, None, List, [], ◌∷◌, ◌++◌, length, take as list_take, refl, ◌∙◌, ap, arith, length-append}
+use Rattle.std.proofs.Common.{◌≡◌, ℕ, suc, ◌+◌, ◌-◌, ◌≤◌, ◌<◌, Bool, true, false, ◌==◌}
+use Rattle.std.proofs.Common.{if◌then◌else◌, Some, None, List, [], ◌∷◌, ◌++◌, length}
+use Rattle.std.proofs.Common.{take as list_take, refl, ◌∙◌, ap, arith, length-append}
 use Rattle.std.proofs.lemmas.Bool.{ltb-false}
 use Rattle.std.proofs.lemmas.List.Sums.{sum_by_push, sum_by-cons}
 use Rattle.std.proofs.lemmas.List.{length-take}
@@ -10,12 +12,24 @@ use Rattle.cltu_queue.specs.declared.in_air.InAir.{InAir}
 use Rattle.cltu_queue.specs.declared.taken.Taken.{Taken}
 use Rattle.cltu_queue.specs.declared.notice.Notice.{Notice}
 use Rattle.cltu_queue.specs.declared.processed.Processed.TheVariants as processed
-use Rattle.cltu_queue.specs.Numbers.{interrupted as broken, unable_to_process, unable_to_store, out_of_sequence, inconsistent_time_range, invalid_time, late_sldu, invalid_delay_time, cltu_error, status_expired, status_interrupted, cltu_radiated, sldu_expired, production_interrupted, production_halted, production_operational, buffer_empty}
+use Rattle.cltu_queue.specs.Numbers.{interrupted as broken, unable_to_process, unable_to_store}
+use Rattle.cltu_queue.specs.Numbers.{out_of_sequence, inconsistent_time_range, invalid_time}
+use Rattle.cltu_queue.specs.Numbers.{late_sldu, invalid_delay_time, cltu_error, status_expired}
+use Rattle.cltu_queue.specs.Numbers.{status_interrupted, cltu_radiated, sldu_expired}
+use Rattle.cltu_queue.specs.Numbers.{production_interrupted, production_halted}
+use Rattle.cltu_queue.specs.Numbers.{production_operational, buffer_empty}
 use Rattle.cltu_queue.specs.Parts.{notices_before_take}
-use Rattle.cltu_queue.specs.Machine.{Machine, new_machine, free_octets, octets_of, one_more, notice_of, is_of_production, ends_with_production, refusal, is_idle, expired, radiating, on_stop, landed, radiated_at, with_radiation_notice, with_empty_notice, with_notice, with_production_notice, discarded, production_changed, broken_off, on_uplink}
-use Rattle.cltu_queue.specs.Forward.{Event, start, transfer, stop, take, done, interrupted, uplink, notice, Reply, forward}
+use Rattle.cltu_queue.specs.Machine.{Machine, new_machine, free_octets, octets_of, one_more}
+use Rattle.cltu_queue.specs.Machine.{notice_of, is_of_production, ends_with_production, refusal}
+use Rattle.cltu_queue.specs.Machine.{is_idle, expired, radiating, on_stop, landed, radiated_at}
+use Rattle.cltu_queue.specs.Machine.{with_radiation_notice, with_empty_notice, with_notice}
+use Rattle.cltu_queue.specs.Machine.{with_production_notice, discarded, production_changed}
+use Rattle.cltu_queue.specs.Machine.{broken_off, on_uplink}
+use Rattle.cltu_queue.specs.Forward.{Event, start, transfer, stop, take, done, interrupted, uplink}
+use Rattle.cltu_queue.specs.Forward.{notice, Reply, forward}
 use Rattle.cltu_queue.specs.Run.{after, IsSound}
-use Rattle.cltu_queue.proofs.Cases.{choose, start_by, transfer_by, MayRadiate, take_by, done_by, interrupted_by, changed_by, with_uplink, uplink_by, notice_by}
+use Rattle.cltu_queue.proofs.Cases.{choose, start_by, transfer_by, MayRadiate, take_by, done_by}
+use Rattle.cltu_queue.proofs.Cases.{interrupted_by, changed_by, with_uplink, uplink_by, notice_by}
 use Rattle.cltu_queue.proofs.Turns.{passes, ready_of}
 
 pub last_get : (ns : List Notice) (n : Notice) → slice_get (ns ++ n ∷ []) (length ns) ≡ Some n
@@ -34,31 +48,46 @@ some_of [] h = cc
 some_of (x ∷ ns) h = omega arith
 
 -- how many notices there are, and what may come before the next take
-pub few_of : (m : Machine) → length m.notices + (if is_some m.in_air then 3 else 0) ≤ notices_before_take m
+pub few_of : (m : Machine) → length m.notices + (if is_some m.in_air then 3 else 0)
+    ≤ notices_before_take m
 few_of m = grind arith
 
-most_of : (m : Machine) → notices_before_take m ≤ length m.notices + (if is_some m.in_air then 3 else 0) + 1
+most_of : (m : Machine) → notices_before_take m
+    ≤ length m.notices + (if is_some m.in_air then 3 else 0) + 1
 most_of m = grind arith
 
-after_notice : (m : Machine) (kind : ℕ) → notices_before_take (with_notice kind m) ≤ length m.notices + (if is_some m.in_air then 3 else 0) + 2
-after_notice m kind = omega (arith, most_of (with_notice kind m), length-append m.notices (notice_of kind m ∷ []))
+after_notice : (m : Machine) (kind : ℕ) → notices_before_take (with_notice kind m)
+    ≤ length m.notices + (if is_some m.in_air then 3 else 0) + 2
+after_notice m kind = omega (
+  arith,
+  most_of (with_notice kind m),
+  length-append m.notices (notice_of kind m ∷ []),
+)
 
 stop_few : (m : Machine) → notices_before_take (on_stop m) ≤ 4
-stop_few m = choose (λ (k : ℕ). 0 + k + 1 ≤ 4) (is_some m.in_air) 3 0 (λ _. omega arith) (λ _. omega arith)
+stop_few m = choose (λ (k : ℕ). 0 + k + 1 ≤ 4) (is_some m.in_air) 3 0 (λ _. omega arith)
+    (λ _. omega arith)
 
 -- a notice of production doesn't make more come
 after_production : (m : Machine) (kind : ℕ) → is_of_production (notice_of kind m) ≡ true
     → notices_before_take (with_production_notice kind m) ≤ notices_before_take m
 after_production m kind is =
     let n : Notice = notice_of kind m in
-    choose (λ (ns : List Notice). notices_before_take (record m { notices = ns ++ n ∷ [] }) ≤ notices_before_take m)
+    choose (λ (ns : List Notice). notices_before_take (record m { notices = ns ++ n ∷ [] })
+    ≤ notices_before_take m)
     (ends_with_production m.notices) (list_take (length m.notices - 1) m.notices) m.notices
     (λ e. rw (last_of (list_take (length m.notices - 1) m.notices) n, is, e)
-    (omega (arith, some_of m.notices e, length-take (length m.notices - 1) m.notices, length-append (list_take (length m.notices - 1) m.notices) (n ∷ []))))
+    (omega (
+      arith,
+      some_of m.notices e,
+      length-take (length m.notices - 1) m.notices,
+      length-append (list_take (length m.notices - 1) m.notices) (n ∷ []),
+    )))
     (λ e. rw (last_of m.notices n, is, e) (omega (arith, length-append m.notices (n ∷ []))))
 
 -- a CLTU that is accepted fits
-fits_of : (m : Machine) (cltu : Cltu) (now : ℕ) → refusal m cltu now ≡ None → length cltu.octets ≤ free_octets m
+fits_of : (m : Machine) (cltu : Cltu) (now : ℕ) → refusal m cltu now ≡ None
+    → length cltu.octets ≤ free_octets m
 fits_of m cltu now h =
     let a = passes m.blocked unable_to_process _ h in
     let b = passes _ out_of_sequence _ a.1 in
@@ -91,7 +120,8 @@ record IsLanded (k : ℕ) (m : Machine) : Type 0 where
   pub few : length m.notices ≤ k
   pub octets : octets_of m.waiting ≤ m.room
 
-radiated_landed : (m : Machine) (wanted : Bool) → IsLanded 1000 m → IsLanded 1001 (with_radiation_notice wanted m)
+radiated_landed : (m : Machine) (wanted : Bool) → IsLanded 1000 m
+    → IsLanded 1001 (with_radiation_notice wanted m)
 radiated_landed m wanted s =
     choose (IsLanded 1001) wanted (with_notice cltu_radiated m) m
     (λ _. record {
@@ -127,30 +157,45 @@ end_notice ns = if ends_with_production ns then 0 else 1
 same_end : (first second : Notice) (others : List Notice)
     → ends_with_production (first ∷ second ∷ others) ≡ ends_with_production (second ∷ others)
 same_end first second others =
-    let place : length (first ∷ second ∷ others) - 1 ≡ suc (length (second ∷ others) - 1) = omega arith in
+    let place : length (first ∷ second ∷ others) - 1 ≡ suc (length (second ∷ others) - 1) =
+    omega arith in
     ap (λ k. option_map_or is_of_production (slice_get (first ∷ second ∷ others) k) false) place
 
 -- the first notice is told
 notice_few : (m : Machine) (first : Notice) (others : List Notice) → m.notices ≡ first ∷ others
     → notices_before_take m ≤ 1003 → notices_before_take (record m { notices = others }) ≤ 1003
 notice_few m first [] is few =
-    choose (λ (k : ℕ). 0 + k + 1 ≤ 1003) (is_some m.in_air) 3 0 (λ _. omega arith) (λ _. omega arith)
+    choose (λ (k : ℕ). 0 + k + 1 ≤ 1003) (is_some m.in_air) 3 0 (λ _. omega arith)
+    (λ _. omega arith)
 notice_few m first (second ∷ others) is few =
-    let all : notices_before_take m ≡ notices_before_take (record m { notices = first ∷ second ∷ others }) =
+    let all : notices_before_take m ≡ notices_before_take
+    (record m { notices = first ∷ second ∷ others }) =
     ap (λ ns. notices_before_take (record m { notices = ns })) is in
-    let last : ends_with_production (first ∷ second ∷ others) ≡ ends_with_production (second ∷ others) =
+    let last : ends_with_production (first ∷ second ∷ others)
+    ≡ ends_with_production (second ∷ others) =
     same_end first second others in
-    let weight : end_notice (first ∷ second ∷ others) ≡ end_notice (second ∷ others) = ap (λ b. if b then 0 else 1) last in
+    let weight : end_notice (first ∷ second ∷ others) ≡ end_notice (second ∷ others) =
+    ap (λ b. if b then 0 else 1) last in
     omega arith
 
 expired_sound : (m : Machine) (head : Cltu) → is_idle m ≡ false → IsSound (expired head.id m)
 expired_sound m head ready =
     let gone : Machine =
-    record (discarded m) { processed = processed.Some head.id None status_expired; taken = one_more m.taken } in
+    record (discarded m) {
+      processed = processed.Some head.id None status_expired;
+      taken = one_more m.taken;
+    } in
     let is = ready_of m ready in
-    record { octets = omega arith; notices = omega (arith, bound_of gone sldu_expired 999 is.none_aloft (omega (arith, is.few))) }
+    record {
+      octets = omega arith;
+      notices = omega (
+        arith,
+        bound_of gone sldu_expired 999 is.none_aloft (omega (arith, is.few)),
+      );
+    }
 
-radiating_sound : (m : Machine) (now : ℕ) (head : Cltu) (others : List Cltu) → MayRadiate m now head others → IsSound m
+radiating_sound : (m : Machine) (now : ℕ) (head : Cltu) (others : List Cltu)
+    → MayRadiate m now head others → IsSound m
     → IsSound (radiating head others now m)
 radiating_sound m now head others may s =
     let count : octets_of m.waiting ≡ length head.octets + octets_of others =
@@ -167,24 +212,43 @@ broken_sound m a is s =
       processed = processed.Some a.id (Some a.began) status_interrupted;
       production = broken;
     } in
-    record { octets = omega arith; notices = omega (arith, bound_of gone production_interrupted 1000 refl (few_aloft m a is s)) }
+    record {
+      octets = omega arith;
+      notices = omega (
+        arith,
+        bound_of gone production_interrupted 1000 refl (few_aloft m a is s),
+      );
+    }
 
 changed_sound : (m : Machine) → IsSound m → IsSound (production_changed m)
 changed_sound m s =
     changed_by IsSound m
-    (record { octets = s.octets; notices = omega (arith, s.notices, after_production m production_operational refl) })
+    (record {
+      octets = s.octets;
+      notices = omega (
+        arith,
+        s.notices,
+        after_production m production_operational refl,
+      );
+    })
     (record {
       octets = omega arith;
-      notices = omega (arith, s.notices, after_production (discarded m) production_interrupted refl);
+      notices = omega (
+        arith,
+        s.notices,
+        after_production (discarded m) production_interrupted refl,
+      );
     })
     (record {
       octets = omega arith;
       notices = omega (arith, s.notices, after_production (discarded m) production_halted refl);
     }) s
 
-uplink_sound : (m : Machine) (production status : ℕ) → IsSound m → IsSound (on_uplink m production status)
+uplink_sound : (m : Machine) (production status : ℕ) → IsSound m
+    → IsSound (on_uplink m production status)
 uplink_sound m production status s =
-    let set : IsSound (with_uplink production status m) = record { octets = s.octets; notices = s.notices } in
+    let set : IsSound (with_uplink production status m) =
+    record { octets = s.octets; notices = s.notices } in
     uplink_by IsSound m production status (changed_sound (with_uplink production status m) set) set
 
 sound : (m : Machine) (event : Event) → IsSound m → IsSound (forward m event).0
@@ -194,12 +258,18 @@ sound m (start first) s =
 sound m (transfer cltu now) s =
     transfer_by (λ (r : Machine × Reply). IsSound r.0) m cltu now s (λ d. s)
     (λ going fits. record {
-      octets = omega (arith, s.octets, fits_of m cltu now fits, sum_by_push (λ (c : Cltu). length c.octets) m.waiting cltu);
+      octets = omega (
+        arith,
+        s.octets,
+        fits_of m cltu now fits,
+        sum_by_push (λ (c : Cltu). length c.octets) m.waiting cltu,
+      );
       notices = s.notices;
     })
 sound m stop s = record { octets = omega arith; notices = omega (arith, stop_few m) }
 sound m (take now) s =
-    take_by (λ (r : Machine × Taken). IsSound r.0) m now s (λ head ready. expired_sound m head ready) (λ until. s)
+    take_by (λ (r : Machine × Taken). IsSound r.0) m now s
+    (λ head ready. expired_sound m head ready) (λ until. s)
     (λ head others may. radiating_sound m now head others may s)
 sound m (done run id now) s =
     done_by IsSound m run id now s (λ a named. landed_sound m a named.in_air s)
@@ -212,7 +282,10 @@ sound m (interrupted run id) s =
 sound m (uplink production status) s = uplink_sound m production status s
 sound m notice s =
     notice_by (λ (r : Machine × Reply). IsSound r.0) m s
-    (λ first others is. record { octets = s.octets; notices = notice_few m first others is s.notices })
+    (λ first others is. record {
+      octets = s.octets;
+      notices = notice_few m first others is s.notices;
+    })
 
 -- a machine stays sound, whatever its events
 pub stays_sound : (m : Machine) (events : List Event) → IsSound m → IsSound (after m events)

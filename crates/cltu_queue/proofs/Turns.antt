@@ -1,17 +1,27 @@
--- What an event does to a run: it keeps it, queues a CLTU, radiates the first one, ends it, or begins
--- another.
-use Rattle.std.proofs.Common.{◌≡◌, ℕ, ◌+◌, ◌≤◌, ◌<◌, Bool, true, false, not, ◌||◌, ◌==◌, nat_lt, if◌then◌else◌, Option, Some, None, Err, List, [], ◌∷◌, ◌++◌, length, refl, ◌∙◌, ap, arith}
+-- What an event does to a run: it keeps it, queues a CLTU, radiates the first one, ends it, or
+-- begins another.
+use Rattle.std.proofs.Common.{◌≡◌, ℕ, ◌+◌, ◌≤◌, ◌<◌, Bool, true, false, not, ◌||◌, ◌==◌, nat_lt}
+use Rattle.std.proofs.Common.{if◌then◌else◌, Option, Some, None, Err, List, [], ◌∷◌, ◌++◌, length}
+use Rattle.std.proofs.Common.{refl, ◌∙◌, ap, arith}
 use Rattle.std.proofs.lemmas.Bool.{eqb-true, ltb-false, leb-false, not-false}
 use Rattle.std.specs.Prelude.{is_some, max, unwrap_or, IfSome}
 use Rattle.cltu_queue.specs.declared.cltu.Cltu.{Cltu}
 use Rattle.cltu_queue.specs.declared.in_air.InAir.{InAir}
 use Rattle.cltu_queue.specs.declared.taken.Taken.{Taken}
-use Rattle.cltu_queue.specs.Numbers.{operational, unable_to_process, out_of_sequence, cltu_radiated, buffer_empty, production_operational, production_interrupted, production_halted, many_notices}
+use Rattle.cltu_queue.specs.Numbers.{operational, unable_to_process, out_of_sequence, cltu_radiated}
+use Rattle.cltu_queue.specs.Numbers.{buffer_empty, production_operational, production_interrupted}
+use Rattle.cltu_queue.specs.Numbers.{production_halted, many_notices}
 use Rattle.cltu_queue.specs.Times.{earliest_of, latest_of, is_above}
-use Rattle.cltu_queue.specs.Machine.{Machine, behind, is_next, refusal, queued, is_idle, expired, radiating, landed, radiated_at, with_radiation_notice, ended, with_notice, with_production_notice, discarded, broken_off, on_uplink}
-use Rattle.cltu_queue.specs.Forward.{Event, start, transfer, stop, take, done, interrupted as interruption, uplink, notice, Reply, nothing, unfit, started, took, forward}
+use Rattle.cltu_queue.specs.Machine.{Machine, behind, is_next, refusal, queued, is_idle, expired}
+use Rattle.cltu_queue.specs.Machine.{radiating, landed, radiated_at, with_radiation_notice, ended}
+use Rattle.cltu_queue.specs.Machine.{with_notice, with_production_notice, discarded, broken_off}
+use Rattle.cltu_queue.specs.Machine.{on_uplink}
+use Rattle.cltu_queue.specs.Forward.{Event, start, transfer, stop, take, done}
+use Rattle.cltu_queue.specs.Forward.{interrupted as interruption, uplink, notice, Reply, nothing}
+use Rattle.cltu_queue.specs.Forward.{unfit, started, took, forward}
 use Rattle.cltu_queue.specs.Run.{begins_run_by, accepted_by, radiation_by, Radiation, IsRadiationOf}
-use Rattle.cltu_queue.proofs.Cases.{choose, start_by, transfer_by, MayRadiate, take_by, done_by, interrupted_by, changed_by, with_uplink, uplink_by, notice_by}
+use Rattle.cltu_queue.proofs.Cases.{choose, start_by, transfer_by, MayRadiate, take_by, done_by}
+use Rattle.cltu_queue.proofs.Cases.{interrupted_by, changed_by, with_uplink, uplink_by, notice_by}
 
 -- the run goes on as it was
 pub record IsSameRun (m n : Machine) : Type 0 where
@@ -40,7 +50,8 @@ pub record Queues (m n : Machine) (cltu : Cltu) : Type 0 where
   pub waiting : n.waiting ≡ m.waiting ++ cltu ∷ []
 
 -- the first that waits radiates
-pub record Radiates (m n : Machine) (cltu : Cltu) (others : List Cltu) (radiation : Radiation) : Type 0 where
+pub record Radiates (m n : Machine) (cltu : Cltu) (others : List Cltu)
+    (radiation : Radiation) : Type 0 where
   pub run : n.run ≡ m.run
   pub next : n.next ≡ m.next
   pub first : m.waiting ≡ cltu ∷ others
@@ -63,12 +74,16 @@ pub record Begins (m n : Machine) : Type 0 where
 -- what an event and its reply do to the run of a machine
 pub data Turn (m : Machine) (event : Event) (n : Machine) (reply : Reply) : Type 0 where
   keeps : IsSameRun m n → IsQuiet event reply → Turn m event n reply
-  queues : (cltu : Cltu) → Queues m n cltu → accepted_by event reply ≡ Some cltu → radiation_by event reply ≡ None
+  queues : (cltu : Cltu) → Queues m n cltu → accepted_by event reply ≡ Some cltu
+      → radiation_by event reply ≡ None
       → Turn m event n reply
-  radiates : (cltu : Cltu) (others : List Cltu) (radiation : Radiation) → Radiates m n cltu others radiation
-      → accepted_by event reply ≡ None → radiation_by event reply ≡ Some radiation → Turn m event n reply
+  radiates : (cltu : Cltu) (others : List Cltu) (radiation : Radiation)
+      → Radiates m n cltu others radiation
+      → accepted_by event reply ≡ None → radiation_by event reply ≡ Some radiation
+      → Turn m event n reply
   ends : Ends m n → IsOver n → IsQuiet event reply → Turn m event n reply
-  begins : Begins m n → begins_run_by event reply ≡ true → IsQuiet event reply → Turn m event n reply
+  begins : Begins m n → begins_run_by event reply ≡ true → IsQuiet event reply
+      → Turn m event n reply
 
 same : (m : Machine) → IsSameRun m m
 same m = record { run = refl; started = refl; blocked = refl; next = refl; waiting = refl }
@@ -81,7 +96,8 @@ stays : (m : Machine) (event : Event) (reply : Reply) → IsQuiet event reply �
 stays m event reply quiet = keeps (same m) quiet
 
 -- the same run but for what a run doesn't say
-pub likewise : (m n k : Machine) → IsSameRun m n → k.run ≡ n.run → k.started ≡ n.started → k.blocked ≡ n.blocked
+pub likewise : (m n k : Machine) → IsSameRun m n → k.run ≡ n.run → k.started ≡ n.started
+    → k.blocked ≡ n.blocked
     → k.next ≡ n.next → k.waiting ≡ n.waiting → IsSameRun m k
 likewise m n k s run going shut next waits =
     record {
@@ -93,7 +109,8 @@ likewise m n k s run going shut next waits =
     }
 
 -- a test that refuses didn't
-pub passes : (b : Bool) (d : ℕ) (x : Option ℕ) → (if b then Some d else x) ≡ None → (b ≡ false) × (x ≡ None)
+pub passes : (b : Bool) (d : ℕ) (x : Option ℕ) → (if b then Some d else x) ≡ None
+    → (b ≡ false) × (x ≡ None)
 passes true d x h = cc
 passes false d x h = (refl, h)
 
@@ -105,8 +122,11 @@ next_of (Some n) id h = ap Some (eqb-true n id (not-false (n == id) h))
 accepted_next : (m : Machine) (cltu : Cltu) (now : ℕ) → refusal m cltu now ≡ None
     → (m.blocked ≡ false) × (m.next ≡ Some cltu.id)
 accepted_next m cltu now fits =
-    let unblocked = passes m.blocked unable_to_process _ fits in
-    (unblocked.0, next_of m.next cltu.id (passes (not (is_next m.next cltu.id)) out_of_sequence _ unblocked.1).0)
+    let unblocked = passes m.blocked unable_to_process _ fits in (
+      unblocked.0,
+      next_of m.next cltu.id (passes (not (is_next m.next cltu.id)) out_of_sequence _
+          unblocked.1).0,
+    )
 
 is_open_of : (b s : Bool) → b ≡ false → s ≡ true → (b || not s) ≡ false
 is_open_of b s p q = rw (p, q)
@@ -128,7 +148,8 @@ not_late_of : (now : ℕ) (latest : Option ℕ) → is_above (Some now) latest �
 not_late_of now None h = tt
 not_late_of now (Some moment) h = ltb-false moment now h
 
-not_early_of : (now rests : ℕ) (earliest : Option ℕ) → nat_lt now (max (unwrap_or earliest 0) rests) ≡ false
+not_early_of : (now rests : ℕ) (earliest : Option ℕ)
+    → nat_lt now (max (unwrap_or earliest 0) rests) ≡ false
     → IfSome earliest (λ moment. moment ≤ now)
 not_early_of now rests None h = tt
 not_early_of now rests (Some moment) h = omega (arith, ltb-false now (max moment rests) h)
@@ -158,7 +179,8 @@ ready_of m h =
       few = leb-false many_notices (length m.notices) three.1;
     }
 
-takes_off : (m : Machine) (now : ℕ) (head : Cltu) (others : List Cltu) → MayRadiate m now head others
+takes_off : (m : Machine) (now : ℕ) (head : Cltu) (others : List Cltu)
+    → MayRadiate m now head others
     → Radiates m (radiating head others now m) head others
     (record { at = now; run = m.run; id = head.id; octets = head.octets })
 takes_off m now head others may =
@@ -195,8 +217,10 @@ same_ended m a now =
 -- what waited is gone, and the run is blocked
 gone : (m n : Machine) → n.run ≡ m.run → n.next ≡ m.next → n.waiting ≡ [] → n.blocked ≡ true
     → Ends m n × IsOver n
-gone m n run next empty blocked =
-    (record { run = run; next = next; blocked = λ _. blocked }, record { empty = empty; shut = rw blocked refl })
+gone m n run next empty blocked = (
+  record { run = run; next = next; blocked = λ _. blocked },
+  record { empty = empty; shut = rw blocked refl },
+)
 
 or_true : (b : Bool) → (b || true) ≡ true
 or_true true = refl
@@ -206,7 +230,8 @@ uplink_turn : (m : Machine) (production status : ℕ)
     → Turn m (uplink production status) (on_uplink m production status) nothing
 uplink_turn m production status =
     let n : Machine = with_uplink production status m in
-    let quiet : IsQuiet (uplink production status) nothing = record { accepts_none = refl; radiates_none = refl } in
+    let quiet : IsQuiet (uplink production status) nothing =
+    record { accepts_none = refl; radiates_none = refl } in
     let broken : Machine = with_production_notice production_interrupted (discarded n) in
     let stopped : Machine = with_production_notice production_halted (discarded n) in
     let over = gone m broken refl refl refl refl in
@@ -215,7 +240,8 @@ uplink_turn m production status =
     keeps (likewise m m n (same m) refl refl refl refl refl) quiet in
     uplink_by (λ (k : Machine). Turn m (uplink production status) k nothing) m production status
     (changed_by (λ (k : Machine). Turn m (uplink production status) k nothing) n
-    (keeps (likewise m m (with_production_notice production_operational n) (same m) refl refl refl refl refl) quiet)
+    (keeps (likewise m m (with_production_notice production_operational n) (same m) refl refl refl
+    refl refl) quiet)
     (ends over.0 over.1 quiet) (ends halts.0 halts.1 quiet) kept)
     kept
 
@@ -224,15 +250,18 @@ pub turn : (m : Machine) (event : Event) → Turn m event (forward m event).0 (f
 turn m (start first) =
     start_by (TurnOf m (start first)) m first
     (stays m (start first) unfit (record { accepts_none = refl; radiates_none = refl }))
-    (λ d. stays m (start first) (started (Err d)) (record { accepts_none = refl; radiates_none = refl }))
-    (begins (record { run = refl; empty = refl }) refl (record { accepts_none = refl; radiates_none = refl }))
+    (λ d. stays m (start first) (started (Err d))
+    (record { accepts_none = refl; radiates_none = refl }))
+    (begins (record { run = refl; empty = refl }) refl
+    (record { accepts_none = refl; radiates_none = refl }))
 turn m (transfer cltu now) =
     transfer_by (TurnOf m (transfer cltu now)) m cltu now
     (stays m (transfer cltu now) unfit (record { accepts_none = refl; radiates_none = refl }))
     (λ d. keeps (same m) (record { accepts_none = refl; radiates_none = refl }))
     (λ going fits. queues cltu (accepts m cltu now going fits) refl refl)
 turn m stop =
-    ends (record { run = refl; next = refl; blocked = λ is. is }) (record { empty = refl; shut = or_true m.blocked })
+    ends (record { run = refl; next = refl; blocked = λ is. is })
+    (record { empty = refl; shut = or_true m.blocked })
     (record { accepts_none = refl; radiates_none = refl })
 turn m (take now) =
     take_by (λ (r : Machine × Taken). Turn m (take now) r.0 (took r.1)) m now
@@ -243,7 +272,8 @@ turn m (take now) =
     (λ head others may. radiates head others _ (takes_off m now head others may) refl refl)
 turn m (done run id now) =
     keeps
-    (done_by (IsSameRun m) m run id now (same m) (λ a named. likewise m m (landed m) (same m) refl refl refl refl refl)
+    (done_by (IsSameRun m) m run id now (same m)
+    (λ a named. likewise m m (landed m) (same m) refl refl refl refl refl)
     (λ a named current. same_ended m a now))
     (record { accepts_none = refl; radiates_none = refl })
 turn m (interruption run id) =
@@ -255,6 +285,8 @@ turn m (interruption run id) =
     ends over.0 over.1 (record { accepts_none = refl; radiates_none = refl }))
 turn m (uplink production status) = uplink_turn m production status
 turn m notice =
-    notice_by (TurnOf m notice) m (keeps (same m) (record { accepts_none = refl; radiates_none = refl }))
-    (λ first others is. keeps (likewise m m (record m { notices = others }) (same m) refl refl refl refl refl)
+    notice_by (TurnOf m notice) m (keeps (same m)
+    (record { accepts_none = refl; radiates_none = refl }))
+    (λ first others is. keeps (likewise m m (record m { notices = others }) (same m) refl refl refl
+    refl refl)
     (record { accepts_none = refl; radiates_none = refl }))

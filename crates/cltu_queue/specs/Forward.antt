@@ -5,7 +5,8 @@ use Rattle.cltu_queue.specs.declared.room.Room.{Room}
 use Rattle.cltu_queue.specs.declared.cltu_fault.CltuFault.{CltuFault}
 use Rattle.cltu_queue.specs.declared.taken.Taken.{Taken}
 use Rattle.cltu_queue.specs.declared.notice.Notice.{Notice}
-use Rattle.cltu_queue.specs.Machine.{Machine, on_start, on_stop, on_transfer, on_take, on_done, on_interrupted, on_uplink, on_notice}
+use Rattle.cltu_queue.specs.Machine.{Machine, on_start, on_stop, on_transfer, on_take, on_done}
+use Rattle.cltu_queue.specs.Machine.{on_interrupted, on_uplink, on_notice}
 
 -- a START with its first identification; a TRANSFER-DATA with its CLTU and moment; a STOP; a take
 -- at a moment; the end of a radiation, of a run's CLTU with this identification, at a moment; its

@@ -1,6 +1,9 @@
 -- The forward machine: what a forward service instance has queued, radiates and tells (CCSDS
 -- 912.1-B). The conditions of the diagnostics, their order and the notices are this product's own.
-use Rattle.std.specs.Prelude.{ℕ, ◌+◌, ◌-◌, ◌*◌, Bool, true, false, not, ◌&&◌, ◌||◌, ◌==◌, nat_lt, nat_le, min, max, if◌then◌else◌, Option, Some, None, is_some, unwrap_or, Result, Ok, Err, List, [], ◌∷◌, ◌++◌, length, take, slice_get}
+use Rattle.std.specs.Prelude.{ℕ, ◌+◌, ◌-◌, ◌*◌, Bool, true, false, not, ◌&&◌, ◌||◌, ◌==◌, nat_lt}
+use Rattle.std.specs.Prelude.{nat_le, min, max, if◌then◌else◌, Option, Some, None, is_some}
+use Rattle.std.specs.Prelude.{unwrap_or, Result, Ok, Err, List, [], ◌∷◌, ◌++◌, length, take}
+use Rattle.std.specs.Prelude.{slice_get}
 use Rattle.std.specs.List.{sum_by}
 use Rattle.std.specs.Option.{option_map_or}
 use Rattle.cds_time.specs.Moment.{in_micros}
@@ -18,7 +21,14 @@ use Rattle.cltu_queue.specs.declared.processed.Processed.TheVariants as processe
 use Rattle.cltu_queue.specs.declared.last_ok.LastOk.{LastOk}
 use Rattle.cltu_queue.specs.declared.last_ok.LastOk.TheVariants as ok
 use Rattle.cltu_queue.specs.declared.uplink_view.UplinkView.{UplinkView}
-use Rattle.cltu_queue.specs.Numbers.{operational, interrupted, halted, out_of_service, unable_to_comply, unable_to_process, unable_to_store, out_of_sequence, inconsistent_time_range, invalid_time, late_sldu, invalid_delay_time, cltu_error, status_radiated, status_expired, status_interrupted, status_started, cltu_radiated, sldu_expired, production_interrupted, production_halted, production_operational, buffer_empty, last_id, last_count, last_run, longest_delay, many_notices}
+use Rattle.cltu_queue.specs.Numbers.{operational, interrupted, halted, out_of_service}
+use Rattle.cltu_queue.specs.Numbers.{unable_to_comply, unable_to_process, unable_to_store}
+use Rattle.cltu_queue.specs.Numbers.{out_of_sequence, inconsistent_time_range, invalid_time}
+use Rattle.cltu_queue.specs.Numbers.{late_sldu, invalid_delay_time, cltu_error, status_radiated}
+use Rattle.cltu_queue.specs.Numbers.{status_expired, status_interrupted, status_started}
+use Rattle.cltu_queue.specs.Numbers.{cltu_radiated, sldu_expired, production_interrupted}
+use Rattle.cltu_queue.specs.Numbers.{production_halted, production_operational, buffer_empty}
+use Rattle.cltu_queue.specs.Numbers.{last_id, last_count, last_run, longest_delay, many_notices}
 use Rattle.cltu_queue.specs.Times.{earliest_of, latest_of, has_moment, is_above}
 
 -- the machine: the octets that may wait and those that one CLTU may have; the run; what waits, the

@@ -1,16 +1,20 @@
 -- Lists of events of the forward machine, and what its runs promise.
-use Rattle.std.specs.Prelude.{◌≡◌, ℕ, ◌+◌, ◌<◌, ◌≤◌, zero, suc, ◌⊎◌, Bool, true, false, not, Option, Some, None, Ok, List, [], ◌∷◌, ◌++◌, length, map, slice_get, ◌-◌, IsSomeAnd}
+use Rattle.std.specs.Prelude.{◌≡◌, ℕ, ◌+◌, ◌<◌, ◌≤◌, zero, suc, ◌⊎◌, Bool, true, false, not, Option}
+use Rattle.std.specs.Prelude.{Some, None, Ok, List, [], ◌∷◌, ◌++◌, length, map, slice_get, ◌-◌}
+use Rattle.std.specs.Prelude.{IsSomeAnd}
 use Rattle.std.specs.List.{filter_map, list_any, AllByRecursion}
 use Rattle.cltu_queue.specs.declared.cltu.Cltu.{Cltu}
 use Rattle.cltu_queue.specs.declared.in_air.InAir.{InAir}
 use Rattle.cltu_queue.specs.declared.notice.Notice.{Notice}
 use Rattle.cltu_queue.specs.declared.processed.Processed.TheVariants as processed
 use Rattle.cltu_queue.specs.declared.taken.Taken.TheVariants.{Radiate}
-use Rattle.cltu_queue.specs.Numbers.{interrupted as broken, status_expired, status_interrupted, sldu_expired, production_interrupted}
+use Rattle.cltu_queue.specs.Numbers.{interrupted as broken, status_expired, status_interrupted}
+use Rattle.cltu_queue.specs.Numbers.{sldu_expired, production_interrupted}
 use Rattle.cltu_queue.specs.Times.{IsInWindow}
 use Rattle.cltu_queue.specs.Machine.{Machine, octets_of, free_octets, notice_of, is_this}
 use Rattle.cltu_queue.specs.Parts.{notices_before_take}
-use Rattle.cltu_queue.specs.Forward.{Event, start, transfer, take, done, interrupted, Reply, started, transferred, took, forward}
+use Rattle.cltu_queue.specs.Forward.{Event, start, transfer, take, done, interrupted, Reply}
+use Rattle.cltu_queue.specs.Forward.{started, transferred, took, forward}
 
 -- an event with its reply
 pub record Step : Type 0 where

@@ -1,12 +1,17 @@
 // Laws of the forward machine, each the contract of an empty function: a caller has the law by the
 // call.
-ghost use Rattle.std.specs.Prelude.{◌≡◌, ◌≢◌, ◌≤◌, ℕ, ◌⊎◌, Ok, Some, IsTrue, IsFalse, List, [], length, ◌&&◌};
+ghost use Rattle.std.specs.Prelude.{◌≡◌, ◌≢◌, ◌≤◌, ℕ, ◌⊎◌, Ok, Some, IsTrue, IsFalse, List, []};
+ghost use Rattle.std.specs.Prelude.{length, ◌&&◌};
 ghost use Rattle.std.specs.List.{list_any};
 ghost use Rattle.cltu_queue.specs.declared.in_air.InAir.{InAir};
 ghost use Rattle.cltu_queue.specs.declared.taken.Taken.TheVariants.{Expired, Radiate};
-ghost use Rattle.cltu_queue.specs.Machine.{Machine, new_machine, is_this, is_of_run, on_take, on_interrupted, on_uplink};
+ghost use Rattle.cltu_queue.specs.Machine.{Machine, new_machine, is_this, is_of_run, on_take};
+ghost use Rattle.cltu_queue.specs.Machine.{on_interrupted, on_uplink};
 ghost use Rattle.cltu_queue.specs.Forward.{Event, start, started, forward};
-ghost use Rattle.cltu_queue.specs.Run.{steps, after, are_of_one_run, accepted, radiations, lands, IsLawful, AreInTurn, TakesOff, DiscardsWithNotice, expiry_notice, interruption_notice, StopsProduction, IsSound};
+ghost use Rattle.cltu_queue.specs.Run.{steps, after, are_of_one_run, accepted, radiations, lands};
+ghost use Rattle.cltu_queue.specs.Run.{IsLawful, AreInTurn, TakesOff, DiscardsWithNotice};
+ghost use Rattle.cltu_queue.specs.Run.{expiry_notice, interruption_notice, StopsProduction};
+ghost use Rattle.cltu_queue.specs.Run.{IsSound};
 
 /// Lawful radiation: whatever the events between a START and the next, the CLTUs accepted have the
 /// identifications first, first + 1 and so on, and those that radiated are the first of them, in

@@ -5,9 +5,9 @@
 // every list of events that the CLTUs of a START radiate at most once, in order and within their
 // windows.
 //
-// Only `Queue::new` and `Queue::transfer` take memory. A CLTU's octets are shared with the caller's,
-// and handed on by `take`, without a copy. Each call takes constant time, but for those that discard
-// all that waits.
+// Only `Queue::new` and `Queue::transfer` take memory. A CLTU's octets are shared with the
+// caller's, and handed on by `take`, without a copy. Each call takes constant time, but for those
+// that discard all that waits.
 #![tactic(auto)]
 
 mod ask;

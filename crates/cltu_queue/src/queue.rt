@@ -65,7 +65,14 @@ impl Model for Queue {
 }
 
 impl Queue {
-    ghost use Rattle.cltu_queue.specs.Machine.{new_machine, free_octets, room_of, refusal, queued, discarded, notice_of, with_notice, with_production_notice, ends_with_production, is_idle, is_of_run, on_radiation, expired, with_radiation_notice, with_empty_notice, production_changed, on_start, on_stop, on_transfer, on_take, on_done, on_interrupted, on_uplink, on_notice, view_of};
+    ghost use Rattle.cltu_queue.specs.Machine.{new_machine, free_octets, room_of, refusal, queued};
+    ghost use Rattle.cltu_queue.specs.Machine.{discarded, notice_of, with_notice};
+    ghost use Rattle.cltu_queue.specs.Machine.{with_production_notice, ends_with_production};
+    ghost use Rattle.cltu_queue.specs.Machine.{is_idle, is_of_run, on_radiation, expired};
+    ghost use Rattle.cltu_queue.specs.Machine.{with_radiation_notice, with_empty_notice};
+    ghost use Rattle.cltu_queue.specs.Machine.{production_changed, on_start, on_stop, on_transfer};
+    ghost use Rattle.cltu_queue.specs.Machine.{on_take, on_done, on_interrupted, on_uplink};
+    ghost use Rattle.cltu_queue.specs.Machine.{on_notice, view_of};
     ghost use Rattle.cltu_queue.specs.CltuFault.{UnlessMemory, OnMemory};
 
     /// An empty queue for so many octets, of which one CLTU may have `longest`. No run is started.

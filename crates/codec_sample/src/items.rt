@@ -13,8 +13,8 @@ use std::marker::Model;
 /// OCTET STRING of 1 to 16 octets.
 type Item = OctetString<1, 16>;
 
-/// At most 8 items, OCTET STRINGs of 1 to 16 octets, one after another in octets that are lent. Contracts see the list
-/// of the items.
+/// At most 8 items, OCTET STRINGs of 1 to 16 octets, one after another in octets that are lent.
+/// Contracts see the list of the items.
 #[derive(Drop)]
 pub struct Items<'a> {
     octets: &'a [u8],
@@ -63,7 +63,8 @@ impl<'a> Items<'a> {
 
     /// The next item, or none behind the last one.
     pub fn next(&mut self) -> Option<&'a [u8]>
-        ensures { MatchOption result ((self.old ≡ []) × (self.new ≡ [])) (λ item. self.old ≡ item.now ∷ self.new) }
+        ensures { MatchOption result ((self.old ≡ []) × (self.new ≡ []))
+            (λ item. self.old ≡ item.now ∷ self.new) }
     {
         let (item, rest) = split_first::<Item>(8, self.octets)?;
         self.octets = rest;

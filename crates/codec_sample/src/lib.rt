@@ -1,5 +1,5 @@
-// A small nested PDU, this product's own, which shows how a PDU stands on shapes: credentials, the invocation's number, a
-// time and a list that is lent.
+// A small nested PDU, this product's own, which shows how a PDU stands on shapes: credentials, the
+// invocation's number, a time and a list that is lent.
 #![tactic(auto)]
 
 mod items;

@@ -6,8 +6,9 @@ use cds_time::{Cds, Rest};
 use sle_common::Credentials;
 use std::test::Fail;
 
-// Put together by hand from X.690: credentials of 8 octets, invoke id 300, a time in the form with microseconds, and the
-// items `a` and `bcd`. `openssl asn1parse -inform DER` shows the same elements at the same places.
+// Put together by hand from X.690: credentials of 8 octets, invoke id 300, a time in the form with
+// microseconds, and the items `a` and `bcd`. `openssl asn1parse -inform DER` shows the same
+// elements at the same places.
 const FULL: [u8; 38] = [
     0xa0, 36, 0x81, 8, 1, 2, 3, 4, 5, 6, 7, 8, 2, 2, 1, 0x2c, 0xa1, 10, 0x80, 8, 0x4e, 0x20, 0, 0,
     0x03, 0xe8, 0, 7, 0x30, 8, 4, 1, 0x61, 4, 3, 0x62, 0x63, 0x64,

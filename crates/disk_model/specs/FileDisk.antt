@@ -16,7 +16,8 @@ with_fault file = record file { faults = count_up file.faults }
 
 -- What a call leaves that succeeded. No sync succeeds after one that failed.
 abbrev pub IsMadeCall : FileState → Call → FileState → Type 0
-IsMadeCall old (Write place octets) new = new ≡ record old { size = max old.size (place + length octets) }
+IsMadeCall old (Write place octets) new = new
+    ≡ record old { size = max old.size (place + length octets) }
 IsMadeCall old (Cut size) new = new ≡ record old { size = size }
 IsMadeCall old Sync new = (old.sync_failed ≡ false) × (new ≡ old)
 

@@ -1,9 +1,11 @@
 -- What a disk may hold, and what its calls make of that. This product's own rule.
-use Rattle.std.specs.Prelude.{ℕ, ◌+◌, ◌≤◌, ◌<◌, ◌≡◌, ◌⊎◌, min, max, Bool, ◌&&◌, false, nat_le, nat_lt, List, [], ◌∷◌, ◌++◌, length, take, drop, slice_index}
+use Rattle.std.specs.Prelude.{ℕ, ◌+◌, ◌≤◌, ◌<◌, ◌≡◌, ◌⊎◌, min, max, Bool, ◌&&◌, false, nat_le}
+use Rattle.std.specs.Prelude.{nat_lt, List, [], ◌∷◌, ◌++◌, length, take, drop, slice_index}
 use Rattle.std.specs.List.{list_any}
 
--- What is pending since the last good sync: the octets that the sync left, the least and the greatest length since, the
--- ranges written since, each as its place and its number of octets, and the octets that a read gives.
+-- What is pending since the last good sync: the octets that the sync left, the least and the
+-- greatest length since, the ranges written since, each as its place and its number of octets, and
+-- the octets that a read gives.
 pub record Pending : Type 0 where
   pub synced : List ℕ
   pub least : ℕ
@@ -19,8 +21,9 @@ is_inside place range = nat_le range.0 place && nat_lt place (range.0 + range.1)
 abbrev pub is_written : List (ℕ × ℕ) → ℕ → Bool
 is_written ranges place = list_any (is_inside place) ranges
 
--- An image of a disk: its length lies between the least and the greatest since the last good sync, and each octet below
--- the least length and in no range written since is the synced one. All others are free.
+-- An image of a disk: its length lies between the least and the greatest since the last good sync,
+-- and each octet below the least length and in no range written since is the synced one. All others
+-- are free.
 pub record IsImage (pending : Pending) (image : List ℕ) : Type 0 where
   pub no_shorter : pending.least ≤ length image
   pub no_longer : length image ≤ pending.greatest
@@ -39,7 +42,8 @@ all_synced octets = record {
 
 -- the content with these octets at a place
 abbrev pub overwritten : List ℕ → ℕ → List ℕ → List ℕ
-overwritten content place octets = take place content ++ octets ++ drop (place + length octets) content
+overwritten content place octets = take place content ++ octets
+    ++ drop (place + length octets) content
 
 -- a range pending too, with what a read gives then
 abbrev pub with_range : ℕ → ℕ → List ℕ → Pending → Pending
@@ -86,12 +90,15 @@ pub record IsCutShort (size : ℕ) (old new : List ℕ) : Type 0 where
 abbrev pub FailsToWrite : ℕ → ℕ → Pending → Pending → Type 0
 FailsToWrite place count old new =
     (new ≡ old)
-    ⊎ ((content : List ℕ) × IsTorn place count old.content content × (new ≡ with_range place count content old))
+    ⊎ ((content : List ℕ) × IsTorn place count old.content content
+    × (new ≡ with_range place count content old))
 
--- what a failed cut may leave: all as it was, or the cut pending, with the content cut to no less than the size
+-- what a failed cut may leave: all as it was, or the cut pending, with the content cut to no less
+-- than the size
 abbrev pub FailsToCut : ℕ → Pending → Pending → Type 0
 FailsToCut size old new =
-    (new ≡ old) ⊎ ((length : ℕ) × (size ≤ length) × (new ≡ with_cut size (take length old.content) old))
+    (new ≡ old) ⊎ ((length : ℕ) × (size ≤ length)
+    × (new ≡ with_cut size (take length old.content) old))
 
 -- The content is an image, and the last good sync left no less than the least length.
 pub record IsCoherent (pending : Pending) : Type 0 where

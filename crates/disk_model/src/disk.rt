@@ -1,7 +1,9 @@
 // A disk: its calls, and what each says of the images at every moment.
-ghost use Rattle.std.specs.Prelude.{◌≡◌, ◌+◌, ◌≤◌, max, List, ℕ, Option, length, option_map, IfSome, OnOk, OnErr};
+ghost use Rattle.std.specs.Prelude.{◌≡◌, ◌+◌, ◌≤◌, max, List, ℕ, Option, length, option_map};
+ghost use Rattle.std.specs.Prelude.{IfSome, OnOk, OnErr};
 ghost use Rattle.octet_core.specs.Fault.{FailsOnlyByFault};
-ghost use Rattle.disk_model.specs.Images.{Pending, IsCoherent, FailsToWrite, FailsToCut, after_write, after_cut, after_sync};
+ghost use Rattle.disk_model.specs.Images.{Pending, IsCoherent, FailsToWrite, FailsToCut};
+ghost use Rattle.disk_model.specs.Images.{after_write, after_cut, after_sync};
 ghost use Rattle.disk_model.specs.Moments.{IsImageOf, Becomes, Reads, Elapses};
 ghost use Rattle.disk_model.specs.declared.call.Call.{Call};
 ghost use Rattle.disk_model.specs.declared.call.Call.TheVariants.{Write, Cut, Sync};
@@ -10,8 +12,8 @@ use octet_core::Failed;
 
 /// A disk that holds one list of octets.
 ///
-/// What stands on it after a crash is one of its images. Each call says which images there may be at
-/// every moment since it began, whether it succeeds or fails.
+/// What stands on it after a crash is one of its images. Each call says which images there may be
+/// at every moment since it began, whether it succeeds or fails.
 pub trait Disk: Send + Drop {
     /// What is pending since the last good sync, or none where the disk doesn't tell.
     ghost pending: { Self → Option Pending };
@@ -28,8 +30,8 @@ pub trait Disk: Send + Drop {
     /// How often the disk has failed. The count never falls, and stands still at the last `u64`.
     ghost faults: { Self → ℕ };
 
-    /// What the disk tells besides of a counted call that succeeded. `AllMade` of `specs/Calls.antt`
-    /// says it of several, one after another.
+    /// What the disk tells besides of a counted call that succeeded. `AllMade` of
+    /// `specs/Calls.antt` says it of several, one after another.
     ghost makes: { Self → Call → Self → Type 0 };
 
     /// What the disk tells besides of a counted call that failed.

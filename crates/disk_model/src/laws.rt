@@ -2,12 +2,17 @@
 // specs/Images.antt and specs/MemoryDisk.antt mean.
 //
 // Each is the contract of a function with no body: a crate above uses a law by calling it.
-ghost use Rattle.std.specs.Prelude.{◌≡◌, ◌≤◌, ◌<◌, ◌+◌, ◌-◌, ◌⊎◌, ℕ, true, false, Some, None, IfSome, List, [], ◌∷◌, length, min, take, IsFalse};
+ghost use Rattle.std.specs.Prelude.{◌≡◌, ◌≤◌, ◌<◌, ◌+◌, ◌-◌, ◌⊎◌, ℕ, true, false, Some, None};
+ghost use Rattle.std.specs.Prelude.{IfSome, List, [], ◌∷◌, length, min, take, IsFalse};
 ghost use Rattle.octet_core.specs.Fault.{last_count};
-ghost use Rattle.disk_model.specs.Images.{Pending, IsImage, IsCoherent, IsTorn, IsCutShort, FailsToWrite, FailsToCut, all_synced, after_write, after_cut, after_sync, with_range, with_cut};
+ghost use Rattle.disk_model.specs.Images.{Pending, IsImage, IsCoherent, IsTorn, IsCutShort};
+ghost use Rattle.disk_model.specs.Images.{FailsToWrite, FailsToCut, all_synced, after_write};
+ghost use Rattle.disk_model.specs.Images.{after_cut, after_sync, with_range, with_cut};
 ghost use Rattle.disk_model.specs.Moments.{IsImageOf};
 ghost use Rattle.disk_model.specs.Calls.{AllMade, FailedAtOne};
-ghost use Rattle.disk_model.specs.MemoryDisk.{DiskState, pending_of, medium_of, synced_medium, left_by, IsMadeCall, IsFailedCall, run_as_ordered, RunIs, calls_until_stop};
+ghost use Rattle.disk_model.specs.MemoryDisk.{DiskState, pending_of, medium_of, synced_medium};
+ghost use Rattle.disk_model.specs.MemoryDisk.{left_by, IsMadeCall, IsFailedCall, run_as_ordered};
+ghost use Rattle.disk_model.specs.MemoryDisk.{RunIs, calls_until_stop};
 ghost use Rattle.disk_model.specs.declared.call.Call.{Call};
 ghost use Rattle.disk_model.specs.declared.orders.Pick.{Pick};
 ghost use Rattle.disk_model.specs.declared.orders.Stop.{Stop};
@@ -36,7 +41,8 @@ pub fn a_sync_leaves_one_image()
 /// After a write, whole or torn, each image is an old one with free octets in the range and past
 /// its end, and is no longer than the range reaches. Each old one is still an image.
 pub fn a_write_frees_its_range()
-    ensures new { (pending : Pending) (place count : ℕ) (content image : List ℕ) → IsCoherent pending
+    ensures new { (pending : Pending) (place count : ℕ) (content image : List ℕ)
+        → IsCoherent pending
         → IsImage (with_range place count content pending) image
         → (old : List ℕ) × IsImage pending old × IsTorn place count old image }
     ensures old { (pending : Pending) (place count : ℕ) (content image : List ℕ)
@@ -105,7 +111,8 @@ pub fn a_stop_comes_at_its_call()
 /// A counted call that is to fail, the K-th from now on: all earlier calls take effect, and it and
 /// the further ones don't.
 pub fn a_fault_comes_at_its_call()
-    ensures { (disk : DiskState) (calls : List Call) (k : ℕ) → disk.stopped ≡ None → disk.stop ≡ None
+    ensures { (disk : DiskState) (calls : List Call) (k : ℕ) → disk.stopped ≡ None
+        → disk.stop ≡ None
         → disk.calls.failing ≡ (disk.calls.made + k) ∷ [] → disk.calls.made + k ≤ last_count
         → 0 < k → k ≤ length calls → RunIs disk calls false (take (k - 1) calls) None }
 {}

@@ -1,10 +1,14 @@
 // A disk in memory, which stops and fails as it is told.
-ghost use Rattle.std.specs.Prelude.{◌≡◌, ◌||◌, ℕ, Some, length, fold, OnOk, OnErr, IfOk, IsErr, MatchOption, is_some, []};
+ghost use Rattle.std.specs.Prelude.{◌≡◌, ◌||◌, ℕ, Some, length, fold, OnOk, OnErr, IfOk, IsErr};
+ghost use Rattle.std.specs.Prelude.{MatchOption, is_some, []};
 ghost use Rattle.octet_core.specs.Fault.{FailsOnlyByFault};
 ghost use Rattle.octet_core.specs.FailingCalls.{fails_next};
 ghost use Rattle.disk_model.specs.Images.{IsImage, overwritten};
 ghost use Rattle.disk_model.specs.Moments.{Elapses};
-ghost use Rattle.disk_model.specs.MemoryDisk.{fresh, medium_of, content_of, pending_of, left_by, steered, counted, with_call, with_refusal, stops_now, IsImageSince, IsMadeCall, IsFailedCall, restarted, replayed, replayed_call, replayed_write};
+ghost use Rattle.disk_model.specs.MemoryDisk.{fresh, medium_of, content_of, pending_of, left_by};
+ghost use Rattle.disk_model.specs.MemoryDisk.{steered, counted, with_call, with_refusal, stops_now};
+ghost use Rattle.disk_model.specs.MemoryDisk.{IsImageSince, IsMadeCall, IsFailedCall, restarted};
+ghost use Rattle.disk_model.specs.MemoryDisk.{replayed, replayed_call, replayed_write};
 
 use crate::{Call, Disk, Event, Memory, Orders, Pick, Stop};
 use octet_core::{Failed, FailingCalls, Faults, Octets};

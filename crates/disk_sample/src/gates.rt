@@ -1,12 +1,16 @@
 // Octets behind gates on a disk.
-ghost use Rattle.std.specs.Prelude.{◌≡◌, ◌+◌, ◌*◌, ◌<◌, ◌≤◌, ◌^◌, ◌++◌, ◌⊎◌, ℕ, true, false, List, length, drop, max, [], ◌∷◌, Some, option_map, IfSome, MatchOption, OnOk, OnErr, IfOk, IfErr, IsOk, IsErrOf, IsSome, ◌↔◌, ◌/◌};
+ghost use Rattle.std.specs.Prelude.{◌≡◌, ◌+◌, ◌*◌, ◌<◌, ◌≤◌, ◌^◌, ◌++◌, ◌⊎◌, ℕ, true, false, List};
+ghost use Rattle.std.specs.Prelude.{length, drop, max, [], ◌∷◌, Some, option_map, IfSome};
+ghost use Rattle.std.specs.Prelude.{MatchOption, OnOk, OnErr, IfOk, IfErr, IsOk, IsErrOf, IsSome};
+ghost use Rattle.std.specs.Prelude.{◌↔◌, ◌/◌};
 ghost use Rattle.octet_core.specs.Fault.{FailsOnlyByFault, Rose};
 ghost use Rattle.disk_model.specs.Images.{with_range, all_synced};
 ghost use Rattle.disk_model.specs.Moments.{IsImageOf, HoldsThroughout};
 ghost use Rattle.disk_model.specs.Calls.{AllMade, FailedAtOne, RunsCalls};
 ghost use Rattle.disk_model.specs.MemoryDisk.{steered};
 ghost use Rattle.disk_model.specs.declared.call.Call.TheVariants.{Write, Sync};
-ghost use Rattle.disk_sample.specs.Gated.{StandsFor, Keeps, IsAtRest, IsOldOrNew, IsCut, IsBehind, IsFirst, OnlyReads, adding};
+ghost use Rattle.disk_sample.specs.Gated.{StandsFor, Keeps, IsAtRest, IsOldOrNew, IsCut, IsBehind};
+ghost use Rattle.disk_sample.specs.Gated.{IsFirst, OnlyReads, adding};
 
 use crate::GateFault;
 use disk_model::{Disk, MemoryDisk, Orders, write_synced};

@@ -19,28 +19,44 @@ use Rattle.drill_text.specs.declared.script_line.ScriptLine.TheVariants.{Offer}
 abbrev made : ℕ → ℕ → Rest → Cds
 made days millis rest = record { days = days; millis = millis; rest = rest }
 
-moment_micros : (days millis n : ℕ) → days ≤ 65535 → millis ≤ 86399999 → n ≤ 999 → IsTrue (is_moment (made days millis (Micros n)))
+moment_micros : (days millis n : ℕ) → days ≤ 65535 → millis ≤ 86399999 → n ≤ 999
+    → IsTrue (is_moment (made days millis (Micros n)))
 moment_micros days millis n d m r = grind (arith, nat_tests)
 
-moment_picos : (days millis n : ℕ) → days ≤ 65535 → millis ≤ 86399999 → n ≤ 999999999 → IsTrue (is_moment (made days millis (Picos n)))
+moment_picos : (days millis n : ℕ) → days ≤ 65535 → millis ≤ 86399999 → n ≤ 999999999
+    → IsTrue (is_moment (made days millis (Picos n)))
 moment_picos days millis n d m r = grind (arith, nat_tests)
 
-moment_of_fields : (days millis : ℕ) (r : Rest) → days ≤ 65535 → millis ≤ 86399999 → rest.Fits r → IsTrue (is_moment (made days millis r))
+moment_of_fields : (days millis : ℕ) (r : Rest) → days ≤ 65535 → millis ≤ 86399999 → rest.Fits r
+    → IsTrue (is_moment (made days millis r))
 moment_of_fields days millis (Micros n) d m fits = moment_micros days millis n d m fits.1
 moment_of_fields days millis (Picos n) d m fits = moment_picos days millis n d m fits.1
 
 time_moment : (at : Cds) → time.Fits at → IsTrue (is_moment at)
 time_moment at fits = moment_of_fields at.days at.millis at.rest fits.0.1 fits.1.0.1 fits.1.1
 
-fields_micros : (days millis n : ℕ) → IsTrue (is_moment (made days millis (Micros n))) → (days ≤ 65535) × (millis ≤ 86399999) × (n ≤ 999)
-fields_micros days millis n is = (grind (arith, nat_tests), grind (arith, nat_tests), grind (arith, nat_tests))
+fields_micros : (days millis n : ℕ) → IsTrue (is_moment (made days millis (Micros n)))
+    → (days ≤ 65535) × (millis ≤ 86399999) × (n ≤ 999)
+fields_micros days millis n is = (
+  grind (arith, nat_tests),
+  grind (arith, nat_tests),
+  grind (arith, nat_tests),
+)
 
-fields_picos : (days millis n : ℕ) → IsTrue (is_moment (made days millis (Picos n))) → (days ≤ 65535) × (millis ≤ 86399999) × (n ≤ 999999999)
-fields_picos days millis n is = (grind (arith, nat_tests), grind (arith, nat_tests), grind (arith, nat_tests))
+fields_picos : (days millis n : ℕ) → IsTrue (is_moment (made days millis (Picos n)))
+    → (days ≤ 65535) × (millis ≤ 86399999) × (n ≤ 999999999)
+fields_picos days millis n is = (
+  grind (arith, nat_tests),
+  grind (arith, nat_tests),
+  grind (arith, nat_tests),
+)
 
-fields_of_moment : (days millis : ℕ) (r : Rest) → IsTrue (is_moment (made days millis r)) → time.Fits (made days millis r)
-fields_of_moment days millis (Micros n) is = let h = fields_micros days millis n is in ((omega arith, h.0), ((omega arith, h.1), (omega arith, h.2)))
-fields_of_moment days millis (Picos n) is = let h = fields_picos days millis n is in ((omega arith, h.0), ((omega arith, h.1), (omega arith, h.2)))
+fields_of_moment : (days millis : ℕ) (r : Rest) → IsTrue (is_moment (made days millis r))
+    → time.Fits (made days millis r)
+fields_of_moment days millis (Micros n) is = let h = fields_micros days millis n is in
+    ((omega arith, h.0), ((omega arith, h.1), (omega arith, h.2)))
+fields_of_moment days millis (Picos n) is = let h = fields_picos days millis n is in
+    ((omega arith, h.0), ((omega arith, h.1), (omega arith, h.2)))
 
 moment_time : (at : Cds) → IsTrue (is_moment at) → time.Fits at
 moment_time at is = fields_of_moment at.days at.millis at.rest is
@@ -53,7 +69,8 @@ entry_valid (Frame ert quality antenna lost octets) fits =
     let antenna_few = fits.1.1.0.few in
     let octets_some = fits.1.1.1.1.some in
     grind (arith, nat_tests)
-entry_valid (LossOfSync at carrier subcarrier symbol) fits = let is = time_moment at fits.0 in grind (arith, nat_tests)
+entry_valid (LossOfSync at carrier subcarrier symbol) fits = let is = time_moment at fits.0 in
+    grind (arith, nat_tests)
 entry_valid (Production status) fits = grind (arith, nat_tests)
 entry_valid (Seal at) fits = time_moment at fits
 
@@ -61,11 +78,13 @@ line_valid : (says : ScriptLine) → Fits says → HasValidEntry says
 line_valid (Offer e) fits = entry_valid e fits
 line_valid _ fits = tt
 
-pub reads_fit : (text : List ℕ) (result : Result ScriptLine LineFault) → Reads result (reading text) → IfOk result Fits
+pub reads_fit : (text : List ℕ) (result : Result ScriptLine LineFault) → Reads result (reading text)
+    → IfOk result Fits
 reads_fit text (Ok says) e = ((lines_are_exact.read text says).0 e).0
 reads_fit text (Err why) e = tt
 
-pub reads_valid : (text : List ℕ) (result : Result ScriptLine LineFault) → Reads result (reading text) → IfOk result HasValidEntry
+pub reads_valid : (text : List ℕ) (result : Result ScriptLine LineFault)
+    → Reads result (reading text) → IfOk result HasValidEntry
 reads_valid text (Ok says) e = line_valid says ((lines_are_exact.read text says).0 e).0
 reads_valid text (Err why) e = tt
 
@@ -78,15 +97,28 @@ storable_fits (Frame ert quality antenna lost octets) is all =
         (omega arith, grind (arith, nat_tests)),
         (
           record { some = grind (arith, nat_tests); few = grind (arith, nat_tests); each = all.0 },
-          ((omega arith, grind (arith, nat_tests)), record { some = grind (arith, nat_tests); few = grind (arith, nat_tests); each = all.1 }),
+          (
+            (omega arith, grind (arith, nat_tests)),
+            record {
+              some = grind (arith, nat_tests);
+              few = grind (arith, nat_tests);
+              each = all.1;
+            },
+          ),
         ),
       ),
     )
 storable_fits (LossOfSync at carrier subcarrier symbol) is all =
-    let moment : IsTrue (is_moment at) = grind (arith, nat_tests) in
-    (moment_time at moment, ((omega arith, grind (arith, nat_tests)), ((omega arith, grind (arith, nat_tests)), (omega arith, grind (arith, nat_tests)))))
+    let moment : IsTrue (is_moment at) = grind (arith, nat_tests) in (
+      moment_time at moment,
+      (
+        (omega arith, grind (arith, nat_tests)),
+        ((omega arith, grind (arith, nat_tests)), (omega arith, grind (arith, nat_tests))),
+      ),
+    )
 storable_fits (Production status) is all = (omega arith, grind (arith, nat_tests))
 storable_fits (Seal at) is all = moment_time at (grind (arith, nat_tests))
 
-pub storable_back : (e : Entry) → IsTrue (is_storable (entry_of e)) → HasOctets e → reading (canonical (Offer e)) ≡ Some (Offer e)
+pub storable_back : (e : Entry) → IsTrue (is_storable (entry_of e)) → HasOctets e
+    → reading (canonical (Offer e)) ≡ Some (Offer e)
 storable_back e is all = lines_are_exact.back (Offer e) (storable_fits e is all)

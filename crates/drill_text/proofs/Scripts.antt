@@ -1,5 +1,6 @@
 -- Script lines are read exactly where they say a thing.
-use Rattle.std.proofs.Common.{◌≡◌, ℕ, inl, inr, false, not, ◌==◌, List, [], ◌∷◌, ◌++◌, Option, Some, None, refl, sym, ◌∙◌, ap, subst}
+use Rattle.std.proofs.Common.{◌≡◌, ℕ, inl, inr, false, not, ◌==◌, List, [], ◌∷◌, ◌++◌, Option, Some}
+use Rattle.std.proofs.Common.{None, refl, sym, ◌∙◌, ap, subst}
 use Rattle.record_form.specs.declared.entry.Entry.TheVariants.{Frame, LossOfSync, Production, Seal}
 use Rattle.words.specs.Alphabet.{Of}
 use Rattle.words.specs.Line.{IsLineOf, IsExact, exact}
@@ -7,12 +8,33 @@ use Rattle.words.specs.Line as line
 use Rattle.words.specs.Parts.{behind, joined_by}
 use Rattle.words.specs.Steps.{◌>>=◌, some_bind, some_is, chosen, contradicted}
 use Rattle.words.specs.Table.{Says, table_spelled}
-use Rattle.drill_text.specs.Reading.{forms, reading, in_form, said_by, text_of, Fits, IsLine, canonical, AreExact}
+use Rattle.drill_text.specs.Reading.{forms, reading, in_form, said_by, text_of, Fits, IsLine}
+use Rattle.drill_text.specs.Reading.{canonical, AreExact}
 use Rattle.drill_text.specs.Script.{script, script_word, Behind, line_of, of_line, is_skipped}
 use Rattle.drill_text.specs.declared.script_form.ScriptForm.{ScriptForm}
-use Rattle.drill_text.specs.declared.script_form.ScriptForm.TheVariants.{Frame as FrameForm, Loss as LossForm, Production as ProductionForm, Mark as MarkForm, Start as StartForm, Clock as ClockForm, Open as OpenForm, In as InForm, Ask as AskForm, Shut as ShutForm, Break as BreakForm, Round as RoundForm, Stall as StallForm, Take as TakeForm, Done as DoneForm, Uplink as UplinkForm, Crash as CrashForm, Fault as FaultForm}
+use Rattle.drill_text.specs.declared.script_form.ScriptForm.TheVariants.{Frame as FrameForm}
+use Rattle.drill_text.specs.declared.script_form.ScriptForm.TheVariants.{Loss as LossForm}
+use Rattle.drill_text.specs.declared.script_form.ScriptForm.TheVariants.{Production as ProductionForm}
+use Rattle.drill_text.specs.declared.script_form.ScriptForm.TheVariants.{Mark as MarkForm}
+use Rattle.drill_text.specs.declared.script_form.ScriptForm.TheVariants.{Start as StartForm}
+use Rattle.drill_text.specs.declared.script_form.ScriptForm.TheVariants.{Clock as ClockForm}
+use Rattle.drill_text.specs.declared.script_form.ScriptForm.TheVariants.{Open as OpenForm}
+use Rattle.drill_text.specs.declared.script_form.ScriptForm.TheVariants.{In as InForm}
+use Rattle.drill_text.specs.declared.script_form.ScriptForm.TheVariants.{Ask as AskForm}
+use Rattle.drill_text.specs.declared.script_form.ScriptForm.TheVariants.{Shut as ShutForm}
+use Rattle.drill_text.specs.declared.script_form.ScriptForm.TheVariants.{Break as BreakForm}
+use Rattle.drill_text.specs.declared.script_form.ScriptForm.TheVariants.{Round as RoundForm}
+use Rattle.drill_text.specs.declared.script_form.ScriptForm.TheVariants.{Stall as StallForm}
+use Rattle.drill_text.specs.declared.script_form.ScriptForm.TheVariants.{Take as TakeForm}
+use Rattle.drill_text.specs.declared.script_form.ScriptForm.TheVariants.{Done as DoneForm}
+use Rattle.drill_text.specs.declared.script_form.ScriptForm.TheVariants.{Uplink as UplinkForm}
+use Rattle.drill_text.specs.declared.script_form.ScriptForm.TheVariants.{Crash as CrashForm}
+use Rattle.drill_text.specs.declared.script_form.ScriptForm.TheVariants.{Fault as FaultForm}
 use Rattle.drill_text.specs.declared.script_line.ScriptLine.{ScriptLine}
-use Rattle.drill_text.specs.declared.script_line.ScriptLine.TheVariants.{Skip, Offer, Desk, Clock, Open, Piece, Ask, Shut, Break, Round, Stall, Take, Done, Uplink, Crash, Fault}
+use Rattle.drill_text.specs.declared.script_line.ScriptLine.TheVariants.{Skip, Offer, Desk, Clock}
+use Rattle.drill_text.specs.declared.script_line.ScriptLine.TheVariants.{Open, Piece, Ask, Shut}
+use Rattle.drill_text.specs.declared.script_line.ScriptLine.TheVariants.{Break, Round, Stall, Take}
+use Rattle.drill_text.specs.declared.script_line.ScriptLine.TheVariants.{Done, Uplink, Crash, Fault}
 
 forms_are_exact : IsExact forms
 forms_are_exact = exact forms (record { some = refl; blank = refl; end = refl })
@@ -83,40 +105,51 @@ back UplinkForm p = refl
 back CrashForm p = refl
 back FaultForm p = refl
 
-of_first : (s : Says script) (text w : List ℕ) (ws : List (List ℕ)) → text ≡ w ++ behind 32 ws → w ≡ script_word s.0 → is_skipped text ≡ false
-of_first s text w ws e first = ap is_skipped (e ∙ ap (λ w. w ++ behind 32 ws) first) ∙ not_skipped s.0 (behind 32 ws)
+of_first : (s : Says script) (text w : List ℕ) (ws : List (List ℕ)) → text ≡ w ++ behind 32 ws
+    → w ≡ script_word s.0 → is_skipped text ≡ false
+of_first s text w ws e first = ap is_skipped (e ∙ ap (λ w. w ++ behind 32 ws) first)
+    ∙ not_skipped s.0 (behind 32 ws)
 
 form_line : (s : Says script) (text : List ℕ) → IsLineOf forms s text → is_skipped text ≡ false
 form_line s text l = at l.words l.is l.spelled
   where
-    at : (ws : List (List ℕ)) → text ≡ joined_by 32 ws → table_spelled script s ws → is_skipped text ≡ false
+    at : (ws : List (List ℕ)) → text ≡ joined_by 32 ws → table_spelled script s ws
+        → is_skipped text ≡ false
     at [] e spelled = absurd spelled
     at (w ∷ ws) e spelled = of_first s text w ws e spelled.0
 
-is_line : (text : List ℕ) (says : ScriptLine) → reading text ≡ Some says → Fits says × IsLine says text
+is_line : (text : List ℕ) (says : ScriptLine) → reading text ≡ Some says
+    → Fits says × IsLine says text
 is_line text says e =
-    elim (chosen (is_skipped text) (Some Skip) (line.reading forms text >>= λ s. Some (line_of s.0 s.1)) (Some says) e) [
+    elim (chosen (is_skipped text) (Some Skip)
+    (line.reading forms text >>= λ s. Some (line_of s.0 s.1)) (Some says) e) [
       | inl h ↦ subst (λ says. Fits says × IsLine says text) (some_is Skip says h.1) (tt, h.0)
       | inr h ↦
           let found = some_bind (line.reading forms text) (λ s. Some (line_of s.0 s.1)) says h.1 in
           let s = found.0 in
           let is : forms.Fits s × IsLineOf forms s text = (forms_are_exact.read text s).0 found.1 in
-          let held : in_form (of_line (line_of s.0 s.1)) × said_by (of_line (line_of s.0 s.1)) text = subst (λ o. in_form o × said_by o text) (sym (back s.0 s.1)) is in
+          let held : in_form (of_line (line_of s.0 s.1))
+          × said_by (of_line (line_of s.0 s.1)) text =
+          subst (λ o. in_form o × said_by o text) (sym (back s.0 s.1)) is in
           subst (λ says. Fits says × IsLine says text) (some_is (line_of s.0 s.1) says found.2) held
     ]
 
-again : (o : Option (Says script)) (text : List ℕ) → in_form o → said_by o text → reading text ≡ Some (line_from o)
+again : (o : Option (Says script)) (text : List ℕ) → in_form o → said_by o text
+    → reading text ≡ Some (line_from o)
 again None text fits e = rw e refl
 again (Some s) text fits l = rw (form_line s text l, (forms_are_exact.read text s).1 (fits, l)) refl
 
-says_again : (text : List ℕ) (says : ScriptLine) → Fits says → IsLine says text → reading text ≡ Some says
+says_again : (text : List ℕ) (says : ScriptLine) → Fits says → IsLine says text
+    → reading text ≡ Some says
 says_again text says fits l = again (of_line says) text fits l ∙ ap Some (there says)
 
 canonical_line : (o : Option (Says script)) → in_form o → said_by o (text_of o)
 canonical_line None fits = refl
-canonical_line (Some s) fits = ((forms_are_exact.read (line.spelling forms s) s).0 (forms_are_exact.back s fits)).1
+canonical_line (Some s) fits =
+    ((forms_are_exact.read (line.spelling forms s) s).0 (forms_are_exact.back s fits)).1
 
-no_end : (o : Option (Says script)) (text : List ℕ) → is_skipped text ≡ false → in_form o → said_by o text → Of (λ octet. not (octet == 10)) text
+no_end : (o : Option (Says script)) (text : List ℕ) → is_skipped text ≡ false → in_form o
+    → said_by o text → Of (λ octet. not (octet == 10)) text
 no_end None text none fits e = contradicted (is_skipped text) e none
 no_end (Some s) text none fits l = forms_are_exact.one_line s text fits l
 

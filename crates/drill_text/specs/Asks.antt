@@ -20,9 +20,17 @@ use Rattle.drill_text.specs.Kinds.{wanted, report, notice}
 use Rattle.drill_text.specs.declared.wanted.Wanted.{Wanted}
 use Rattle.drill_text.specs.declared.wanted.Wanted.TheVariants.{OfChannel, OfQuality}
 use Rattle.drill_text.specs.declared.ask_form.AskForm.{AskForm}
-use Rattle.drill_text.specs.declared.ask_form.AskForm.TheVariants.{Context as ContextForm, Bind as BindForm, Unbind as UnbindForm, Start as StartForm, Stop as StopForm, Report as ReportForm, Get as GetForm, Cltu as CltuForm}
+use Rattle.drill_text.specs.declared.ask_form.AskForm.TheVariants.{Context as ContextForm}
+use Rattle.drill_text.specs.declared.ask_form.AskForm.TheVariants.{Bind as BindForm}
+use Rattle.drill_text.specs.declared.ask_form.AskForm.TheVariants.{Unbind as UnbindForm}
+use Rattle.drill_text.specs.declared.ask_form.AskForm.TheVariants.{Start as StartForm}
+use Rattle.drill_text.specs.declared.ask_form.AskForm.TheVariants.{Stop as StopForm}
+use Rattle.drill_text.specs.declared.ask_form.AskForm.TheVariants.{Report as ReportForm}
+use Rattle.drill_text.specs.declared.ask_form.AskForm.TheVariants.{Get as GetForm, Cltu as CltuForm}
 use Rattle.drill_text.specs.declared.ask_line.AskLine.{AskLine}
-use Rattle.drill_text.specs.declared.ask_line.AskLine.TheVariants.{Context, Bind, Unbind, StartRaf, StartRcf, StartCltu, Stop, Report, Get, Cltu}
+use Rattle.drill_text.specs.declared.ask_line.AskLine.TheVariants.{Context, Bind, Unbind, StartRaf}
+use Rattle.drill_text.specs.declared.ask_line.AskLine.TheVariants.{StartRcf, StartCltu, Stop}
+use Rattle.drill_text.specs.declared.ask_line.AskLine.TheVariants.{Report, Get, Cltu}
 
 abbrev pub ask_word : AskForm → List ℕ
 ask_word ContextForm = codes "context"
@@ -35,7 +43,8 @@ ask_word GetForm = codes "get"
 ask_word CltuForm = codes "cltu"
 
 abbrev pub ask_forms : List AskForm
-ask_forms = ContextForm ∷ BindForm ∷ UnbindForm ∷ StartForm ∷ StopForm ∷ ReportForm ∷ GetForm ∷ CltuForm ∷ []
+ask_forms = ContextForm ∷ BindForm ∷ UnbindForm ∷ StartForm ∷ StopForm ∷ ReportForm ∷ GetForm
+    ∷ CltuForm ∷ []
 
 pub asks_are_listed : AreListed ask_word ask_forms
 asks_are_listed ContextForm = refl
@@ -76,10 +85,17 @@ ask_row StartForm = start
 ask_row StopForm = nothing
 ask_row ReportForm = last report
 ask_row GetForm = last (number 0 65535)
-ask_row CltuForm = number 0 4294967295 ▸ when ▸ when ▸ number 0 4294967295 ▸ notice ▸ last (hex 1 65536)
+ask_row CltuForm = number 0 4294967295 ▸ when ▸ when ▸ number 0 4294967295 ▸ notice ▸ last
+    (hex 1 65536)
 
 abbrev pub asks : Table AskForm
-asks = record { all = ask_forms; word = ask_word; each = asks_are_listed; Behind = Asked; row = ask_row }
+asks = record {
+  all = ask_forms;
+  word = ask_word;
+  each = asks_are_listed;
+  Behind = Asked;
+  row = ask_row;
+}
 
 -- what each says
 abbrev pub started : Option Cds → Option Cds → Wanted → AskLine
@@ -107,7 +123,8 @@ of_ask (StartCltu first) = (StartForm, inl first)
 of_ask Stop = (StopForm, tt)
 of_ask (Report kind) = (ReportForm, kind)
 of_ask (Get which) = (GetForm, which)
-of_ask (Cltu id earliest latest delay notify octets) = (CltuForm, (id, (earliest, (latest, (delay, (notify, octets))))))
+of_ask (Cltu id earliest latest delay notify octets) =
+    (CltuForm, (id, (earliest, (latest, (delay, (notify, octets))))))
 
 pub ask_there : (a : AskLine) → ask_of (of_ask a).0 (of_ask a).1 ≡ a
 ask_there (Context interval factor) = refl
@@ -121,7 +138,8 @@ ask_there (Report kind) = refl
 ask_there (Get which) = refl
 ask_there (Cltu id earliest latest delay notify octets) = refl
 
-started_back : (from to : Option Cds) (w : Wanted) → of_ask (started from to w) ≡ (StartForm, inr (from, (to, w)))
+started_back : (from to : Option Cds) (w : Wanted)
+    → of_ask (started from to w) ≡ (StartForm, inr (from, (to, w)))
 started_back from to (OfChannel channel) = refl
 started_back from to (OfQuality quality) = refl
 
@@ -137,7 +155,12 @@ ask_back GetForm p = refl
 ask_back CltuForm p = refl
 
 abbrev pub ask : Row AskLine
-ask = row_as (of_forms asks) (record { to = λ s. ask_of s.0 s.1; from = of_ask; there = ask_there; back = λ s. ask_back s.0 s.1 })
+ask = row_as (of_forms asks) (record {
+  to = λ s. ask_of s.0 s.1;
+  from = of_ask;
+  there = ask_there;
+  back = λ s. ask_back s.0 s.1;
+})
 
 -- what the words behind a form's word ask
 unfoldable pub ask_reading : AskForm → List (List ℕ) → Option AskLine

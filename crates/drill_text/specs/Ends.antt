@@ -7,7 +7,9 @@ use Rattle.words.specs.Number.{number}
 use Rattle.words.specs.Row.{Row, nothing, row_as}
 use Rattle.words.specs.Table.{Table, Says, of_forms}
 use Rattle.drill_text.specs.declared.end_word.EndWord.{EndWord}
-use Rattle.drill_text.specs.declared.end_word.EndWord.TheVariants.{Unbound, Closed, Denied, Range, Broken, Aborted, PeerAborted, Fault}
+use Rattle.drill_text.specs.declared.end_word.EndWord.TheVariants.{Unbound, Closed, Denied, Range}
+use Rattle.drill_text.specs.declared.end_word.EndWord.TheVariants.{Broken, Aborted, PeerAborted}
+use Rattle.drill_text.specs.declared.end_word.EndWord.TheVariants.{Fault}
 
 -- the forms, by their first words
 pub data End : Type 0 where
@@ -68,7 +70,13 @@ why_row peer_aborted = octet
 why_row fault = nothing
 
 abbrev pub ends : Table End
-ends = record { all = all_ends; word = end_word; each = ends_are_listed; Behind = Why; row = why_row }
+ends = record {
+  all = all_ends;
+  word = end_word;
+  each = ends_are_listed;
+  Behind = Why;
+  row = why_row;
+}
 
 abbrev pub end_of : (e : End) → Why e → EndWord
 end_of unbound why = Unbound
@@ -111,4 +119,9 @@ end_back peer_aborted why = refl
 end_back fault why = refl
 
 abbrev pub end : Row EndWord
-end = row_as (of_forms ends) (record { to = λ s. end_of s.0 s.1; from = of_end; there = end_there; back = λ s. end_back s.0 s.1 })
+end = row_as (of_forms ends) (record {
+  to = λ s. end_of s.0 s.1;
+  from = of_end;
+  there = end_there;
+  back = λ s. end_back s.0 s.1;
+})

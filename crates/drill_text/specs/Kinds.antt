@@ -1,5 +1,6 @@
 -- The kinds of words that only scripts have.
-use Rattle.std.proofs.Common.{◌≡◌, ℕ, ◌⊎◌, inl, inr, Bool, true, false, List, [], ◌∷◌, Option, Some, None, refl, sym, ◌∙◌, ap, append-nil}
+use Rattle.std.proofs.Common.{◌≡◌, ℕ, ◌⊎◌, inl, inr, Bool, true, false, List, [], ◌∷◌, Option, Some}
+use Rattle.std.proofs.Common.{None, refl, sym, ◌∙◌, ap, append-nil}
 use Rattle.std.specs.Char.{is_ascii_digit}
 use Rattle.std.specs.Fmt.{decimal}
 use Rattle.std.specs.Prelude.{codes}
@@ -86,7 +87,8 @@ report_back (Some None) = refl
 report_back (Some (Some seconds)) = refl
 
 abbrev pub report : Kind ReportKind
-report = kind_as (word_or (codes "now") (word_or (codes "stop") (number 0 65535) refl) refl) (record { to = report_of; from = of_report; there = report_there; back = report_back })
+report = kind_as (word_or (codes "now") (word_or (codes "stop") (number 0 65535) refl) refl)
+    (record { to = report_of; from = of_report; there = report_there; back = report_back })
 
 -- the last word of a START for frames: a channel, or a quality, 0 to 2
 abbrev pub wanted_of : Gvcid ⊎ ℕ → Wanted
@@ -105,8 +107,11 @@ pub wanted_back : (s : Gvcid ⊎ ℕ) → of_wanted (wanted_of s) ≡ s
 wanted_back (inl g) = refl
 wanted_back (inr q) = refl
 
-pair_alone : {X Y : Type 0} (first : List ℕ → Option X) (others : List (List ℕ) → Option Y) (w : List ℕ) → others [] ≡ None → pair_read first others (w ∷ []) ≡ None
-pair_alone {X} {Y} first others w e = elim (first w) as (λ o. ◌>>=◌ {A = X} {B = X × Y} o (λ x. ◌>>=◌ {A = Y} {B = X × Y} (others []) (λ y. Some (x, y))) ≡ None) [ None ↦ refl | Some x ↦ rw e refl ]
+pair_alone : {X Y : Type 0} (first : List ℕ → Option X) (others : List (List ℕ)
+    → Option Y) (w : List ℕ) → others [] ≡ None → pair_read first others (w ∷ []) ≡ None
+pair_alone {X} {Y} first others w e = elim (first w) as
+    (λ o. ◌>>=◌ {A = X} {B = X × Y} o (λ x. ◌>>=◌ {A = Y} {B = X × Y} (others [])
+    (λ y. Some (x, y))) ≡ None) [ None ↦ refl | Some x ↦ rw e refl ]
 
 abbrev channel_fields : Row (ℕ × (ℕ × Channel))
 channel_fields = number 0 1023 ▸ number 0 3 ▸ last channel
@@ -114,12 +119,15 @@ channel_fields = number 0 1023 ▸ number 0 3 ▸ last channel
 -- a number has no part behind a slash
 pub no_channel : (w : List ℕ) (n : ℕ) → IsWithin 0 2 n → w ≡ decimal n → gvcid.read w ≡ None
 no_channel w n fits e =
-    let one : parts 47 w ≡ w ∷ [] = ap (parts 47) (sym (append-nil w)) ∙ to_parts 47 is_ascii_digit refl w [] (number_clean 0 2 w n fits e) tt in
-    let none : channel_fields.read (parts 47 w) ≡ None = ap channel_fields.read one ∙ pair_alone (number_read 0 1023) (number 0 3 ▸ last channel).read w refl in
+    let one : parts 47 w ≡ w ∷ [] = ap (parts 47) (sym (append-nil w))
+    ∙ to_parts 47 is_ascii_digit refl w [] (number_clean 0 2 w n fits e) tt in
+    let none : channel_fields.read (parts 47 w) ≡ None = ap channel_fields.read one
+    ∙ pair_alone (number_read 0 1023) (number 0 3 ▸ last channel).read w refl in
     rw none refl
 
 abbrev pub wanted : Kind Wanted
-wanted = kind_as (either gvcid (number 0 2) no_channel) (record { to = wanted_of; from = of_wanted; there = wanted_there; back = wanted_back })
+wanted = kind_as (either gvcid (number 0 2) no_channel)
+    (record { to = wanted_of; from = of_wanted; there = wanted_there; back = wanted_back })
 
 -- `fail`, or no word
 abbrev pub fails_of : Option (Unit {0}) → Bool
@@ -139,4 +147,5 @@ fails_back None = refl
 fails_back (Some fail) = refl
 
 abbrev pub fails : Row Bool
-fails = row_as (maybe (fixed (codes "fail"))) (record { to = fails_of; from = of_fails; there = fails_there; back = fails_back })
+fails = row_as (maybe (fixed (codes "fail")))
+    (record { to = fails_of; from = of_fails; there = fails_there; back = fails_back })

@@ -1,5 +1,6 @@
 -- What a line of a script says, and the lines that say it.
-use Rattle.std.proofs.Common.{◌≡◌, ℕ, ◌↔◌, true, false, not, ◌==◌, if◌then◌else◌, IsTrue, List, [], ◌∷◌, ◌++◌, Option, Some, None, Result, Ok, Err}
+use Rattle.std.proofs.Common.{◌≡◌, ℕ, ◌↔◌, true, false, not, ◌==◌, if◌then◌else◌, IsTrue, List, []}
+use Rattle.std.proofs.Common.{◌∷◌, ◌++◌, Option, Some, None, Result, Ok, Err}
 use Rattle.archive_terms.specs.Archive.{is_valid}
 use Rattle.record_form.specs.Entry.{entry_of}
 use Rattle.record_form.specs.Reading.{AreOctets}
@@ -30,7 +31,8 @@ form_reading f ws = (script.row f).read ws >>= λ p. Some (line_of f p)
 
 -- what a line says, its end left away
 abbrev pub reading : List ℕ → Option ScriptLine
-reading text = if is_skipped text then Some Skip else (line.reading forms text >>= λ s. Some (line_of s.0 s.1))
+reading text = if is_skipped text then Some Skip
+    else (line.reading forms text >>= λ s. Some (line_of s.0 s.1))
 
 -- each word of the line is in its range
 abbrev pub in_form : Option (Says script) → Type 0
@@ -80,9 +82,11 @@ abbrev pub fault_of : Unread → LineFault
 fault_of Unreadable = Bad
 fault_of NoMemory = Memory
 
--- Lines are read exactly where they say a thing that is in its ranges, the canonical one is read back, and none that is not
--- skipped holds a line end.
+-- Lines are read exactly where they say a thing that is in its ranges, the canonical one is read
+-- back, and none that is not skipped holds a line end.
 pub record AreExact : Type 0 where
-  pub read : (text : List ℕ) (says : ScriptLine) → (reading text ≡ Some says) ↔ (Fits says × IsLine says text)
+  pub read : (text : List ℕ) (says : ScriptLine)
+      → (reading text ≡ Some says) ↔ (Fits says × IsLine says text)
   pub back : (says : ScriptLine) → Fits says → reading (canonical says) ≡ Some says
-  pub one_line : (says : ScriptLine) (text : List ℕ) → (is_skipped text ≡ false) → Fits says → IsLine says text → Of (λ octet. not (octet == 10)) text
+  pub one_line : (says : ScriptLine) (text : List ℕ) → (is_skipped text ≡ false) → Fits says
+      → IsLine says text → Of (λ octet. not (octet == 10)) text

@@ -16,9 +16,29 @@ use Rattle.drill_text.specs.Kinds.{connection, times, pick, fails}
 use Rattle.drill_text.specs.declared.ask_line.AskLine.{AskLine}
 use Rattle.drill_text.specs.declared.pick.Pick.{Pick}
 use Rattle.drill_text.specs.declared.script_form.ScriptForm.{ScriptForm}
-use Rattle.drill_text.specs.declared.script_form.ScriptForm.TheVariants.{Frame as FrameForm, Loss as LossForm, Production as ProductionForm, Mark as MarkForm, Start as StartForm, Clock as ClockForm, Open as OpenForm, In as InForm, Ask as AskForm, Shut as ShutForm, Break as BreakForm, Round as RoundForm, Stall as StallForm, Take as TakeForm, Done as DoneForm, Uplink as UplinkForm, Crash as CrashForm, Fault as FaultForm}
+use Rattle.drill_text.specs.declared.script_form.ScriptForm.TheVariants.{Frame as FrameForm}
+use Rattle.drill_text.specs.declared.script_form.ScriptForm.TheVariants.{Loss as LossForm}
+use Rattle.drill_text.specs.declared.script_form.ScriptForm.TheVariants.{Production as ProductionForm}
+use Rattle.drill_text.specs.declared.script_form.ScriptForm.TheVariants.{Mark as MarkForm}
+use Rattle.drill_text.specs.declared.script_form.ScriptForm.TheVariants.{Start as StartForm}
+use Rattle.drill_text.specs.declared.script_form.ScriptForm.TheVariants.{Clock as ClockForm}
+use Rattle.drill_text.specs.declared.script_form.ScriptForm.TheVariants.{Open as OpenForm}
+use Rattle.drill_text.specs.declared.script_form.ScriptForm.TheVariants.{In as InForm}
+use Rattle.drill_text.specs.declared.script_form.ScriptForm.TheVariants.{Ask as AskForm}
+use Rattle.drill_text.specs.declared.script_form.ScriptForm.TheVariants.{Shut as ShutForm}
+use Rattle.drill_text.specs.declared.script_form.ScriptForm.TheVariants.{Break as BreakForm}
+use Rattle.drill_text.specs.declared.script_form.ScriptForm.TheVariants.{Round as RoundForm}
+use Rattle.drill_text.specs.declared.script_form.ScriptForm.TheVariants.{Stall as StallForm}
+use Rattle.drill_text.specs.declared.script_form.ScriptForm.TheVariants.{Take as TakeForm}
+use Rattle.drill_text.specs.declared.script_form.ScriptForm.TheVariants.{Done as DoneForm}
+use Rattle.drill_text.specs.declared.script_form.ScriptForm.TheVariants.{Uplink as UplinkForm}
+use Rattle.drill_text.specs.declared.script_form.ScriptForm.TheVariants.{Crash as CrashForm}
+use Rattle.drill_text.specs.declared.script_form.ScriptForm.TheVariants.{Fault as FaultForm}
 use Rattle.drill_text.specs.declared.script_line.ScriptLine.{ScriptLine}
-use Rattle.drill_text.specs.declared.script_line.ScriptLine.TheVariants.{Skip, Offer, Desk, Clock, Open, Piece, Ask, Shut, Break, Round, Stall, Take, Done, Uplink, Crash, Fault}
+use Rattle.drill_text.specs.declared.script_line.ScriptLine.TheVariants.{Skip, Offer, Desk, Clock}
+use Rattle.drill_text.specs.declared.script_line.ScriptLine.TheVariants.{Open, Piece, Ask, Shut}
+use Rattle.drill_text.specs.declared.script_line.ScriptLine.TheVariants.{Break, Round, Stall, Take}
+use Rattle.drill_text.specs.declared.script_line.ScriptLine.TheVariants.{Done, Uplink, Crash, Fault}
 
 abbrev pub script_word : ScriptForm → List ℕ
 script_word FrameForm = codes "frame"
@@ -42,7 +62,9 @@ script_word FaultForm = codes "fault"
 
 abbrev pub script_forms : List ScriptForm
 script_forms =
-    FrameForm ∷ LossForm ∷ ProductionForm ∷ MarkForm ∷ StartForm ∷ ClockForm ∷ OpenForm ∷ InForm ∷ AskForm ∷ ShutForm ∷ BreakForm ∷ RoundForm ∷ StallForm ∷ TakeForm ∷ DoneForm ∷ UplinkForm ∷ CrashForm ∷ FaultForm ∷ []
+    FrameForm ∷ LossForm ∷ ProductionForm ∷ MarkForm ∷ StartForm ∷ ClockForm ∷ OpenForm ∷ InForm
+    ∷ AskForm ∷ ShutForm ∷ BreakForm ∷ RoundForm ∷ StallForm ∷ TakeForm ∷ DoneForm ∷ UplinkForm
+    ∷ CrashForm ∷ FaultForm ∷ []
 
 pub script_is_listed : AreListed script_word script_forms
 script_is_listed FrameForm = refl
@@ -106,7 +128,13 @@ script_row CrashForm = number 0 1000 ▸ last pick
 script_row FaultForm = last times
 
 abbrev pub script : Table ScriptForm
-script = record { all = script_forms; word = script_word; each = script_is_listed; Behind = Behind; row = script_row }
+script = record {
+  all = script_forms;
+  word = script_word;
+  each = script_is_listed;
+  Behind = Behind;
+  row = script_row;
+}
 
 -- what each says
 abbrev pub line_of : (f : ScriptForm) → Behind f → ScriptLine
@@ -132,8 +160,10 @@ line_of FaultForm p = Fault p
 -- the form and the words of what a line says, which a line that is skipped hasn't
 abbrev pub of_line : ScriptLine → Option (Says script)
 of_line Skip = None
-of_line (Offer (Frame ert quality antenna lost octets)) = Some (FrameForm, (ert, (quality, (antenna, (lost, octets)))))
-of_line (Offer (LossOfSync at carrier subcarrier symbol)) = Some (LossForm, (at, (carrier, (subcarrier, symbol))))
+of_line (Offer (Frame ert quality antenna lost octets)) =
+    Some (FrameForm, (ert, (quality, (antenna, (lost, octets)))))
+of_line (Offer (LossOfSync at carrier subcarrier symbol)) =
+    Some (LossForm, (at, (carrier, (subcarrier, symbol))))
 of_line (Offer (Production status)) = Some (ProductionForm, status)
 of_line (Offer (Seal at)) = Some (MarkForm, at)
 of_line (Desk start stop quality) = Some (StartForm, (start, (stop, quality)))

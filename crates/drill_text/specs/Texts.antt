@@ -3,9 +3,18 @@ use Rattle.std.specs.Prelude.{ℕ, List, [], ◌∷◌, codes}
 use Rattle.std.specs.Fmt.{decimal}
 use Rattle.hex.specs.Hex.{encode_lower}
 use Rattle.drill_text.specs.declared.end_word.EndWord.{EndWord}
-use Rattle.drill_text.specs.declared.end_word.EndWord.TheVariants.{Unbound, Closed, Denied, Range, Broken, Aborted, PeerAborted, Fault as LinkFault}
+use Rattle.drill_text.specs.declared.end_word.EndWord.TheVariants.{Unbound, Closed, Denied, Range}
+use Rattle.drill_text.specs.declared.end_word.EndWord.TheVariants.{Broken, Aborted, PeerAborted}
+use Rattle.drill_text.specs.declared.end_word.EndWord.TheVariants.{Fault as LinkFault}
 use Rattle.drill_text.specs.declared.transcript_line.TranscriptLine.{TranscriptLine}
-use Rattle.drill_text.specs.declared.transcript_line.TranscriptLine.TheVariants.{Sent, Stalled, Discarded, Ended, Backward, TooLong, Full, Fault, Crash, Archive, Radiated, Expired, Waits, Idle, Failed, Refused}
+use Rattle.drill_text.specs.declared.transcript_line.TranscriptLine.TheVariants.{Sent, Stalled}
+use Rattle.drill_text.specs.declared.transcript_line.TranscriptLine.TheVariants.{Discarded, Ended}
+use Rattle.drill_text.specs.declared.transcript_line.TranscriptLine.TheVariants.{Backward, TooLong}
+use Rattle.drill_text.specs.declared.transcript_line.TranscriptLine.TheVariants.{Full, Fault, Crash}
+use Rattle.drill_text.specs.declared.transcript_line.TranscriptLine.TheVariants.{Archive, Radiated}
+use Rattle.drill_text.specs.declared.transcript_line.TranscriptLine.TheVariants.{Expired, Waits}
+use Rattle.drill_text.specs.declared.transcript_line.TranscriptLine.TheVariants.{Idle, Failed}
+use Rattle.drill_text.specs.declared.transcript_line.TranscriptLine.TheVariants.{Refused}
 
 abbrev pub end_words : EndWord → List (List ℕ)
 end_words Unbound = codes "unbound" ∷ []

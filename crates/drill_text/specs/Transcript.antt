@@ -14,7 +14,14 @@ use Rattle.words.specs.Then.{◌▸◌}
 use Rattle.drill_text.specs.Ends.{end}
 use Rattle.drill_text.specs.declared.end_word.EndWord.{EndWord}
 use Rattle.drill_text.specs.declared.transcript_line.TranscriptLine.{TranscriptLine}
-use Rattle.drill_text.specs.declared.transcript_line.TranscriptLine.TheVariants.{Sent, Stalled, Discarded, Ended, Backward, TooLong, Full, Fault, Crash, Archive, Radiated, Expired, Waits, Idle, Failed, Refused}
+use Rattle.drill_text.specs.declared.transcript_line.TranscriptLine.TheVariants.{Sent, Stalled}
+use Rattle.drill_text.specs.declared.transcript_line.TranscriptLine.TheVariants.{Discarded, Ended}
+use Rattle.drill_text.specs.declared.transcript_line.TranscriptLine.TheVariants.{Backward, TooLong}
+use Rattle.drill_text.specs.declared.transcript_line.TranscriptLine.TheVariants.{Full, Fault, Crash}
+use Rattle.drill_text.specs.declared.transcript_line.TranscriptLine.TheVariants.{Archive, Radiated}
+use Rattle.drill_text.specs.declared.transcript_line.TranscriptLine.TheVariants.{Expired, Waits}
+use Rattle.drill_text.specs.declared.transcript_line.TranscriptLine.TheVariants.{Idle, Failed}
+use Rattle.drill_text.specs.declared.transcript_line.TranscriptLine.TheVariants.{Refused}
 
 -- the forms, by their first words
 pub data Form : Type 0 where
@@ -55,7 +62,8 @@ word_of refused = codes "refused"
 
 abbrev pub all_forms : List Form
 all_forms =
-    sent ∷ stalled ∷ discarded ∷ ended ∷ backward ∷ too ∷ full ∷ fault ∷ crash ∷ archive ∷ radiated ∷ expired ∷ waits ∷ idle ∷ failed ∷ refused ∷ []
+    sent ∷ stalled ∷ discarded ∷ ended ∷ backward ∷ too ∷ full ∷ fault ∷ crash ∷ archive ∷ radiated
+    ∷ expired ∷ waits ∷ idle ∷ failed ∷ refused ∷ []
 
 pub forms_are_listed : AreListed word_of all_forms
 forms_are_listed sent = refl
@@ -123,7 +131,13 @@ row_of failed = last count
 row_of refused = last (fixed (codes "3"))
 
 abbrev pub transcript : Table Form
-transcript = record { all = all_forms; word = word_of; each = forms_are_listed; Behind = Behind; row = row_of }
+transcript = record {
+  all = all_forms;
+  word = word_of;
+  each = forms_are_listed;
+  Behind = Behind;
+  row = row_of;
+}
 
 abbrev pub lines : Row (Says transcript)
 lines = of_forms transcript
@@ -151,6 +165,7 @@ said Refused = (refused, tt)
 abbrev pub text_of : TranscriptLine → List ℕ
 text_of line = spelling lines (said line) ++ 10 ∷ []
 
--- Lines are read exactly where they say a thing, the canonical one is read back, and none holds a line end.
+-- Lines are read exactly where they say a thing, the canonical one is read back, and none holds a
+-- line end.
 abbrev pub AreExact : Type 0
 AreExact = IsExact lines

@@ -1,4 +1,5 @@
--- What a START is answered (CCSDS 912.1-B, annex A): under [0] the times of radiation, under [1] why there is none.
+-- What a START is answered (CCSDS 912.1-B, annex A): under [0] the times of radiation, under [1]
+-- why there is none.
 use Rattle.std.proofs.Common.{[], ◌∷◌, Option, Result, refl}
 use Rattle.ber_shape.specs.Element.{Element}
 use Rattle.ber_shape.specs.Members.{Members, structured, last, ◌▸◌}

@@ -33,7 +33,8 @@ notice_of a = record {
 }
 
 abbrev pub notice_fields : Members Notice
-notice_fields = members_as (credentials ▸ notice_kind ▸ last_processed ▸ last_ok ▸ number ▸ last number)
+notice_fields = members_as (credentials ▸ notice_kind ▸ last_processed ▸ last_ok ▸ number ▸ last
+    number)
     (record {
       to = λ p. record {
         credentials = p.0;
@@ -44,7 +45,13 @@ notice_fields = members_as (credentials ▸ notice_kind ▸ last_processed ▸ l
         production = p.1.1.1.1.0;
         uplink = p.1.1.1.1.1;
       };
-      from = λ n. (n.credentials, (record { kind = n.kind; number = n.number }, (n.processed, (n.ok, (n.production, n.uplink)))));
+      from = λ n. (
+        n.credentials,
+        (
+          record { kind = n.kind; number = n.number },
+          (n.processed, (n.ok, (n.production, n.uplink))),
+        ),
+      );
       there = λ n. refl;
       back = λ p. refl;
     })

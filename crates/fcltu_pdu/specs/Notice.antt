@@ -1,5 +1,6 @@
 -- The kinds of notices (CCSDS 912.1-B, annex A): each has a context tag of its own.
-use Rattle.std.proofs.Common.{◌≡◌, ℕ, zero, suc, pos, ◌+◌, ◌≤◌, Option, Some, None, List, [], ◌∷◌, ◌⊎◌, inl, inr, refl, arith}
+use Rattle.std.proofs.Common.{◌≡◌, ℕ, zero, suc, pos, ◌+◌, ◌≤◌, Option, Some, None, List, [], ◌∷◌}
+use Rattle.std.proofs.Common.{◌⊎◌, inl, inr, refl, arith}
 use Rattle.ber_core.specs.Integer.{integer_octets}
 use Rattle.ber_core.specs.Tree.{primitive}
 use Rattle.ber_shape.specs.Content.{null}

@@ -39,7 +39,8 @@ report_of r = record {
 
 abbrev pub report_fields : Members Report
 report_fields = members_as
-    (credentials ▸ last_processed ▸ last_ok ▸ number ▸ number ▸ number ▸ number ▸ number ▸ last number)
+    (credentials ▸ last_processed ▸ last_ok ▸ number ▸ number ▸ number ▸ number ▸ number ▸ last
+    number)
     (record {
       to = λ p. record {
         credentials = p.0;
@@ -52,7 +53,13 @@ report_fields = members_as
         radiated = p.1.1.1.1.1.1.1.0;
         free = p.1.1.1.1.1.1.1.1;
       };
-      from = λ r. (r.credentials, (r.processed, (r.ok, (r.production, (r.uplink, (r.received, (r.taken, (r.radiated, r.free))))))));
+      from = λ r. (
+        r.credentials,
+        (
+          r.processed,
+          (r.ok, (r.production, (r.uplink, (r.received, (r.taken, (r.radiated, r.free)))))),
+        ),
+      );
       there = λ r. refl;
       back = λ p. refl;
     })

@@ -1,6 +1,7 @@
 -- TRANSFER-DATA of the forward CLTU service and its return (CCSDS 912.1-B, annex A); the length of
 -- a CLTU is this product's own.
-use Rattle.std.proofs.Common.{◌≡◌, ℕ, zero, suc, ℤ, Bool, true, false, Option, List, [], ◌∷◌, Result, refl, arith}
+use Rattle.std.proofs.Common.{◌≡◌, ℕ, zero, suc, ℤ, Bool, true, false, Option, List, [], ◌∷◌}
+use Rattle.std.proofs.Common.{Result, refl, arith}
 use Rattle.ber_shape.specs.Content.{octet_string}
 use Rattle.ber_shape.specs.Element.{Element, simple}
 use Rattle.ber_shape.specs.Members.{Members, structured, last, ◌▸◌}
@@ -86,7 +87,16 @@ transfer_fields = members_as
         wanted = p.1.1.1.1.1.1.0;
         octets = p.1.1.1.1.1.1.1;
       };
-      from = λ t. (t.credentials, (t.invoke, (t.id, (t.earliest, (t.latest, (t.delay, (t.wanted, t.octets)))))));
+      from = λ t. (
+        t.credentials,
+        (
+          t.invoke,
+          (
+            t.id,
+            (t.earliest, (t.latest, (t.delay, (t.wanted, t.octets)))),
+          ),
+        ),
+      );
       there = λ t. refl;
       back = λ p. refl;
     })

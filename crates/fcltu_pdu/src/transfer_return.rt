@@ -18,7 +18,8 @@ pub struct TransferReturn<'a> {
 
 impl<'a> Members<'a> for TransferReturn<'a> {
     ghost use Rattle.std.specs.Prelude.{refl};
-    ghost use Rattle.fcltu_pdu.specs.Transfer.{TransferReturn, transfer_return_fields, transfer_return_of};
+    ghost use Rattle.fcltu_pdu.specs.Transfer.{TransferReturn, transfer_return_fields};
+    ghost use Rattle.fcltu_pdu.specs.Transfer.{transfer_return_of};
 
     type Value = TransferReturn<'a>;
 

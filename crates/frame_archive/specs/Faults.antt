@@ -1,5 +1,6 @@
 -- Why an archive isn't opened, stored or reopened, and what a reopen finds.
-use Rattle.std.specs.Prelude.{ℕ, ◌+◌, ◌≡◌, ◌≢◌, ◌⊎◌, ◌==◌, Bool, Option, Some, None, IfSome, List, [], length, if◌then◌else◌}
+use Rattle.std.specs.Prelude.{ℕ, ◌+◌, ◌≡◌, ◌≢◌, ◌⊎◌, ◌==◌, Bool, Option, Some, None, IfSome, List}
+use Rattle.std.specs.Prelude.{[], length, if◌then◌else◌}
 use Rattle.archive_terms.specs.Archive.{Entry}
 use Rattle.octet_core.specs.Fault.{Rose}
 use Rattle.disk_model.specs.Images.{Pending}
@@ -8,7 +9,9 @@ use Rattle.gate_journal.specs.Reading.{IsDamagedAt, IsNoJournal}
 use Rattle.gate_journal.specs.declared.fault.JournalFault.{JournalFault}
 use Rattle.gate_journal.specs.declared.fault.JournalFault.TheVariants as journal
 use Rattle.frame_archive.specs.declared.fault.ArchiveFault.{ArchiveFault}
-use Rattle.frame_archive.specs.declared.fault.ArchiveFault.TheVariants.{NotJournal, Damaged, DiskFault, Stale, Changed, Memory}
+use Rattle.frame_archive.specs.declared.fault.ArchiveFault.TheVariants.{NotJournal, Damaged}
+use Rattle.frame_archive.specs.declared.fault.ArchiveFault.TheVariants.{DiskFault, Stale, Changed}
+use Rattle.frame_archive.specs.declared.fault.ArchiveFault.TheVariants.{Memory}
 use Rattle.frame_archive.specs.declared.fault.OfferFault.{OfferFault}
 use Rattle.frame_archive.specs.declared.fault.OfferFault.TheVariants as offers
 
@@ -23,8 +26,10 @@ IsUnread fault = (fault ≡ DiskFault) ⊎ (fault ≡ Memory)
 
 -- why a disk's file isn't opened, by what it holds and how often it had failed before and after
 abbrev pub RefusesDisk : ArchiveFault → Option Pending → ℕ → ℕ → Type 0
-RefusesDisk (NotJournal place) pending before after = IfSome pending (λ told. IsNoJournal place told.content)
-RefusesDisk (Damaged place) pending before after = IfSome pending (λ told. IsDamagedAt place told.content)
+RefusesDisk (NotJournal place) pending before after =
+    IfSome pending (λ told. IsNoJournal place told.content)
+RefusesDisk (Damaged place) pending before after =
+    IfSome pending (λ told. IsDamagedAt place told.content)
 RefusesDisk DiskFault pending before after = Rose before after
 RefusesDisk Stale pending before after = ⊥
 RefusesDisk (Changed expected found) pending before after = ⊥
@@ -45,14 +50,17 @@ opening_fault journal.DiskFault = DiskFault
 opening_fault journal.Stale = Stale
 opening_fault journal.Memory = Memory
 
--- A file holds so many entries that these are neither the acknowledged ones nor these and the failed store's.
+-- A file holds so many entries that these are neither the acknowledged ones nor these and the
+-- failed store's.
 pub record IsChanged (count failed expected found : ℕ) (pending : Option Pending) : Type 0 where
   pub expected_are : expected ≡ count
   pub not_these : found ≢ count
   pub nor_with_batch : found ≢ count + failed
-  pub stands : IfSome pending (λ told. (entries : List Entry) × (length entries ≡ found) × StandsFor entries told.content)
+  pub stands : IfSome pending (λ told. (entries : List Entry) × (length entries ≡ found)
+      × StandsFor entries told.content)
 
 -- why a file isn't opened again
 abbrev pub RefusesReopen : ArchiveFault → ℕ → ℕ → Option Pending → ℕ → ℕ → Type 0
-RefusesReopen (Changed expected found) count failed pending before after = IsChanged count failed expected found pending
+RefusesReopen (Changed expected found) count failed pending before after =
+    IsChanged count failed expected found pending
 RefusesReopen fault count failed pending before after = RefusesDisk fault pending before after

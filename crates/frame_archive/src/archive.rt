@@ -1,5 +1,8 @@
 // An archive on a disk.
-ghost use Rattle.std.specs.Prelude.{◌≡◌, ◌+◌, ◌-◌, ◌≤◌, ◌++◌, ◌⊎◌, ◌==◌, ℕ, true, false, [], ◌∷◌, List, length, take, drop, Some, None, IfSome, IsSomeAnd, IsTrue, MatchResult, OnOk, OnErr, IfOk, IfErr, IsOk, IsErrOf, if◌then◌else◌, Ok, Err};
+ghost use Rattle.std.specs.Prelude.{◌≡◌, ◌+◌, ◌-◌, ◌≤◌, ◌++◌, ◌⊎◌, ◌==◌, ℕ, true, false, [], ◌∷◌};
+ghost use Rattle.std.specs.Prelude.{List, length, take, drop, Some, None, IfSome, IsSomeAnd};
+ghost use Rattle.std.specs.Prelude.{IsTrue, MatchResult, OnOk, OnErr, IfOk, IfErr, IsOk, IsErrOf};
+ghost use Rattle.std.specs.Prelude.{if◌then◌else◌, Ok, Err};
 ghost use Rattle.octet_core.specs.Fault.{Rose};
 ghost use Rattle.archive_terms.specs.Archive.{is_valid};
 ghost use Rattle.archive_terms.specs.Archive as terms;
@@ -10,9 +13,11 @@ ghost use Rattle.disk_model.specs.declared.call.Call.TheVariants.{Sync};
 ghost use Rattle.record_form.specs.Entry.{entry_of};
 ghost use Rattle.gate_journal.specs.File.{StandsFor};
 ghost use Rattle.gate_journal.specs.Kept.{IsOldOrNew, appending};
-ghost use Rattle.frame_archive.specs.State.{times_of, at_rest, failed_batch, need, free, refusal, with_waiting, with_stored, with_failed};
+ghost use Rattle.frame_archive.specs.State.{times_of, at_rest, failed_batch, need, free, refusal};
+ghost use Rattle.frame_archive.specs.State.{with_waiting, with_stored, with_failed};
 ghost use Rattle.frame_archive.specs.Held.{Acknowledges, Uses};
-ghost use Rattle.frame_archive.specs.Faults.{IsRefusal, IsUnread, RefusesDisk, RefusesReopen, IsOfRecovery, opening_fault};
+ghost use Rattle.frame_archive.specs.Faults.{IsRefusal, IsUnread, RefusesDisk, RefusesReopen};
+ghost use Rattle.frame_archive.specs.Faults.{IsOfRecovery, opening_fault};
 ghost use Rattle.frame_archive.specs.declared.fault.ArchiveFault.TheVariants as ArchiveFault;
 ghost use Rattle.gate_journal.specs.declared.fault.JournalFault.{JournalFault};
 
@@ -52,8 +57,8 @@ pub struct Landing {
     pub lost: Entries,
 }
 
-/// An archive of entries on a disk: those that are acknowledged stand in its file, and others wait to
-/// be stored as one batch.
+/// An archive of entries on a disk: those that are acknowledged stand in its file, and others wait
+/// to be stored as one batch.
 #[derive(Drop)]
 pub struct FrameArchive<D: Disk> {
     alloc: Global,
@@ -92,9 +97,9 @@ impl<D: Disk> Model for FrameArchive<D> {
         a.times a.waiting a.is_stale };
 }
 
-/// Opens the archive on a disk, whatever calls failed or stopped there before, and gives its entries.
-/// Its file may have `capacity` octets; one that is longer is read all the same. A refusal hands the
-/// disk back. It costs a sync and one read of the whole file.
+/// Opens the archive on a disk, whatever calls failed or stopped there before, and gives its
+/// entries. Its file may have `capacity` octets; one that is longer is read all the same. A refusal
+/// hands the disk back. It costs a sync and one read of the whole file.
 pub fn open_archive<D: Disk>(
     alloc: Global,
     disk: D,
@@ -114,7 +119,8 @@ pub fn open_archive<D: Disk>(
     ensures calls { IfOk result (λ opened. AllMade D.makes disk (Sync ∷ []) opened.0.disk) }
     ensures refused { IfErr result (λ refused. RefusesDisk refused.0 (D.pending disk)
         (D.faults disk) (D.faults refused.1)) }
-    ensures standing { IfErr result (λ refused. (entries : List terms.Entry) → IsSomeAnd (D.pending disk)
+    ensures standing { IfErr result (λ refused. (entries : List terms.Entry)
+        → IsSomeAnd (D.pending disk)
         (λ told. StandsFor entries told.content) → IsUnread refused.0) }
 {
     gate_journal::laws::an_image_at_rest_stands_for_what_is_kept();
@@ -139,8 +145,8 @@ pub fn open_archive<D: Disk>(
 }
 
 impl<D: Disk> FrameArchive<D> {
-    /// Puts an entry behind those that wait. A refusal hands it back and changes nothing. It makes no
-    /// call of the disk, and copies no octets.
+    /// Puts an entry behind those that wait. A refusal hands it back and changes nothing. It makes
+    /// no call of the disk, and copies no octets.
     pub fn offer(&mut self, entry: Entry) -> Result<(), (OfferFault, Entry)>
         requires { IsTrue (is_valid (entry_of entry)) }
         ensures taken { OnOk result (self.new ≡ with_waiting self.old (entry_of entry)) }
@@ -150,7 +156,8 @@ impl<D: Disk> FrameArchive<D> {
         ensures back { IfErr result (λ refused. refused.1 ≡ entry) }
         ensures unchanged { OnErr result (self.new ≡ self.old) }
         ensures batch { failed_batch self.new ≡ failed_batch self.old }
-        ensures acknowledged { (entries : List terms.Entry) → Acknowledges D.pending self.old entries
+        ensures acknowledged { (entries : List terms.Entry)
+            → Acknowledges D.pending self.old entries
             → Acknowledges D.pending self.new entries }
     {
         archive_terms::laws::archive_grows();
@@ -215,12 +222,14 @@ impl<D: Disk> FrameArchive<D> {
 
     /// Stores the entries that wait as one batch, in four calls of the disk, and hands them back as
     /// acknowledged; where none waits it makes none. After a refusal they still wait. After
-    /// `DiskFault` the file may hold them or not: each store answers `Stale` until a reopen succeeds.
-    /// It copies each octet once, into the batch, and takes its memory before it calls the disk.
+    /// `DiskFault` the file may hold them or not: each store answers `Stale` until a reopen
+    /// succeeds. It copies each octet once, into the batch, and takes its memory before it calls
+    /// the disk.
     pub fn store(&mut self) -> Result<Stored, ArchiveFault>
         ensures stored { IfOk result (λ stored. (self.new ≡ with_stored self.old self.new.disk)
             × (stored.count ≡ self.new.count) × (stored.entries ≡ self.old.waiting)) }
-        ensures acknowledged { OnOk result ((entries : List terms.Entry) → Acknowledges D.pending self.old
+        ensures acknowledged { OnOk result ((entries : List terms.Entry)
+            → Acknowledges D.pending self.old
             entries → Acknowledges D.pending self.new (entries ++ self.old.waiting)) }
         ensures still { OnErr result ((entries : List terms.Entry) → Acknowledges D.pending self.old
             entries → Acknowledges D.pending self.new entries) }
@@ -279,10 +288,10 @@ impl<D: Disk> FrameArchive<D> {
         }
     }
 
-    /// Opens the file again, and tells what became of the entries that waited: those of the store that
-    /// failed may have landed in it, and the others are lost. Nothing waits then. After a refusal all
-    /// is as it was, but each store answers `Stale` until a reopen succeeds. It costs a sync and one
-    /// read of the whole file.
+    /// Opens the file again, and tells what became of the entries that waited: those of the store
+    /// that failed may have landed in it, and the others are lost. Nothing waits then. After a
+    /// refusal all is as it was, but each store answers `Stale` until a reopen succeeds. It costs a
+    /// sync and one read of the whole file.
     pub fn reopen(&mut self) -> Result<Landing, ArchiveFault>
         ensures reopened { OnOk result (self.new ≡ record (at_rest self.new.disk self.old.capacity
             self.new.used []) { count = self.new.count; times = self.new.times }) }
@@ -309,7 +318,8 @@ impl<D: Disk> FrameArchive<D> {
         ensures calls { OnOk result (AllMade D.makes self.old.disk (Sync ∷ []) self.new.disk) }
         ensures cause { IfErr result (λ fault. RefusesReopen fault self.old.count self.old.failed
             (D.pending self.old.disk) (D.faults self.old.disk) (D.faults self.new.disk)) }
-        ensures honest { IfErr result (λ fault. (entries : List terms.Entry) → Acknowledges D.pending
+        ensures honest { IfErr result (λ fault. (entries : List terms.Entry)
+            → Acknowledges D.pending
             self.old entries → IsUnread fault) }
     {
         disk_model::laws::images_at_a_moment::<D>();

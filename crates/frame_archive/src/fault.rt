@@ -2,8 +2,8 @@
 
 use thiserror::Error;
 
-/// Why an archive isn't opened or reopened, or its waiting entries aren't stored. A place counts from
-/// the file's first octet.
+/// Why an archive isn't opened or reopened, or its waiting entries aren't stored. A place counts
+/// from the file's first octet.
 #[derive(Clone, Copy, Debug, PartialEq, Eq, Error)]
 pub enum ArchiveFault {
     /// The octet of the header at this place is another one or missing.
@@ -39,8 +39,8 @@ pub enum OfferFault {
     /// 256 entries wait.
     #[error("256 entries wait")]
     Waiting,
-    /// The entry wants `need` octets, and `free` are free below the capacity, or none where 4,194,304
-    /// entries are stored or waiting.
+    /// The entry wants `need` octets, and `free` are free below the capacity, or none where
+    /// 4,194,304 entries are stored or waiting.
     #[error("full: {need} octets wanted, {free} free")]
     Full { need: u64, free: u64 },
     /// Memory was wanted and refused.

@@ -1,5 +1,5 @@
-// Laws of an archive over any list of its calls, each the contract of an empty function: a caller has
-// the law by the call.
+// Laws of an archive over any list of its calls, each the contract of an empty function: a caller
+// has the law by the call.
 ghost use Rattle.std.specs.Prelude.{◌≡◌, ℕ, List};
 ghost use Rattle.archive_terms.specs.Archive.{Entry};
 ghost use Rattle.disk_model.specs.Moments.{IsImageOf};
@@ -11,10 +11,11 @@ ghost use Rattle.frame_archive.specs.Run.{Course, Run, IsOf, with_unsettled};
 
 use disk_model::Disk;
 
-/// Over any list of offers, stores, failures and reopens since a file was opened, what each image of
-/// the disk stands for, and so what a recovery finds, begins with all that was acknowledged. It is
-/// what the file was opened with, followed by a prefix of what was given to stores since then, without
-/// those named lost. It is so too at each moment of a store, with what that store was given.
+/// Over any list of offers, stores, failures and reopens since a file was opened, what each image
+/// of the disk stands for, and so what a recovery finds, begins with all that was acknowledged. It
+/// is what the file was opened with, followed by a prefix of what was given to stores since then,
+/// without those named lost. It is so too at each moment of a store, with what that store was
+/// given.
 pub fn what_a_recovery_finds<D: Disk>()
     ensures at_rest { (archive : ArchiveState D) (course : Course) (image : List ℕ)
         (entries : List Entry) → Run D.pending archive course

@@ -5,14 +5,30 @@ use Rattle.archive_terms.specs.Archive as archive
 use Rattle.archive_terms.specs.Delivery.{archived, backlog, end_of_data}
 use Rattle.archive_terms.specs.Placed.{Told}
 use Rattle.frame_select.specs.declared.item.Item.{Item}
-use Rattle.frame_select.specs.declared.item.Item.TheVariants.{Frame, Loss, Production, Backlog, EndOfData}
+use Rattle.frame_select.specs.declared.item.Item.TheVariants.{Frame, Loss, Production, Backlog}
+use Rattle.frame_select.specs.declared.item.Item.TheVariants.{EndOfData}
 
 -- an item says a frame's continuity, and not how many frames were lost before it
 abbrev pub item_of : Item → Told
-item_of (Frame place ert quality antenna continuity octets) =
-    (archived place (frame (record { ert = ert; quality = quality; antenna = antenna; lost = 0; octets = octets })), Some continuity)
-item_of (Loss place at carrier subcarrier symbol) =
-    (archived place (loss_of_sync (record { at = at; carrier = carrier; subcarrier = subcarrier; symbol = symbol })), None)
+item_of (Frame place ert quality antenna continuity octets) = (
+  archived place (frame (record {
+    ert = ert;
+    quality = quality;
+    antenna = antenna;
+    lost = 0;
+    octets = octets;
+  })),
+  Some continuity,
+)
+item_of (Loss place at carrier subcarrier symbol) = (
+  archived place (loss_of_sync (record {
+    at = at;
+    carrier = carrier;
+    subcarrier = subcarrier;
+    symbol = symbol;
+  })),
+  None,
+)
 item_of (Production place status) = (archived place (production status), None)
 item_of Backlog = (backlog, None)
 item_of EndOfData = (end_of_data, None)

@@ -22,4 +22,10 @@ filter_of (filters.Channel wanted) = by_channel (id_of wanted)
 
 abbrev pub selection_of : Selection → terms.Selection
 selection_of s =
-    record { filter = filter_of s.filter; start = s.start; stop = s.stop; first = s.first; notices = s.notices }
+    record {
+      filter = filter_of s.filter;
+      start = s.start;
+      stop = s.stop;
+      first = s.first;
+      notices = s.notices;
+    }

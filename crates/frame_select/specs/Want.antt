@@ -9,4 +9,10 @@ abbrev pub want_of : Want → terms.Want
 want_of Nothing = wants_nothing
 want_of Front = wants_front
 want_of (Items selection place since room octets) = wants_items
-    (record { selection = selection_of selection; place = place; since = since; room = room; octets = octets })
+    (record {
+      selection = selection_of selection;
+      place = place;
+      since = since;
+      room = room;
+      octets = octets;
+    })

@@ -20,8 +20,8 @@ pub fn channel_of(octets: &[u8]) -> Option<Gvcid>
     }
 }
 
-// A TM frame begins with 2 bits of version 0, 10 of spacecraft, 3 of virtual channel (CCSDS 132.0-B,
-// 4.1.2).
+// A TM frame begins with 2 bits of version 0, 10 of spacecraft, 3 of virtual channel (CCSDS
+// 132.0-B, 4.1.2).
 fn tm_channel(first: u8, second: u8) -> Gvcid
     ensures { id_of result ≡ tm_channel first second }
 {

@@ -78,7 +78,8 @@ fn a_short_header_and_an_unknown_version_name_none(rt: HostRuntime) -> Result<()
     Ok(())
 }
 
-// Of three frames, one of spacecraft 7 and two of channel 63 of spacecraft 1, the last one is erred.
+// Of three frames, one of spacecraft 7 and two of channel 63 of spacecraft 1, the last one is
+// erred.
 #[test]
 fn a_channel_takes_its_good_frames(rt: HostRuntime) -> Result<(), Fail> {
     let alloc = rt.alloc();

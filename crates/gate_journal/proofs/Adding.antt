@@ -1,14 +1,20 @@
 -- What a file stands for while a batch is written behind its gate.
-use Rattle.std.proofs.Common.{◌≡◌, ◌≢◌, ◌⊎◌, inl, inr, ℕ, ◌+◌, ◌<◌, ◌≤◌, List, [], ◌∷◌, ◌++◌, length, take, drop, set, get_or, slice_index, false, Option, Some, None, option_map, refl, sym, ◌∙◌, ap, subst, arith, append_assoc}
+use Rattle.std.proofs.Common.{◌≡◌, ◌≢◌, ◌⊎◌, inl, inr, ℕ, ◌+◌, ◌<◌, ◌≤◌, List, [], ◌∷◌, ◌++◌}
+use Rattle.std.proofs.Common.{length, take, drop, set, get_or, slice_index, false, Option, Some}
+use Rattle.std.proofs.Common.{None, option_map, refl, sym, ◌∙◌, ap, subst, arith, append_assoc}
 use Rattle.std.proofs.lemmas.Bool.Decides.{nat_tests}
 use Rattle.std.proofs.lemmas.Bool.{cases_eq}
-use Rattle.std.proofs.lemmas.List.{take_at, set_at, ext_get_or, get_or-take, get_or-set_same, get_or-set_other, take-append-drop, length-append, length-take-le, length-set}
+use Rattle.std.proofs.lemmas.List.{take_at, set_at, ext_get_or, get_or-take, get_or-set_same}
+use Rattle.std.proofs.lemmas.List.{get_or-set_other, take-append-drop, length-append}
+use Rattle.std.proofs.lemmas.List.{length-take-le, length-set}
 use Rattle.std.proofs.Math.Seq.{take-append_seam, drop-append-add}
 use Rattle.archive_terms.specs.Archive.{Entry, IsArchive}
 use Rattle.record_form.specs.Reading.{ReadBack}
-use Rattle.disk_model.specs.Images.{Pending, IsImage, all_synced, with_range, overwritten, is_written, written_and_synced}
+use Rattle.disk_model.specs.Images.{Pending, IsImage, all_synced, with_range, overwritten}
+use Rattle.disk_model.specs.Images.{is_written, written_and_synced}
 use Rattle.disk_model.specs.Moments.{IsImageOf}
-use Rattle.gate_journal.specs.File.{header, gated, joined, batch_octets, IsBatch, Leads, StandsAt, StandsFor}
+use Rattle.gate_journal.specs.File.{header, gated, joined, batch_octets, IsBatch, Leads, StandsAt}
+use Rattle.gate_journal.specs.File.{StandsFor}
 use Rattle.gate_journal.specs.Kept.{Keeps, IsAtRest, IsOldOrNew, IsReady, closed_batch}
 use Rattle.gate_journal.proofs.Growth.{all-append, gated_more, joined_more}
 use Rattle.gate_journal.proofs.Unique.{stands_for_one}
@@ -20,34 +26,49 @@ but_one : (k place : ℕ) → k ≢ place → is_written ((place, 1) ∷ []) k �
 but_one k place other = grind (arith, nat_tests)
 
 -- octets written behind a front
-pub written_behind : (front rest octets : List ℕ) (place : ℕ) → length front ≡ place → overwritten (front ++ rest) place octets ≡ front ++ octets ++ drop (length octets) rest
+pub written_behind : (front rest octets : List ℕ) (place : ℕ) → length front ≡ place
+    → overwritten (front ++ rest) place octets ≡ front ++ octets ++ drop (length octets) rest
 written_behind front rest octets place there =
-    subst (λ (p : ℕ). overwritten (front ++ rest) p octets ≡ front ++ octets ++ drop (length octets) rest) there
+    subst (λ (p : ℕ). overwritten (front ++ rest) p octets
+    ≡ front ++ octets ++ drop (length octets) rest) there
     (rw (take-append_seam front rest, drop-append-add front rest (length octets)) refl)
 
 -- before a range that is pending an image is as the file
-module _ (file image : List ℕ) (place count : ℕ) (there : place ≤ length file) (is : IsImage (with_range place count [] (all_synced file)) image) where
+module _ (file image : List ℕ) (place count : ℕ) (there : place ≤ length file)
+    (is : IsImage (with_range place count [] (all_synced file)) image) where
   as_before : take place image ≡ take place file
   as_before =
       ext_get_or 0 (take place image) (take place file)
-      (length-take-le place image (omega (arith, there, is.no_shorter)) ∙ sym (length-take-le place file there))
+      (length-take-le place image (omega (arith, there, is.no_shorter))
+      ∙ sym (length-take-le place file there))
       (λ k below.
-      let before : k < place = omega (arith, below, length-take-le place image (omega (arith, there, is.no_shorter))) in
-      get_or-take place image k 0 before ∙ is.kept k (omega (arith, before, there)) (before_range k place count before) ∙ sym (get_or-take place file k 0 before))
+      let before : k < place = omega (
+        arith,
+        below,
+        length-take-le place image (omega (arith, there, is.no_shorter)),
+      ) in
+      get_or-take place image k 0 before
+      ∙ is.kept k (omega (arith, before, there)) (before_range k place count before)
+      ∙ sym (get_or-take place file k 0 before))
 
 -- and where one octet inside is pending it is the file but for that one
-module _ (file image : List ℕ) (place : ℕ) (there : place < length file) (is : IsImage (with_range place 1 [] (all_synced file)) image) where
+module _ (file image : List ℕ) (place : ℕ) (there : place < length file)
+    (is : IsImage (with_range place 1 [] (all_synced file)) image) where
   same_length : length image ≡ length file
   same_length = omega (arith, there, is.no_shorter, is.no_longer)
 
-  as_elsewhere : (k : ℕ) → k < length image → (k ≡ place) ⊎ (k ≢ place) → get_or image k 0 ≡ get_or (set file place (slice_index image place)) k 0
-  as_elsewhere k below (inl same) = rw same (sym (get_or-set_same file place (slice_index image place) 0 there))
+  as_elsewhere : (k : ℕ) → k < length image → (k ≡ place) ⊎ (k ≢ place)
+      → get_or image k 0 ≡ get_or (set file place (slice_index image place)) k 0
+  as_elsewhere k below (inl same) =
+      rw same (sym (get_or-set_same file place (slice_index image place) 0 there))
   as_elsewhere k below (inr other) =
-      is.kept k (omega (arith, below, same_length)) (but_one k place other) ∙ sym (get_or-set_other file place k (slice_index image place) 0 other)
+      is.kept k (omega (arith, below, same_length)) (but_one k place other)
+      ∙ sym (get_or-set_other file place k (slice_index image place) 0 other)
 
   but_for_one : image ≡ set file place (slice_index image place)
   but_for_one =
-      ext_get_or 0 image (set file place (slice_index image place)) (same_length ∙ sym (length-set file place (slice_index image place)))
+      ext_get_or 0 image (set file place (slice_index image place)) (same_length
+      ∙ sym (length-set file place (slice_index image place)))
       (λ k below. as_elsewhere k below (cases_eq k place))
 
 -- a file with a gate behind a front, and octets that are written behind the gate
@@ -75,25 +96,36 @@ module _ (front rest octets : List ℕ) (shut gate : ℕ) (place : length front 
       ∙ append_assoc front (shut ∷ []) behind
 
   gate_written : overwritten (front ++ shut ∷ behind) gate (165 ∷ []) ≡ front ++ 165 ∷ behind
-  gate_written = written_behind front (shut ∷ behind) (165 ∷ []) gate place ∙ append_assoc front (165 ∷ []) behind
+  gate_written = written_behind front (shut ∷ behind) (165 ∷ []) gate place
+      ∙ append_assoc front (165 ∷ []) behind
 
   -- behind the closed gate all is free
-  during_first : (image : List ℕ) → IsImage (with_range (gate + 1) (length octets) [] (all_synced (front ++ shut ∷ rest))) image → image ≡ front ++ shut ∷ drop (gate + 1) image
+  during_first : (image : List ℕ)
+      → IsImage (with_range (gate + 1) (length octets) [] (all_synced (front ++ shut ∷ rest))) image
+      → image ≡ front ++ shut ∷ drop (gate + 1) image
   during_first image is =
       let begins : take (gate + 1) image ≡ front ++ shut ∷ [] =
-      as_before (front ++ shut ∷ rest) image (gate + 1) (length octets) old_length is ∙ ap (take (gate + 1)) split_old ∙ take_at (front ++ shut ∷ []) rest (gate + 1) front_length in
-      sym (take-append-drop (gate + 1) image) ∙ ap (λ (f : List ℕ). f ++ drop (gate + 1) image) begins ∙ append_assoc front (shut ∷ []) (drop (gate + 1) image)
+      as_before (front ++ shut ∷ rest) image (gate + 1) (length octets) old_length is
+      ∙ ap (take (gate + 1)) split_old
+      ∙ take_at (front ++ shut ∷ []) rest (gate + 1) front_length in
+      sym (take-append-drop (gate + 1) image)
+      ∙ ap (λ (f : List ℕ). f ++ drop (gate + 1) image) begins
+      ∙ append_assoc front (shut ∷ []) (drop (gate + 1) image)
 
   -- and then the gate alone
-  during_second : (image : List ℕ) → IsImage (with_range gate 1 [] (all_synced (front ++ shut ∷ behind))) image → image ≡ front ++ slice_index image gate ∷ behind
-  during_second image is = but_for_one (front ++ shut ∷ behind) image gate new_length is ∙ set_at front shut behind (slice_index image gate) gate place
+  during_second : (image : List ℕ)
+      → IsImage (with_range gate 1 [] (all_synced (front ++ shut ∷ behind))) image
+      → image ≡ front ++ slice_index image gate ∷ behind
+  during_second image is = but_for_one (front ++ shut ∷ behind) image gate new_length is
+      ∙ set_at front shut behind (slice_index image gate) gate place
 
 -- ---- what such files stand for
 
 abbrev pub front_of : List (List Entry) → List ℕ
 front_of batches = header ++ gated batches
 
-pub stands_closed : (batches : List (List Entry)) (entries : List Entry) (gate shut : ℕ) (rest file : List ℕ) → Leads batches entries gate → shut ≢ 165
+pub stands_closed : (batches : List (List Entry)) (entries : List Entry) (gate shut : ℕ)
+    (rest file : List ℕ) → Leads batches entries gate → shut ≢ 165
     → file ≡ front_of batches ++ shut ∷ rest → StandsAt entries gate file
 stands_closed batches entries gate shut rest file leads closed is = record {
   batches = batches;
@@ -107,36 +139,47 @@ stands_closed batches entries gate shut rest file leads closed is = record {
 closed_length : (batch : List Entry) → length (closed_batch batch) ≡ length (batch_octets batch) + 1
 closed_length batch = length-append (batch_octets batch) (0 ∷ [])
 
-stands_opened : (batches : List (List Entry)) (entries batch : List Entry) (gate : ℕ) (rest file : List ℕ) → Leads batches entries gate → IsBatch batch → IsArchive (entries ++ batch)
-    → file ≡ front_of batches ++ 165 ∷ (closed_batch batch ++ rest) → StandsAt (entries ++ batch) (gate + length (closed_batch batch)) file
+stands_opened : (batches : List (List Entry)) (entries batch : List Entry) (gate : ℕ)
+    (rest file : List ℕ) → Leads batches entries gate → IsBatch batch → IsArchive (entries ++ batch)
+    → file ≡ front_of batches ++ 165 ∷ (closed_batch batch ++ rest)
+    → StandsAt (entries ++ batch) (gate + length (closed_batch batch)) file
 stands_opened batches entries batch gate rest file leads is_batch archive is =
-    let more : gated (batches ++ batch ∷ []) ≡ gated batches ++ 165 ∷ batch_octets batch = gated_more batches batch in
-    let size : length (gated (batches ++ batch ∷ [])) ≡ length (gated batches) + length (165 ∷ batch_octets batch) = ap length more ∙ length-append (gated batches) (165 ∷ batch_octets batch) in
+    let more : gated (batches ++ batch ∷ []) ≡ gated batches ++ 165 ∷ batch_octets batch =
+    gated_more batches batch in
+    let size : length (gated (batches ++ batch ∷ []))
+    ≡ length (gated batches) + length (165 ∷ batch_octets batch) = ap length more
+    ∙ length-append (gated batches) (165 ∷ batch_octets batch) in
     record {
       batches = batches ++ batch ∷ [];
       gate = 0;
       rest = rest;
       leads = record {
         each = all-append batches batch leads.each is_batch;
-        entries_are = ap (λ (l : List Entry). l ++ batch) leads.entries_are ∙ sym (joined_more batches batch);
+        entries_are = ap (λ (l : List Entry). l ++ batch) leads.entries_are
+            ∙ sym (joined_more batches batch);
         archive = archive;
         there = omega (arith, leads.there, size, closed_length batch);
       };
       shut = λ same. cc;
       is = is ∙ append_assoc header (gated batches) (165 ∷ (closed_batch batch ++ rest))
           ∙ ap (λ (l : List ℕ). header ++ l)
-          (ap (λ (l : List ℕ). gated batches ++ 165 ∷ l) (append_assoc (batch_octets batch) (0 ∷ []) rest)
-          ∙ sym (append_assoc (gated batches) (165 ∷ batch_octets batch) (0 ∷ rest)) ∙ ap (λ (l : List ℕ). l ++ 0 ∷ rest) (sym more));
+          (ap (λ (l : List ℕ). gated batches ++ 165 ∷ l)
+          (append_assoc (batch_octets batch) (0 ∷ []) rest)
+          ∙ sym (append_assoc (gated batches) (165 ∷ batch_octets batch) (0 ∷ rest))
+          ∙ ap (λ (l : List ℕ). l ++ 0 ∷ rest) (sym more));
     }
 
 -- where all is synced each image is what is kept
 only_synced : (file image : List ℕ) → IsImage (all_synced file) image → image ≡ file
 only_synced file image is =
-    ext_get_or 0 image file (omega (arith, is.no_shorter, is.no_longer)) (λ k below. is.kept k (omega (arith, is.no_longer, below)) refl)
+    ext_get_or 0 image file (omega (arith, is.no_shorter, is.no_longer))
+    (λ k below. is.kept k (omega (arith, is.no_longer, below)) refl)
 
-pub kept_image : (pending : Option Pending) (entries : List Entry) (image : List ℕ) → Keeps pending entries → IsImageOf pending image → StandsFor entries image
+pub kept_image : (pending : Option Pending) (entries : List Entry) (image : List ℕ)
+    → Keeps pending entries → IsImageOf pending image → StandsFor entries image
 kept_image (Some told) entries image keeps is =
-    subst (StandsFor entries) (sym (only_synced told.content image (subst (λ (p : Pending). IsImage p image) keeps.0 is))) keeps.1
+    subst (StandsFor entries) (sym (only_synced told.content image
+    (subst (λ (p : Pending). IsImage p image) keeps.0 is))) keeps.1
 kept_image None entries image keeps is = absurd is
 
 -- a disk at rest, as its front, its gate and the rest
@@ -150,101 +193,163 @@ module _ (told : Pending) (gate : ℕ) (at_rest : IsAtRest (Some told) gate) whe
   pub content_is : told.content ≡ front_of held.batches ++ held.gate ∷ held.rest
   content_is = held.is ∙ sym (append_assoc header (gated held.batches) (held.gate ∷ held.rest))
 
-  pub entries_are : ReadBack → (entries : List Entry) → Keeps (Some told) entries → at_rest.1 ≡ entries
-  entries_are law entries keeps = (stands_for_one law at_rest.1 entries gate keeps.1.0 told.content held keeps.1.1).0
+  pub entries_are : ReadBack → (entries : List Entry) → Keeps (Some told) entries
+      → at_rest.1 ≡ entries
+  entries_are law entries keeps =
+      (stands_for_one law at_rest.1 entries gate keeps.1.0 told.content held keeps.1.1).0
 
   module _ (octets : List ℕ) where
     mid_is : (mid : Option Pending) → mid ≡ Some (written_and_synced (gate + 1) octets told)
-        → mid ≡ Some (all_synced (front_of held.batches ++ held.gate ∷ behind (front_of held.batches) held.rest octets held.gate gate front_there))
+        → mid ≡ Some (all_synced (front_of held.batches ++ held.gate
+        ∷ behind (front_of held.batches) held.rest octets held.gate gate front_there))
     mid_is mid is =
-        is ∙ ap (λ (file : List ℕ). Some (all_synced (overwritten file (gate + 1) octets))) content_is
-        ∙ ap (λ (file : List ℕ). Some (all_synced file)) (octets_written (front_of held.batches) held.rest octets held.gate gate front_there)
+        is ∙ ap (λ (file : List ℕ). Some (all_synced (overwritten file (gate + 1) octets)))
+        content_is
+        ∙ ap (λ (file : List ℕ). Some (all_synced file))
+        (octets_written (front_of held.batches) held.rest octets held.gate gate front_there)
 
-    first_image : (image : List ℕ) → IsImage (with_range (gate + 1) (length octets) [] told) image → StandsAt at_rest.1 gate image
+    first_image : (image : List ℕ) → IsImage (with_range (gate + 1) (length octets) [] told) image
+        → StandsAt at_rest.1 gate image
     first_image image is =
-        stands_closed held.batches at_rest.1 gate held.gate (drop (gate + 1) image) image held.leads held.shut
+        stands_closed held.batches at_rest.1 gate held.gate (drop (gate + 1) image) image held.leads
+        held.shut
         (during_first (front_of held.batches) held.rest octets held.gate gate front_there image
-        (subst (λ (p : Pending). IsImage (with_range (gate + 1) (length octets) [] p) image) (at_rest.0 ∙ ap all_synced content_is) is))
+        (subst (λ (p : Pending). IsImage (with_range (gate + 1) (length octets) [] p) image)
+        (at_rest.0 ∙ ap all_synced content_is) is))
 
-    module _ (batch : List Entry) (law : ReadBack) (ready : IsReady (Some told) batch octets) (entries : List Entry) (keeps : Keeps (Some told) entries) where
+    module _ (batch : List Entry) (law : ReadBack) (ready : IsReady (Some told) batch octets)
+        (entries : List Entry) (keeps : Keeps (Some told) entries) where
       same_entries : at_rest.1 ≡ entries
       same_entries = entries_are law entries keeps
 
       whole : IsArchive (at_rest.1 ++ batch)
-      whole = subst (λ (l : List Entry). IsArchive (l ++ batch)) (sym same_entries) (ready.archive entries keeps)
+      whole = subst (λ (l : List Entry). IsArchive (l ++ batch)) (sym same_entries)
+          (ready.archive entries keeps)
 
       new_place : ℕ
       new_place = gate + length octets
 
-      stands_new : (file : List ℕ) → file ≡ front_of held.batches ++ 165 ∷ behind (front_of held.batches) held.rest octets held.gate gate front_there
+      stands_new : (file : List ℕ) → file ≡ front_of held.batches ++ 165
+          ∷ behind (front_of held.batches) held.rest octets held.gate gate front_there
           → StandsAt (at_rest.1 ++ batch) (gate + length octets) file
       stands_new file is =
-          subst (λ (n : ℕ). StandsAt (at_rest.1 ++ batch) (gate + n) file) (sym (ap length ready.spelled))
-          (stands_opened held.batches at_rest.1 batch gate (drop (length octets) held.rest) file held.leads ready.is_batch whole
-          (is ∙ ap (λ (l : List ℕ). front_of held.batches ++ 165 ∷ (l ++ drop (length octets) held.rest)) ready.spelled))
+          subst (λ (n : ℕ). StandsAt (at_rest.1 ++ batch) (gate + n) file)
+          (sym (ap length ready.spelled))
+          (stands_opened held.batches at_rest.1 batch gate (drop (length octets) held.rest) file
+          held.leads ready.is_batch whole
+          (is ∙ ap (λ (l : List ℕ). front_of held.batches ++ 165
+          ∷ (l ++ drop (length octets) held.rest)) ready.spelled))
 
-      old_or_new : (image : List ℕ) (value : ℕ) → image ≡ front_of held.batches ++ value ∷ behind (front_of held.batches) held.rest octets held.gate gate front_there
+      old_or_new : (image : List ℕ) (value : ℕ)
+          → image ≡ front_of held.batches ++ value
+          ∷ behind (front_of held.batches) held.rest octets held.gate gate front_there
           → (value ≡ 165) ⊎ (value ≢ 165) → IsOldOrNew entries batch image
       old_or_new image value is (inl opened) =
           inr (
             gate + length octets,
-            subst (λ (l : List Entry). StandsAt (l ++ batch) (gate + length octets) image) same_entries
-                (stands_new image (is ∙ ap (λ (v : ℕ). front_of held.batches ++ v ∷ behind (front_of held.batches) held.rest octets held.gate gate front_there) opened)),
+            subst (λ (l : List Entry). StandsAt (l ++ batch) (gate + length octets) image)
+                same_entries
+                (stands_new image (is ∙ ap (λ (v : ℕ). front_of held.batches ++ v
+                ∷ behind (front_of held.batches) held.rest octets held.gate gate front_there)
+                opened)),
           )
       old_or_new image value is (inr closed) =
           inl (
             gate,
             subst (λ (l : List Entry). StandsAt l gate image) same_entries
-                (stands_closed held.batches at_rest.1 gate value (behind (front_of held.batches) held.rest octets held.gate gate front_there) image held.leads closed is),
+                (stands_closed held.batches at_rest.1 gate value
+                (behind (front_of held.batches) held.rest octets held.gate gate front_there)
+                image held.leads closed is),
           )
 
       second_image : (image : List ℕ)
-          → IsImage (with_range gate 1 [] (all_synced (front_of held.batches ++ held.gate ∷ behind (front_of held.batches) held.rest octets held.gate gate front_there))) image
+          → IsImage (with_range gate 1 [] (all_synced
+          (front_of held.batches ++ held.gate
+          ∷ behind (front_of held.batches) held.rest octets held.gate gate front_there))) image
           → IsOldOrNew entries batch image
       second_image image is =
-          old_or_new image (slice_index image gate) (during_second (front_of held.batches) held.rest octets held.gate gate front_there image is) (cases_eq (slice_index image gate) 165)
+          old_or_new image (slice_index image gate)
+          (during_second (front_of held.batches) held.rest octets held.gate gate front_there
+          image is) (cases_eq (slice_index image gate) 165)
 
       abbrev new_file : List ℕ
-      new_file = front_of held.batches ++ 165 ∷ behind (front_of held.batches) held.rest octets held.gate gate front_there
+      new_file = front_of held.batches ++ 165
+          ∷ behind (front_of held.batches) held.rest octets held.gate gate front_there
 
       pub stands_whole : StandsAt (entries ++ batch) (gate + length octets) new_file
-      stands_whole = subst (λ (l : List Entry). StandsAt (l ++ batch) (gate + length octets) new_file) same_entries (stands_new new_file refl)
+      stands_whole = subst (λ (l : List Entry). StandsAt (l ++ batch) (gate + length octets)
+          new_file) same_entries (stands_new new_file refl)
 
 -- ---- the whole of it over what a disk tells
 
-pub first_holds : ReadBack → (old : Option Pending) (gate : ℕ) (octets : List ℕ) → IsAtRest old gate → (batch entries : List Entry) → Keeps old entries → (image : List ℕ)
-    → IsImageOf (option_map (with_range (gate + 1) (length octets) []) old) image → IsOldOrNew entries batch image
+pub first_holds : ReadBack → (old : Option Pending) (gate : ℕ) (octets : List ℕ) → IsAtRest old gate
+    → (batch entries : List Entry) → Keeps old entries → (image : List ℕ)
+    → IsImageOf (option_map (with_range (gate + 1) (length octets) []) old) image
+    → IsOldOrNew entries batch image
 first_holds law (Some told) gate octets at_rest batch entries keeps image is =
-    inl (gate, subst (λ (l : List Entry). StandsAt l gate image) (entries_are told gate at_rest law entries keeps) (first_image told gate at_rest octets image is))
+    inl (
+      gate,
+      subst (λ (l : List Entry). StandsAt l gate image)
+          (entries_are told gate at_rest law entries keeps)
+          (first_image told gate at_rest octets image is),
+    )
 first_holds law None gate octets at_rest batch entries keeps image is = absurd keeps
 
-pub second_holds : ReadBack → (old mid : Option Pending) (gate : ℕ) (octets : List ℕ) → IsAtRest old gate → mid ≡ option_map (written_and_synced (gate + 1) octets) old
-    → (batch : List Entry) → IsReady old batch octets → (entries : List Entry) → Keeps old entries → (image : List ℕ) → IsImageOf (option_map (with_range gate 1 []) mid) image
+pub second_holds : ReadBack → (old mid : Option Pending) (gate : ℕ) (octets : List ℕ)
+    → IsAtRest old gate → mid ≡ option_map (written_and_synced (gate + 1) octets) old
+    → (batch : List Entry) → IsReady old batch octets → (entries : List Entry) → Keeps old entries
+    → (image : List ℕ) → IsImageOf (option_map (with_range gate 1 []) mid) image
     → IsOldOrNew entries batch image
 second_holds law (Some told) mid gate octets at_rest mid_is_ batch ready entries keeps image is =
     second_image told gate at_rest octets batch law ready entries keeps image
-    (subst (λ (p : Option Pending). IsImageOf (option_map (with_range gate 1 []) p) image) (mid_is told gate at_rest octets mid mid_is_) is)
-second_holds law None mid gate octets at_rest mid_is_ batch ready entries keeps image is = absurd keeps
+    (subst (λ (p : Option Pending). IsImageOf (option_map (with_range gate 1 []) p) image)
+    (mid_is told gate at_rest octets mid mid_is_) is)
+second_holds law None mid gate octets at_rest mid_is_ batch ready entries keeps image is =
+    absurd keeps
 
-new_is : (told : Pending) (gate : ℕ) (at_rest : IsAtRest (Some told) gate) (octets : List ℕ) (mid new : Option Pending) → mid ≡ Some (written_and_synced (gate + 1) octets told)
+new_is : (told : Pending) (gate : ℕ) (at_rest : IsAtRest (Some told) gate) (octets : List ℕ)
+    (mid new : Option Pending) → mid ≡ Some (written_and_synced (gate + 1) octets told)
     → new ≡ option_map (written_and_synced gate (165 ∷ [])) mid
-    → new ≡ Some (all_synced (front_of at_rest.2.batches ++ 165 ∷ behind (front_of at_rest.2.batches) at_rest.2.rest octets at_rest.2.gate gate (front_there told gate at_rest)))
+    → new ≡ Some (all_synced (front_of at_rest.2.batches ++ 165
+    ∷ behind (front_of at_rest.2.batches) at_rest.2.rest octets at_rest.2.gate gate
+    (front_there told gate at_rest)))
 new_is told gate at_rest octets mid new mid_is_ new_is_ =
-    new_is_ ∙ ap (option_map (written_and_synced gate (165 ∷ []))) (mid_is told gate at_rest octets mid mid_is_)
-    ∙ ap (λ (f : List ℕ). Some (all_synced f)) (gate_written (front_of at_rest.2.batches) at_rest.2.rest octets at_rest.2.gate gate (front_there told gate at_rest))
+    new_is_ ∙ ap (option_map (written_and_synced gate (165 ∷ [])))
+    (mid_is told gate at_rest octets mid mid_is_)
+    ∙ ap (λ (f : List ℕ). Some (all_synced f))
+    (gate_written (front_of at_rest.2.batches) at_rest.2.rest octets at_rest.2.gate gate
+    (front_there told gate at_rest))
 
-pub added : ReadBack → (old mid new : Option Pending) (gate : ℕ) (octets : List ℕ) → IsAtRest old gate → mid ≡ option_map (written_and_synced (gate + 1) octets) old
-    → new ≡ option_map (written_and_synced gate (165 ∷ [])) mid → (batch : List Entry) → IsReady old batch octets → (entries : List Entry) → Keeps old entries → Keeps new (entries ++ batch)
+pub added : ReadBack → (old mid new : Option Pending) (gate : ℕ) (octets : List ℕ)
+    → IsAtRest old gate → mid ≡ option_map (written_and_synced (gate + 1) octets) old
+    → new ≡ option_map (written_and_synced gate (165 ∷ [])) mid → (batch : List Entry)
+    → IsReady old batch octets → (entries : List Entry) → Keeps old entries
+    → Keeps new (entries ++ batch)
 added law (Some told) mid new gate octets at_rest mid_is_ new_is_ batch ready entries keeps =
-    subst (λ (p : Option Pending). Keeps p (entries ++ batch)) (sym (new_is told gate at_rest octets mid new mid_is_ new_is_))
-    (refl, (gate + length octets, stands_whole told gate at_rest octets batch law ready entries keeps))
+    subst (λ (p : Option Pending). Keeps p (entries ++ batch))
+    (sym (new_is told gate at_rest octets mid new mid_is_ new_is_)) (
+      refl,
+      (
+        gate + length octets,
+        stands_whole told gate at_rest octets batch law ready entries
+            keeps,
+      ),
+    )
 added law None mid new gate octets at_rest mid_is_ new_is_ batch ready entries keeps = absurd keeps
 
-pub rests_again : ReadBack → (old mid new : Option Pending) (gate : ℕ) (octets : List ℕ) → IsAtRest old gate → mid ≡ option_map (written_and_synced (gate + 1) octets) old
-    → new ≡ option_map (written_and_synced gate (165 ∷ [])) mid → (batch : List Entry) → IsReady old batch octets → IsAtRest new (gate + length octets)
+pub rests_again : ReadBack → (old mid new : Option Pending) (gate : ℕ) (octets : List ℕ)
+    → IsAtRest old gate → mid ≡ option_map (written_and_synced (gate + 1) octets) old
+    → new ≡ option_map (written_and_synced gate (165 ∷ [])) mid → (batch : List Entry)
+    → IsReady old batch octets → IsAtRest new (gate + length octets)
 rests_again law (Some told) mid new gate octets at_rest mid_is_ new_is_ batch ready =
     let keeps : Keeps (Some told) at_rest.1 = (at_rest.0, (gate, at_rest.2)) in
-    subst (λ (p : Option Pending). IsAtRest p (gate + length octets)) (sym (new_is told gate at_rest octets mid new mid_is_ new_is_))
-    (refl, at_rest.1 ++ batch, stands_new told gate at_rest octets batch law ready at_rest.1 keeps _ refl)
+    subst (λ (p : Option Pending). IsAtRest p (gate + length octets))
+    (sym (new_is told gate at_rest octets mid new mid_is_ new_is_)) (
+      refl,
+      at_rest.1 ++ batch,
+      stands_new told gate at_rest octets batch law ready at_rest.1 keeps _
+          refl,
+    )
 rests_again law None mid new gate octets at_rest mid_is_ new_is_ batch ready =
-    subst (λ (p : Option Pending). IsAtRest p (gate + length octets)) (sym (new_is_ ∙ ap (option_map (written_and_synced gate (165 ∷ []))) mid_is_)) tt
+    subst (λ (p : Option Pending). IsAtRest p (gate + length octets))
+    (sym (new_is_ ∙ ap (option_map (written_and_synced gate (165 ∷ []))) mid_is_)) tt

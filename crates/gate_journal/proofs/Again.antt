@@ -1,13 +1,19 @@
 -- What stands in a file is read, so a damaged file stands for nothing.
-use Rattle.std.proofs.Common.{◌≡◌, ◌≢◌, ◌⊎◌, inl, inr, ℕ, zero, suc, ◌*◌, ◌^◌, ◌-◌, ◌+◌, ◌≤◌, ◌<◌, ◌==◌, Bool, true, false, ◌&&◌, List, [], ◌∷◌, ◌++◌, length, take, drop, slice_index, nat_lt, nat_le, min, IsTrue, if◌then◌else◌, Option, Some, None, Result, Ok, Err, refl, sym, ap, subst, ◌∙◌, arith, append_assoc, eq-eqb}
+use Rattle.std.proofs.Common.{◌≡◌, ◌≢◌, ◌⊎◌, inl, inr, ℕ, zero, suc, ◌*◌, ◌^◌, ◌-◌, ◌+◌, ◌≤◌, ◌<◌}
+use Rattle.std.proofs.Common.{◌==◌, Bool, true, false, ◌&&◌, List, [], ◌∷◌, ◌++◌, length, take}
+use Rattle.std.proofs.Common.{drop, slice_index, nat_lt, nat_le, min, IsTrue, if◌then◌else◌, Option}
+use Rattle.std.proofs.Common.{Some, None, Result, Ok, Err, refl, sym, ap, subst, ◌∙◌, arith}
+use Rattle.std.proofs.Common.{append_assoc, eq-eqb}
 use Rattle.std.specs.List.{AllByRecursion, list_all, flat_map}
 use Rattle.std.specs.Int.{w16, w32, to_be_bytes, from_be_bytes}
-use Rattle.std.proofs.lemmas.List.{append-nil, drop_at, take_at, drop-drop, drop_more, length-append, length-drop, get_or_append_left}
+use Rattle.std.proofs.lemmas.List.{append-nil, drop_at, take_at, drop-drop, drop_more}
+use Rattle.std.proofs.lemmas.List.{length-append, length-drop, get_or_append_left}
 use Rattle.std.proofs.lemmas.List.Concat.{flat_map-cons}
 use Rattle.std.proofs.lemmas.Bool.{lt-ltb, le-ltb}
 use Rattle.std.proofs.lemmas.Bool.Decides.{nat_tests}
 use Rattle.std.proofs.lemmas.Nat.{from_be_bytes-to_be_bytes_2, from_be_bytes-to_be_bytes_4}
-use Rattle.archive_terms.specs.Archive.{Entry, Frame, frame, loss_of_sync, production, seal, IsArchive, is_archive, is_storable, may_follow, keeps_order}
+use Rattle.archive_terms.specs.Archive.{Entry, Frame, frame, loss_of_sync, production, seal}
+use Rattle.archive_terms.specs.Archive.{IsArchive, is_archive, is_storable, may_follow, keeps_order}
 use Rattle.record_form.specs.declared.fault.EntryFault.{EntryFault}
 use Rattle.cds_time.specs.Moment.{rest_octets}
 use Rattle.cds_time.specs.declared.cds.Rest.{Rest}
@@ -16,8 +22,11 @@ use Rattle.record_form.specs.Spelling.{entry_octets, antenna_octets, content_oct
 use Rattle.record_form.specs.Reading.{AreOctets, ReadWhereSpelled, ReadBack, StandsFrom, entry_from}
 use Rattle.gate_journal.specs.declared.fault.JournalFault.{JournalFault}
 use Rattle.gate_journal.specs.declared.fault.JournalFault.TheVariants.{Damaged}
-use Rattle.gate_journal.specs.File.{header, entries_octets, batch_octets, IsBatch, gated, joined, Leads, StandsAt}
-use Rattle.gate_journal.specs.Reading.{◌>>=◌, with_next, fault_place, next_entry, entries_at, ending_at, lesser, size_at, count_at, batch_at, gate_at, LedTo, IsNoJournal, IsDamagedAt}
+use Rattle.gate_journal.specs.File.{header, entries_octets, batch_octets, IsBatch, gated, joined}
+use Rattle.gate_journal.specs.File.{Leads, StandsAt}
+use Rattle.gate_journal.specs.Reading.{◌>>=◌, with_next, fault_place, next_entry, entries_at}
+use Rattle.gate_journal.specs.Reading.{ending_at, lesser, size_at, count_at, batch_at, gate_at}
+use Rattle.gate_journal.specs.Reading.{LedTo, IsNoJournal, IsDamagedAt}
 use Rattle.gate_journal.proofs.Growth.{Grows}
 use Rattle.gate_journal.proofs.Unique.{same_batch}
 
@@ -29,29 +38,43 @@ both false b e = absurd (cc)
 archive_front : Grows → (a b : List Entry) → IsArchive (a ++ b) → IsArchive a
 archive_front grows a [] archive = subst IsArchive (append-nil a) archive
 archive_front grows a (e ∷ b) archive =
-    let longer : IsArchive (a ++ e ∷ []) = archive_front grows (a ++ e ∷ []) b (subst IsArchive (sym (append_assoc a (e ∷ []) b)) archive) in
+    let longer : IsArchive (a ++ e ∷ []) = archive_front grows (a ++ e ∷ []) b
+    (subst IsArchive (sym (append_assoc a (e ∷ []) b)) archive) in
     (both (is_archive a) (may_follow a e) (sym (grows a e) ∙ longer)).0
 
 -- an entry behind others in an archive keeps their order
-in_order : Grows → (a : List Entry) (e : Entry) (b : List Entry) → IsArchive (a ++ e ∷ b) → keeps_order a e ≡ true
+in_order : Grows → (a : List Entry) (e : Entry) (b : List Entry) → IsArchive (a ++ e ∷ b)
+    → keeps_order a e ≡ true
 in_order grows a e b archive =
-    let longer : IsArchive (a ++ e ∷ []) = archive_front grows (a ++ e ∷ []) b (subst IsArchive (sym (append_assoc a (e ∷ []) b)) archive) in
-    (both (is_storable e) (keeps_order a e) (both (is_archive a) (may_follow a e) (sym (grows a e) ∙ longer)).1).1
+    let longer : IsArchive (a ++ e ∷ []) = archive_front grows (a ++ e ∷ []) b
+    (subst IsArchive (sym (append_assoc a (e ∷ []) b)) archive) in
+    (both (is_storable e) (keeps_order a e) (both (is_archive a) (may_follow a e) (sym (grows a e)
+    ∙ longer)).1).1
 
-next_again : (before : List Entry) (file : List ℕ) (place : ℕ) (entry : Entry) (end : ℕ) → entry_from place file ≡ Ok (entry, end) → keeps_order before entry ≡ true
+next_again : (before : List Entry) (file : List ℕ) (place : ℕ) (entry : Entry) (end : ℕ)
+    → entry_from place file ≡ Ok (entry, end) → keeps_order before entry ≡ true
     → next_entry before file place ≡ Ok (before ++ entry ∷ [], end)
 unfolding next_entry
 next_again before file place entry end read order = rw (read, order) refl
 
-behind_entry : (entry : Entry) (more : List Entry) (file : List ℕ) (place end : ℕ) → drop place file ≡ entries_octets (entry ∷ more) ++ drop end file
+behind_entry : (entry : Entry) (more : List Entry) (file : List ℕ) (place end : ℕ)
+    → drop place file ≡ entries_octets (entry ∷ more) ++ drop end file
     → drop place file ≡ entry_octets entry ++ (entries_octets more ++ drop end file)
-behind_entry entry more file place end is = is ∙ ap (λ (l : List ℕ). l ++ drop end file) (flat_map-cons entry_octets entry more) ∙ append_assoc (entry_octets entry) (entries_octets more) (drop end file)
+behind_entry entry more file place end is = is
+    ∙ ap (λ (l : List ℕ). l ++ drop end file) (flat_map-cons entry_octets entry more)
+    ∙ append_assoc (entry_octets entry) (entries_octets more) (drop end file)
 
-rest_behind : (x y : List ℕ) (file : List ℕ) (place : ℕ) → drop place file ≡ x ++ y → drop (place + length x) file ≡ y
-rest_behind x y file place is = sym (drop-drop (length x) place file) ∙ ap (drop (length x)) is ∙ drop_at x y (length x) refl
+rest_behind : (x y : List ℕ) (file : List ℕ) (place : ℕ) → drop place file ≡ x ++ y
+    → drop (place + length x) file ≡ y
+rest_behind x y file place is = sym (drop-drop (length x) place file) ∙ ap (drop (length x)) is
+    ∙ drop_at x y (length x) refl
 
-entries_again : ReadWhereSpelled → Grows → (batch before : List Entry) (file : List ℕ) (place end : ℕ) → AreOctets file → list_all is_storable batch ≡ true → IsArchive (before ++ batch)
-    → end ≡ place + length (entries_octets batch) → drop place file ≡ entries_octets batch ++ drop end file → entries_at (length batch) before file place ≡ Ok (before ++ batch, end)
+entries_again : ReadWhereSpelled → Grows
+    → (batch before : List Entry) (file : List ℕ) (place end : ℕ) → AreOctets file
+    → list_all is_storable batch ≡ true → IsArchive (before ++ batch)
+    → end ≡ place + length (entries_octets batch)
+    → drop place file ≡ entries_octets batch ++ drop end file
+    → entries_at (length batch) before file place ≡ Ok (before ++ batch, end)
 unfolding entries_at
 entries_again law grows [] before file place end all storable archive ends is =
     let same : place ≡ end = omega (arith, ends) in
@@ -60,16 +83,27 @@ entries_again law grows (entry ∷ more) before file place end all storable arch
     let each = both (is_storable entry) (list_all is_storable more) storable in
     let split = behind_entry entry more file place end is in
     let mid = place + length (entry_octets entry) in
-    let rest : drop (place + length (entry_octets entry)) file ≡ entries_octets more ++ drop end file = rest_behind (entry_octets entry) (entries_octets more ++ drop end file) file place split in
+    let rest : drop (place + length (entry_octets entry)) file
+    ≡ entries_octets more ++ drop end file =
+    rest_behind (entry_octets entry) (entries_octets more ++ drop end file) file place split in
     let stands : StandsFrom place file entry (place + length (entry_octets entry)) = record {
       storable = each.0;
       ends = refl;
       spelled = split ∙ ap (λ (l : List ℕ). entry_octets entry ++ l) (sym rest);
     } in
-    let next = next_again before file place entry (place + length (entry_octets entry)) ((law place file entry (place + length (entry_octets entry)) all).1 stands) (in_order grows before entry more archive) in
-    let later : entries_at (length more) (before ++ entry ∷ []) file (place + length (entry_octets entry)) ≡ Ok ((before ++ entry ∷ []) ++ more, end) =
-    entries_again law grows more (before ++ entry ∷ []) file (place + length (entry_octets entry)) end all each.1 (subst IsArchive (sym (append_assoc before (entry ∷ []) more)) archive)
-    (omega (arith, ends, ap length (flat_map-cons entry_octets entry more), length-append (entry_octets entry) (entries_octets more))) rest in
+    let next = next_again before file place entry (place + length (entry_octets entry))
+    ((law place file entry (place + length (entry_octets entry)) all).1 stands)
+    (in_order grows before entry more archive) in
+    let later : entries_at (length more) (before ++ entry ∷ []) file
+    (place + length (entry_octets entry)) ≡ Ok ((before ++ entry ∷ []) ++ more, end) =
+    entries_again law grows more (before ++ entry ∷ []) file (place + length (entry_octets entry))
+    end all each.1 (subst IsArchive (sym (append_assoc before (entry ∷ []) more)) archive)
+    (omega (
+      arith,
+      ends,
+      ap length (flat_map-cons entry_octets entry more),
+      length-append (entry_octets entry) (entries_octets more),
+    )) rest in
     rw next (later ∙ ap (λ (l : List Entry). Ok (l, end)) (append_assoc before (entry ∷ []) more))
 
 -- ---- how long a batch is
@@ -78,62 +112,87 @@ rest_short : (rest : Rest) → length (rest_octets rest) ≤ 4
 rest_short (Micros n) = omega arith
 rest_short (Picos n) = omega arith
 
-frame_short : (f : Frame) → length f.antenna ≤ 16 → length f.octets ≤ 65536 → length (entry_octets (frame f)) ≤ 65574
+frame_short : (f : Frame) → length f.antenna ≤ 16 → length f.octets ≤ 65536
+    → length (entry_octets (frame f)) ≤ 65574
 frame_short f antenna octets =
     omega (
       arith,
       rest_short f.ert.rest,
       antenna,
       octets,
-      length-append (rest_octets f.ert.rest) (f.quality ∷ [] ++ (antenna_octets f.antenna ++ (to_be_bytes w32 f.lost ++ content_octets f.octets))),
+      length-append (rest_octets f.ert.rest) (f.quality ∷ []
+          ++ (antenna_octets f.antenna ++ (to_be_bytes w32 f.lost ++ content_octets f.octets))),
       length-append f.antenna (to_be_bytes w32 f.lost ++ content_octets f.octets),
     )
 
 entry_short : (e : Entry) → is_storable e ≡ true → length (entry_octets e) ≤ 65574
 entry_short (frame f) is = frame_short f (grind (arith, nat_tests)) (grind (arith, nat_tests))
 entry_short (loss_of_sync l) is =
-    omega (arith, rest_short l.at.rest, length-append (rest_octets l.at.rest) (l.carrier ∷ [] ++ (l.subcarrier ∷ [] ++ l.symbol ∷ [])))
+    omega (
+      arith,
+      rest_short l.at.rest,
+      length-append (rest_octets l.at.rest)
+          (l.carrier ∷ [] ++ (l.subcarrier ∷ [] ++ l.symbol ∷ [])),
+    )
 entry_short (production status) is = omega arith
 entry_short (seal at) is = omega (arith, rest_short at.rest)
 
-entries_short : (batch : List Entry) → list_all is_storable batch ≡ true → length (entries_octets batch) ≤ 65574 * length batch
+entries_short : (batch : List Entry) → list_all is_storable batch ≡ true
+    → length (entries_octets batch) ≤ 65574 * length batch
 entries_short [] is = omega arith
 entries_short (e ∷ batch) is =
     let each = both (is_storable e) (list_all is_storable batch) is in
-    omega (arith, entry_short e each.0, entries_short batch each.1, ap length (flat_map-cons entry_octets e batch), length-append (entry_octets e) (entries_octets batch))
+    omega (
+      arith,
+      entry_short e each.0,
+      entries_short batch each.1,
+      ap length (flat_map-cons entry_octets e batch),
+      length-append (entry_octets e) (entries_octets batch),
+    )
 
 -- ---- a batch
 
-ending_again : (stated : ℕ) (after : List Entry) (end : ℕ) → end ≡ stated → ending_at stated (Ok (after, end)) ≡ Ok (after, end)
+ending_again : (stated : ℕ) (after : List Entry) (end : ℕ) → end ≡ stated
+    → ending_at stated (Ok (after, end)) ≡ Ok (after, end)
 ending_again stated after end same = rw (eq-eqb end stated same) refl
 
 in_range : (n : ℕ) → 1 ≤ n → n ≤ 256 → (nat_le 1 n && nat_le n 256) ≡ true
 in_range n some most = grind (arith, nat_tests)
 
-module _ (law : ReadWhereSpelled) (grows : Grows) (before batch : List Entry) (file : List ℕ) (place end : ℕ) (all : AreOctets file) (is_batch : IsBatch batch)
-    (archive : IsArchive (before ++ batch)) (ends : end ≡ place + length (batch_octets batch)) (is : drop place file ≡ batch_octets batch ++ drop end file) (inside : place ≤ length file) where
+module _ (law : ReadWhereSpelled) (grows : Grows) (before batch : List Entry) (file : List ℕ)
+    (place end : ℕ) (all : AreOctets file) (is_batch : IsBatch batch)
+    (archive : IsArchive (before ++ batch)) (ends : end ≡ place + length (batch_octets batch))
+    (is : drop place file ≡ batch_octets batch ++ drop end file)
+    (inside : place ≤ length file) where
   size : List ℕ
   size = to_be_bytes w32 (length (entries_octets batch))
 
-  parts_are : drop place file ≡ to_be_bytes w32 (length (entries_octets batch)) ++ (to_be_bytes w16 (length batch) ++ (entries_octets batch ++ drop end file))
+  parts_are : drop place file ≡ to_be_bytes w32 (length (entries_octets batch))
+      ++ (to_be_bytes w16 (length batch) ++ (entries_octets batch ++ drop end file))
   parts_are =
-      is ∙ append_assoc (to_be_bytes w32 (length (entries_octets batch))) (to_be_bytes w16 (length batch) ++ entries_octets batch) (drop end file)
-      ∙ ap (λ (l : List ℕ). to_be_bytes w32 (length (entries_octets batch)) ++ l) (append_assoc (to_be_bytes w16 (length batch)) (entries_octets batch) (drop end file))
+      is ∙ append_assoc (to_be_bytes w32 (length (entries_octets batch)))
+      (to_be_bytes w16 (length batch) ++ entries_octets batch) (drop end file)
+      ∙ ap (λ (l : List ℕ). to_be_bytes w32 (length (entries_octets batch)) ++ l)
+      (append_assoc (to_be_bytes w16 (length batch)) (entries_octets batch) (drop end file))
 
   small : length (entries_octets batch) < 2 ^ 32
   small = omega (arith, entries_short batch is_batch.storable, is_batch.most)
 
   size_is : size_at file place ≡ length (entries_octets batch)
-  size_is = ap (λ (l : List ℕ). from_be_bytes w32 (take 4 l)) parts_are ∙ from_be_bytes-to_be_bytes_4 (length (entries_octets batch)) small
+  size_is = ap (λ (l : List ℕ). from_be_bytes w32 (take 4 l)) parts_are
+      ∙ from_be_bytes-to_be_bytes_4 (length (entries_octets batch)) small
 
-  behind_size : drop (place + 4) file ≡ to_be_bytes w16 (length batch) ++ (entries_octets batch ++ drop end file)
+  behind_size : drop (place + 4) file ≡ to_be_bytes w16 (length batch)
+      ++ (entries_octets batch ++ drop end file)
   behind_size = sym (drop-drop 4 place file) ∙ ap (drop 4) parts_are
 
   count_is : count_at file place ≡ length batch
-  count_is = ap (λ (l : List ℕ). from_be_bytes w16 (take 2 l)) behind_size ∙ from_be_bytes-to_be_bytes_2 (length batch) (omega (arith, is_batch.most))
+  count_is = ap (λ (l : List ℕ). from_be_bytes w16 (take 2 l)) behind_size
+      ∙ from_be_bytes-to_be_bytes_2 (length batch) (omega (arith, is_batch.most))
 
   behind_count : drop (place + 6) file ≡ entries_octets batch ++ drop end file
-  behind_count = ap (λ (n : ℕ). drop n file) (omega arith) ∙ sym (drop-drop 2 (place + 4) file) ∙ ap (drop 2) behind_size
+  behind_count = ap (λ (n : ℕ). drop n file) (omega arith) ∙ sym (drop-drop 2 (place + 4) file)
+      ∙ ap (drop 2) behind_size
 
   end_is : end ≡ (place + 6) + length (entries_octets batch)
   end_is = omega (arith, ends)
@@ -142,36 +201,56 @@ module _ (law : ReadWhereSpelled) (grows : Grows) (before batch : List Entry) (f
   long = omega (arith, inside, ap length parts_are, length-drop place file)
 
   read_is : entries_at (count_at file place) before file (place + 6) ≡ Ok (before ++ batch, end)
-  read_is = ap (λ (n : ℕ). entries_at n before file (place + 6)) count_is ∙ entries_again law grows batch before file (place + 6) end all is_batch.storable archive end_is behind_count
+  read_is = ap (λ (n : ℕ). entries_at n before file (place + 6)) count_is
+      ∙ entries_again law grows batch before file (place + 6) end all is_batch.storable archive
+      end_is behind_count
 
   batch_again : batch_at before file place ≡ Ok (before ++ batch, end)
   unfolding batch_at
   batch_again =
-      rw (le-ltb (length file) (place + 6) long, ap (λ (n : ℕ). nat_le 1 n && nat_le n 256) count_is ∙ in_range (length batch) is_batch.some is_batch.most, read_is)
-      (ending_again (place + 6 + size_at file place) (before ++ batch) end (omega (arith, end_is, size_is)))
+      rw (
+        le-ltb (length file) (place + 6) long,
+        ap (λ (n : ℕ). nat_le 1 n && nat_le n 256) count_is
+            ∙ in_range (length batch) is_batch.some is_batch.most,
+        read_is,
+      )
+      (ending_again (place + 6 + size_at file place) (before ++ batch) end
+      (omega (arith, end_is, size_is)))
 
 -- ---- a gate
 
-open_again : ReadWhereSpelled → Grows → (before batch : List Entry) (rest file : List ℕ) (gate : ℕ) → AreOctets file → IsBatch batch → IsArchive (before ++ batch)
-    → drop gate file ≡ 165 ∷ (batch_octets batch ++ rest) → gate < length file → (after : List Entry × ℕ) × (gate_at before file gate ≡ Ok (Some after))
+open_again : ReadWhereSpelled → Grows → (before batch : List Entry) (rest file : List ℕ) (gate : ℕ)
+    → AreOctets file → IsBatch batch → IsArchive (before ++ batch)
+    → drop gate file ≡ 165 ∷ (batch_octets batch ++ rest) → gate < length file
+    → (after : List Entry × ℕ) × (gate_at before file gate ≡ Ok (Some after))
 unfolding gate_at
 open_again law grows before batch rest file gate all is_batch archive is there =
-    let first : slice_index file gate ≡ 165 = ap (λ (l : List ℕ). slice_index l 0) (sym (drop_more file gate 0 there) ∙ is) in
-    let behind : drop (gate + 1) file ≡ batch_octets batch ++ rest = sym (drop-drop 1 gate file) ∙ ap (drop 1) is in
-    let rest_is : drop ((gate + 1) + length (batch_octets batch)) file ≡ rest = rest_behind (batch_octets batch) rest file (gate + 1) behind in
-    let read : batch_at before file (gate + 1) ≡ Ok (before ++ batch, (gate + 1) + length (batch_octets batch)) =
-    batch_again law grows before batch file (gate + 1) ((gate + 1) + length (batch_octets batch)) all is_batch archive refl
-    (behind ∙ ap (λ (l : List ℕ). batch_octets batch ++ l) (sym rest_is)) (omega (arith, there)) in
-    ((before ++ batch, (gate + 1) + length (batch_octets batch)), rw (lt-ltb gate (length file) there, eq-eqb (slice_index file gate) 165 first, read) refl)
+    let first : slice_index file gate ≡ 165 =
+    ap (λ (l : List ℕ). slice_index l 0) (sym (drop_more file gate 0 there) ∙ is) in
+    let behind : drop (gate + 1) file ≡ batch_octets batch ++ rest = sym (drop-drop 1 gate file)
+    ∙ ap (drop 1) is in
+    let rest_is : drop ((gate + 1) + length (batch_octets batch)) file ≡ rest =
+    rest_behind (batch_octets batch) rest file (gate + 1) behind in
+    let read : batch_at before file (gate + 1)
+    ≡ Ok (before ++ batch, (gate + 1) + length (batch_octets batch)) =
+    batch_again law grows before batch file (gate + 1) ((gate + 1) + length (batch_octets batch))
+    all is_batch archive refl
+    (behind ∙ ap (λ (l : List ℕ). batch_octets batch ++ l) (sym rest_is)) (omega (arith, there)) in (
+      (before ++ batch, (gate + 1) + length (batch_octets batch)),
+      rw (lt-ltb gate (length file) there, eq-eqb (slice_index file gate) 165 first, read) refl,
+    )
 
-shut_again : (before : List Entry) (rest file : List ℕ) (gate shut : ℕ) → shut ≢ 165 → drop gate file ≡ shut ∷ rest → gate < length file → gate_at before file gate ≡ Ok None
+shut_again : (before : List Entry) (rest file : List ℕ) (gate shut : ℕ) → shut ≢ 165
+    → drop gate file ≡ shut ∷ rest → gate < length file → gate_at before file gate ≡ Ok None
 unfolding gate_at
 shut_again before rest file gate shut closed is there =
-    let first : slice_index file gate ≡ shut = ap (λ (l : List ℕ). slice_index l 0) (sym (drop_more file gate 0 there) ∙ is) in
+    let first : slice_index file gate ≡ shut =
+    ap (λ (l : List ℕ). slice_index l 0) (sym (drop_more file gate 0 there) ∙ is) in
     let other : (slice_index file gate == 165) ≡ false = grind (arith, nat_tests, first, closed) in
     rw (lt-ltb gate (length file) there, other) refl
 
-ok_err : {A : Type 0} (x : A) (fault : JournalFault) → ◌≡◌ {A = Result A JournalFault} (Ok x) (Err fault) → ⊥
+ok_err : {A : Type 0} (x : A) (fault : JournalFault)
+    → ◌≡◌ {A = Result A JournalFault} (Ok x) (Err fault) → ⊥
 ok_err x fault e = cc
 
 not_past : (n : ℕ) (l : List ℕ) (x : ℕ) (xs : List ℕ) → drop n l ≡ x ∷ xs → n < length l
@@ -184,85 +263,145 @@ head_of same = ap (λ (l : List ℕ). slice_index l 0) same
 tail_of : {x y : ℕ} {xs ys : List ℕ} → x ∷ xs ≡ y ∷ ys → xs ≡ ys
 tail_of same = ap (λ (l : List ℕ). drop 1 l) same
 
-module _ (law : ReadWhereSpelled) (back : ReadBack) (grows : Grows) (file : List ℕ) (all : AreOctets file) (gate shut : ℕ) (rest : List ℕ) (closed : shut ≢ 165) (fault : JournalFault) where
-  clash : (led other : List (List Entry)) (before : List Entry) → AllByRecursion IsBatch led → AllByRecursion IsBatch other
-      → gated led ++ drop gate file ≡ gated other ++ shut ∷ rest → IsArchive (before ++ joined other) → gate_at (before ++ joined led) file gate ≡ Err fault → ⊥
+module _ (law : ReadWhereSpelled) (back : ReadBack) (grows : Grows) (file : List ℕ)
+    (all : AreOctets file) (gate shut : ℕ) (rest : List ℕ) (closed : shut ≢ 165)
+    (fault : JournalFault) where
+  clash : (led other : List (List Entry)) (before : List Entry) → AllByRecursion IsBatch led
+      → AllByRecursion IsBatch other
+      → gated led ++ drop gate file ≡ gated other ++ shut ∷ rest
+      → IsArchive (before ++ joined other) → gate_at (before ++ joined led) file gate ≡ Err fault
+      → ⊥
   clash [] [] before first second same archive e =
-      ok_err None fault (sym (shut_again (before ++ []) rest file gate shut closed same (not_past gate file shut rest same)) ∙ e)
+      ok_err None fault (sym (shut_again (before ++ []) rest file gate shut closed same
+      (not_past gate file shut rest same)) ∙ e)
   clash [] (b ∷ bs) before first second same archive e =
-      let is : drop gate file ≡ 165 ∷ (batch_octets b ++ (gated bs ++ shut ∷ rest)) = same ∙ ap (λ (l : List ℕ). 165 ∷ l) (append_assoc (batch_octets b) (gated bs) (shut ∷ rest)) in
+      let is : drop gate file ≡ 165 ∷ (batch_octets b ++ (gated bs ++ shut ∷ rest)) = same
+      ∙ ap (λ (l : List ℕ). 165 ∷ l) (append_assoc (batch_octets b) (gated bs) (shut ∷ rest)) in
       let front : IsArchive ((before ++ []) ++ b) =
       archive_front grows ((before ++ []) ++ b) (joined bs)
-      (subst IsArchive (ap (λ (l : List Entry). l ++ (b ++ joined bs)) (sym (append-nil before)) ∙ sym (append_assoc (before ++ []) b (joined bs))) archive) in
-      let found = open_again law grows (before ++ []) b (gated bs ++ shut ∷ rest) file gate all second.0 front is (not_past gate file 165 (batch_octets b ++ (gated bs ++ shut ∷ rest)) is) in
+      (subst IsArchive (ap (λ (l : List Entry). l ++ (b ++ joined bs)) (sym (append-nil before))
+      ∙ sym (append_assoc (before ++ []) b (joined bs))) archive) in
+      let found = open_again law grows (before ++ []) b (gated bs ++ shut ∷ rest) file gate all
+      second.0 front is (not_past gate file 165 (batch_octets b ++ (gated bs ++ shut ∷ rest))
+      is) in
       ok_err (Some found.0) fault (sym found.1 ∙ e)
   clash (x ∷ xs) [] before first second same archive e = closed (sym (head_of same))
   clash (x ∷ xs) (y ∷ ys) before first second same archive e =
-      let behind : batch_octets x ++ (gated xs ++ drop gate file) ≡ batch_octets y ++ (gated ys ++ shut ∷ rest) =
-      sym (append_assoc (batch_octets x) (gated xs) (drop gate file)) ∙ tail_of same ∙ append_assoc (batch_octets y) (gated ys) (shut ∷ rest) in
-      let found = same_batch back x y (gated xs ++ drop gate file) (gated ys ++ shut ∷ rest) first.0 second.0 behind in
+      let behind : batch_octets x ++ (gated xs ++ drop gate file)
+      ≡ batch_octets y ++ (gated ys ++ shut ∷ rest) =
+      sym (append_assoc (batch_octets x) (gated xs) (drop gate file)) ∙ tail_of same
+      ∙ append_assoc (batch_octets y) (gated ys) (shut ∷ rest) in
+      let found = same_batch back x y (gated xs ++ drop gate file) (gated ys ++ shut ∷ rest) first.0
+      second.0 behind in
       clash xs ys (before ++ x) first.1 second.1 found.1
-      (subst IsArchive (ap (λ (b : List Entry). before ++ (b ++ joined ys)) (sym found.0) ∙ sym (append_assoc before x (joined ys))) archive)
+      (subst IsArchive (ap (λ (b : List Entry). before ++ (b ++ joined ys)) (sym found.0)
+      ∙ sym (append_assoc before x (joined ys))) archive)
       (ap (λ (l : List Entry). gate_at l file gate) (append_assoc before x (joined xs)) ∙ e)
 
 same_rest : (front x y : List ℕ) → front ++ x ≡ front ++ y → x ≡ y
-same_rest front x y same = sym (drop_at front x (length front) refl) ∙ ap (drop (length front)) same ∙ drop_at front y (length front) refl
+same_rest front x y same = sym (drop_at front x (length front) refl) ∙ ap (drop (length front)) same
+    ∙ drop_at front y (length front) refl
 
 -- a damaged file stands for nothing
-pub damaged_stands_for_none : ReadWhereSpelled → ReadBack → Grows → (place : ℕ) (entries : List Entry) (there : ℕ) (file : List ℕ) → AreOctets file → IsDamagedAt place file → StandsAt entries there file → ⊥
+pub damaged_stands_for_none : ReadWhereSpelled → ReadBack → Grows
+    → (place : ℕ) (entries : List Entry) (there : ℕ) (file : List ℕ) → AreOctets file
+    → IsDamagedAt place file → StandsAt entries there file → ⊥
 damaged_stands_for_none law back grows place entries there file all damaged stands =
-    clash law back grows file all damaged.gate stands.gate stands.rest stands.shut (Damaged place) damaged.led.batches stands.batches [] damaged.led.leads.each stands.leads.each
-    (same_rest header (gated damaged.led.batches ++ drop damaged.gate file) (gated stands.batches ++ stands.gate ∷ stands.rest) (sym damaged.led.is ∙ stands.is))
+    clash law back grows file all damaged.gate stands.gate stands.rest stands.shut (Damaged place)
+    damaged.led.batches stands.batches [] damaged.led.leads.each stands.leads.each
+    (same_rest header (gated damaged.led.batches ++ drop damaged.gate file)
+    (gated stands.batches ++ stands.gate ∷ stands.rest) (sym damaged.led.is ∙ stands.is))
     (subst IsArchive stands.leads.entries_are stands.leads.archive)
-    (ap (λ (l : List Entry). gate_at l file damaged.gate) (sym damaged.led.leads.entries_are) ∙ damaged.fault)
+    (ap (λ (l : List Entry). gate_at l file damaged.gate) (sym damaged.led.leads.entries_are)
+    ∙ damaged.fault)
 
 -- and so does one that is no journal
-pub other_stands_for_none : (place : ℕ) (entries : List Entry) (there : ℕ) (file : List ℕ) → IsNoJournal place file → StandsAt entries there file → ⊥
+pub other_stands_for_none : (place : ℕ) (entries : List Entry) (there : ℕ) (file : List ℕ)
+    → IsNoJournal place file → StandsAt entries there file → ⊥
 other_stands_for_none place entries there file other stands =
     let behind = gated stands.batches ++ stands.gate ∷ stands.rest in
-    let inside : place < length file = omega (arith, other.inside, ap length stands.is, length-append header behind) in
-    other.differs inside (ap (λ (l : List ℕ). slice_index l place) stands.is ∙ get_or_append_left header behind 0 place other.inside)
+    let inside : place < length file = omega (
+      arith,
+      other.inside,
+      ap length stands.is,
+      length-append header behind,
+    ) in
+    other.differs inside (ap (λ (l : List ℕ). slice_index l place) stands.is
+    ∙ get_or_append_left header behind 0 place other.inside)
 
 -- ---- one place
 
-damage_is : (p q : ℕ) → ◌≡◌ {A = Result (Option (List Entry × ℕ)) JournalFault} (Err (Damaged p)) (Err (Damaged q)) → p ≡ q
+damage_is : (p q : ℕ) → ◌≡◌ {A = Result (Option (List Entry × ℕ)) JournalFault} (Err (Damaged p))
+    (Err (Damaged q)) → p ≡ q
 damage_is p q e = cc
 
-module _ (law : ReadWhereSpelled) (back : ReadBack) (grows : Grows) (file : List ℕ) (all : AreOctets file) where
+module _ (law : ReadWhereSpelled) (back : ReadBack) (grows : Grows) (file : List ℕ)
+    (all : AreOctets file) where
   -- a batch that stands at a gate with a fault
-  no_batch : (before batch : List Entry) (others : List (List Entry)) (rest : List ℕ) (gate : ℕ) (fault : JournalFault) → IsBatch batch → IsArchive (before ++ (batch ++ joined others))
-      → drop gate file ≡ 165 ∷ ((batch_octets batch ++ gated others) ++ rest) → gate_at before file gate ≡ Err fault → ⊥
+  no_batch : (before batch : List Entry) (others : List (List Entry)) (rest : List ℕ) (gate : ℕ)
+      (fault : JournalFault) → IsBatch batch → IsArchive (before ++ (batch ++ joined others))
+      → drop gate file ≡ 165 ∷ ((batch_octets batch ++ gated others) ++ rest)
+      → gate_at before file gate ≡ Err fault → ⊥
   no_batch before batch others rest gate fault is_batch archive is e =
-      let split : drop gate file ≡ 165 ∷ (batch_octets batch ++ (gated others ++ rest)) = is ∙ ap (λ (l : List ℕ). 165 ∷ l) (append_assoc (batch_octets batch) (gated others) rest) in
-      let front : IsArchive (before ++ batch) = archive_front grows (before ++ batch) (joined others) (subst IsArchive (sym (append_assoc before batch (joined others))) archive) in
-      let found = open_again law grows before batch (gated others ++ rest) file gate all is_batch front split (not_past gate file 165 (batch_octets batch ++ (gated others ++ rest)) split) in
+      let split : drop gate file ≡ 165 ∷ (batch_octets batch ++ (gated others ++ rest)) = is
+      ∙ ap (λ (l : List ℕ). 165 ∷ l) (append_assoc (batch_octets batch) (gated others) rest) in
+      let front : IsArchive (before ++ batch) =
+      archive_front grows (before ++ batch) (joined others)
+      (subst IsArchive (sym (append_assoc before batch (joined others))) archive) in
+      let found = open_again law grows before batch (gated others ++ rest) file gate all is_batch
+      front split (not_past gate file 165 (batch_octets batch ++ (gated others ++ rest)) split)
+      in
       ok_err (Some found.0) fault (sym found.1 ∙ e)
 
-  one_damage : (one other : List (List Entry)) (before : List Entry) (g h p q : ℕ) → AllByRecursion IsBatch one → AllByRecursion IsBatch other
-      → IsArchive (before ++ joined one) → IsArchive (before ++ joined other) → gated one ++ drop g file ≡ gated other ++ drop h file → g + length (gated other) ≡ h + length (gated one)
-      → gate_at (before ++ joined one) file g ≡ Err (Damaged p) → gate_at (before ++ joined other) file h ≡ Err (Damaged q) → p ≡ q
+  one_damage : (one other : List (List Entry)) (before : List Entry) (g h p q : ℕ)
+      → AllByRecursion IsBatch one → AllByRecursion IsBatch other
+      → IsArchive (before ++ joined one) → IsArchive (before ++ joined other)
+      → gated one ++ drop g file ≡ gated other ++ drop h file
+      → g + length (gated other) ≡ h + length (gated one)
+      → gate_at (before ++ joined one) file g ≡ Err (Damaged p)
+      → gate_at (before ++ joined other) file h ≡ Err (Damaged q) → p ≡ q
   one_damage [] [] before g h p q first second a b same places e f =
       let gates : g ≡ h = omega (arith, places) in
       damage_is p q (sym e ∙ ap (λ (n : ℕ). gate_at (before ++ []) file n) gates ∙ f)
   one_damage [] (y ∷ ys) before g h p q first second a b same places e f =
-      absurd (no_batch before y ys (drop h file) g (Damaged p) second.0 b same (ap (λ (l : List Entry). gate_at l file g) (sym (append-nil before)) ∙ e))
+      absurd (no_batch before y ys (drop h file) g (Damaged p) second.0 b same
+      (ap (λ (l : List Entry). gate_at l file g) (sym (append-nil before)) ∙ e))
   one_damage (x ∷ xs) [] before g h p q first second a b same places e f =
-      absurd (no_batch before x xs (drop g file) h (Damaged q) first.0 a (sym same) (ap (λ (l : List Entry). gate_at l file h) (sym (append-nil before)) ∙ f))
+      absurd (no_batch before x xs (drop g file) h (Damaged q) first.0 a (sym same)
+      (ap (λ (l : List Entry). gate_at l file h) (sym (append-nil before)) ∙ f))
   one_damage (x ∷ xs) (y ∷ ys) before g h p q first second a b same places e f =
-      let behind : batch_octets x ++ (gated xs ++ drop g file) ≡ batch_octets y ++ (gated ys ++ drop h file) =
-      sym (append_assoc (batch_octets x) (gated xs) (drop g file)) ∙ tail_of same ∙ append_assoc (batch_octets y) (gated ys) (drop h file) in
-      let found = same_batch back x y (gated xs ++ drop g file) (gated ys ++ drop h file) first.0 second.0 behind in
-      one_damage xs ys (before ++ x) g h p q first.1 second.1 (subst IsArchive (sym (append_assoc before x (joined xs))) a)
-      (subst IsArchive (ap (λ (l : List Entry). before ++ (l ++ joined ys)) (sym found.0) ∙ sym (append_assoc before x (joined ys))) b) found.1
-      (omega (arith, places, ap (λ (l : List Entry). length (batch_octets l)) found.0, length-append (batch_octets x) (gated xs), length-append (batch_octets y) (gated ys)))
+      let behind : batch_octets x ++ (gated xs ++ drop g file)
+      ≡ batch_octets y ++ (gated ys ++ drop h file) =
+      sym (append_assoc (batch_octets x) (gated xs) (drop g file)) ∙ tail_of same
+      ∙ append_assoc (batch_octets y) (gated ys) (drop h file) in
+      let found = same_batch back x y (gated xs ++ drop g file) (gated ys ++ drop h file) first.0
+      second.0 behind in
+      one_damage xs ys (before ++ x) g h p q first.1 second.1
+      (subst IsArchive (sym (append_assoc before x (joined xs))) a)
+      (subst IsArchive (ap (λ (l : List Entry). before ++ (l ++ joined ys)) (sym found.0)
+      ∙ sym (append_assoc before x (joined ys))) b) found.1
+      (omega (
+        arith,
+        places,
+        ap (λ (l : List Entry). length (batch_octets l)) found.0,
+        length-append (batch_octets x) (gated xs),
+        length-append (batch_octets y) (gated ys),
+      ))
       (ap (λ (l : List Entry). gate_at l file g) (append_assoc before x (joined xs)) ∙ e)
-      (ap (λ (l : List Entry). gate_at l file h) (append_assoc before x (joined ys) ∙ ap (λ (l : List Entry). before ++ (l ++ joined ys)) found.0) ∙ f)
+      (ap (λ (l : List Entry). gate_at l file h) (append_assoc before x (joined ys)
+      ∙ ap (λ (l : List Entry). before ++ (l ++ joined ys)) found.0) ∙ f)
 
-pub one_place : ReadWhereSpelled → ReadBack → Grows → (p q : ℕ) (file : List ℕ) → AreOctets file → IsDamagedAt p file → IsDamagedAt q file → p ≡ q
+pub one_place : ReadWhereSpelled → ReadBack → Grows → (p q : ℕ) (file : List ℕ) → AreOctets file
+    → IsDamagedAt p file → IsDamagedAt q file → p ≡ q
 one_place law back grows p q file all first second =
-    one_damage law back grows file all first.led.batches second.led.batches [] first.gate second.gate p q first.led.leads.each second.led.leads.each
-    (subst IsArchive first.led.leads.entries_are first.led.leads.archive) (subst IsArchive second.led.leads.entries_are second.led.leads.archive)
-    (same_rest header (gated first.led.batches ++ drop first.gate file) (gated second.led.batches ++ drop second.gate file) (sym first.led.is ∙ second.led.is))
+    one_damage law back grows file all first.led.batches second.led.batches [] first.gate
+    second.gate p q first.led.leads.each second.led.leads.each
+    (subst IsArchive first.led.leads.entries_are first.led.leads.archive)
+    (subst IsArchive second.led.leads.entries_are second.led.leads.archive)
+    (same_rest header (gated first.led.batches ++ drop first.gate file)
+    (gated second.led.batches ++ drop second.gate file) (sym first.led.is ∙ second.led.is))
     (omega (arith, first.led.leads.there, second.led.leads.there))
-    (ap (λ (l : List Entry). gate_at l file first.gate) (sym first.led.leads.entries_are) ∙ first.fault)
-    (ap (λ (l : List Entry). gate_at l file second.gate) (sym second.led.leads.entries_are) ∙ second.fault)
+    (ap (λ (l : List Entry). gate_at l file first.gate) (sym first.led.leads.entries_are)
+    ∙ first.fault)
+    (ap (λ (l : List Entry). gate_at l file second.gate) (sym second.led.leads.entries_are)
+    ∙ second.fault)

@@ -1,5 +1,6 @@
 -- A batch that follows what is kept.
-use Rattle.std.proofs.Common.{◌≡◌, ◌++◌, ◌&&◌, Bool, true, false, ℕ, List, Option, Some, None, IfSome, IsTrue, refl, sym, subst, ◌∙◌}
+use Rattle.std.proofs.Common.{◌≡◌, ◌++◌, ◌&&◌, Bool, true, false, ℕ, List, Option, Some, None}
+use Rattle.std.proofs.Common.{IfSome, IsTrue, refl, sym, subst, ◌∙◌}
 use Rattle.std.specs.List.{list_all}
 use Rattle.std.proofs.lemmas.List.Folds.{list_all-append}
 use Rattle.archive_terms.specs.Archive.{Entry, IsArchive, is_storable, is_ordered}
@@ -13,16 +14,26 @@ both : (a b : Bool) → (a && b) ≡ true → (a ≡ true) × (b ≡ true)
 both true b e = (refl, e)
 both false b e = absurd (cc)
 
-pub batch_storable : (stored batch : List Entry) → IsArchive (stored ++ batch) → IsTrue (list_all is_storable batch)
+pub batch_storable : (stored batch : List Entry) → IsArchive (stored ++ batch)
+    → IsTrue (list_all is_storable batch)
 batch_storable stored batch archive =
     (both (list_all is_storable stored) (list_all is_storable batch)
-    (sym (list_all-append is_storable stored batch) ∙ (both (list_all is_storable (stored ++ batch)) (is_ordered (stored ++ batch)) archive).0)).1
+    (sym (list_all-append is_storable stored batch)
+    ∙ (both (list_all is_storable (stored ++ batch)) (is_ordered (stored ++ batch))
+    archive).0)).1
 
-pub follows_kept : ReadBack → (pending : Option Pending) (stored batch entries : List Entry) → Keeps pending stored → IsArchive (stored ++ batch) → Keeps pending entries → IsArchive (entries ++ batch)
+pub follows_kept : ReadBack → (pending : Option Pending) (stored batch entries : List Entry)
+    → Keeps pending stored → IsArchive (stored ++ batch) → Keeps pending entries
+    → IsArchive (entries ++ batch)
 follows_kept law (Some told) stored batch entries kept archive keeps =
-    subst (λ (l : List Entry). IsArchive (l ++ batch)) (stands_for_one law stored entries kept.1.0 keeps.1.0 told.content kept.1.1 keeps.1.1).0 archive
+    subst (λ (l : List Entry). IsArchive (l ++ batch))
+    (stands_for_one law stored entries kept.1.0 keeps.1.0 told.content kept.1.1 keeps.1.1).0
+    archive
 follows_kept law None stored batch entries kept archive keeps = absurd kept
 
-pub found_is_kept : ReadBack → (pending : Option Pending) (entries found : List Entry) (gate : ℕ) → Keeps pending entries → IfSome pending (λ told. StandsAt found gate told.content) → found ≡ entries
-found_is_kept law (Some told) entries found gate keeps stands = (stands_for_one law found entries gate keeps.1.0 told.content stands keeps.1.1).0
+pub found_is_kept : ReadBack → (pending : Option Pending) (entries found : List Entry) (gate : ℕ)
+    → Keeps pending entries → IfSome pending (λ told. StandsAt found gate told.content)
+    → found ≡ entries
+found_is_kept law (Some told) entries found gate keeps stands =
+    (stands_for_one law found entries gate keeps.1.0 told.content stands keeps.1.1).0
 found_is_kept law None entries found gate keeps stands = absurd keeps

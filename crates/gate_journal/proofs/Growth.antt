@@ -1,38 +1,52 @@
 -- A journal grows by entries that are read, and by batches.
-use Rattle.std.proofs.Common.{◌≡◌, ◌≢◌, ◌⊎◌, inl, inr, ℕ, zero, suc, ◌-◌, ◌+◌, ◌≤◌, ◌<◌, ◌==◌, Bool, true, false, ◌&&◌, List, [], ◌∷◌, ◌++◌, length, take, drop, slice_index, nat_lt, nat_le, min, IsTrue, if◌then◌else◌, Option, Some, None, option_map, IfNone, Result, Ok, Err, refl, sym, ap, subst, ◌∙◌, arith, append_assoc}
+use Rattle.std.proofs.Common.{◌≡◌, ◌≢◌, ◌⊎◌, inl, inr, ℕ, zero, suc, ◌-◌, ◌+◌, ◌≤◌, ◌<◌, ◌==◌, Bool}
+use Rattle.std.proofs.Common.{true, false, ◌&&◌, List, [], ◌∷◌, ◌++◌, length, take, drop}
+use Rattle.std.proofs.Common.{slice_index, nat_lt, nat_le, min, IsTrue, if◌then◌else◌, Option, Some}
+use Rattle.std.proofs.Common.{None, option_map, IfNone, Result, Ok, Err, refl, sym, ap, subst, ◌∙◌}
+use Rattle.std.proofs.Common.{arith, append_assoc}
 use Rattle.std.specs.List.{AllByRecursion, list_all, flat_map}
 use Rattle.std.specs.Int.{w16, w32, to_be_bytes, from_be_bytes}
-use Rattle.std.proofs.lemmas.List.{append-nil, take-append-drop, drop-drop, drop_more, length-append, length-take, length-drop, get_or-take, get_or-drop, get_or_past}
+use Rattle.std.proofs.lemmas.List.{append-nil, take-append-drop, drop-drop, drop_more}
+use Rattle.std.proofs.lemmas.List.{length-append, length-take, length-drop, get_or-take}
+use Rattle.std.proofs.lemmas.List.{get_or-drop, get_or_past}
 use Rattle.std.proofs.lemmas.List.Concat.{flat_map-cons}
 use Rattle.std.proofs.lemmas.Bool.{eqb-true, ltb-true, ltb-false, cases_lt}
 use Rattle.std.proofs.lemmas.Bool.Decides.{nat_tests}
 use Rattle.std.proofs.lemmas.Nat.{be_bytes_2, be_bytes_4}
-use Rattle.archive_terms.specs.Archive.{Entry, IsArchive, is_archive, is_storable, may_follow, keeps_order}
+use Rattle.archive_terms.specs.Archive.{Entry, IsArchive, is_archive, is_storable, may_follow}
+use Rattle.archive_terms.specs.Archive.{keeps_order}
 use Rattle.record_form.specs.declared.fault.EntryFault.{EntryFault}
 use Rattle.record_form.specs.Spelling.{entry_octets}
 use Rattle.record_form.specs.Reading.{AreOctets, ReadWhereSpelled, StandsFrom, entry_from}
 use Rattle.gate_journal.specs.declared.fault.JournalFault.{JournalFault}
 use Rattle.gate_journal.specs.declared.fault.JournalFault.TheVariants.{Damaged}
-use Rattle.gate_journal.specs.File.{header, entries_octets, batch_octets, IsBatch, gated, joined, Leads, StandsAt}
-use Rattle.gate_journal.specs.Reading.{◌>>=◌, with_next, first_fault, next_entry, entries_at, ending_at, lesser, size_at, count_at, batch_at, gate_at, LedTo}
+use Rattle.gate_journal.specs.File.{header, entries_octets, batch_octets, IsBatch, gated, joined}
+use Rattle.gate_journal.specs.File.{Leads, StandsAt}
+use Rattle.gate_journal.specs.Reading.{◌>>=◌, with_next, first_fault, next_entry, entries_at}
+use Rattle.gate_journal.specs.Reading.{ending_at, lesser, size_at, count_at, batch_at, gate_at}
+use Rattle.gate_journal.specs.Reading.{LedTo}
 
 -- ---- readings that answer Ok
 
-bind_ok : {A B : Type 0} (r : Result A JournalFault) (f : A → Result B JournalFault) (y : B) → (r >>= f) ≡ Ok y → (x : A) × (r ≡ Ok x) × (f x ≡ Ok y)
+bind_ok : {A B : Type 0} (r : Result A JournalFault) (f : A → Result B JournalFault) (y : B)
+    → (r >>= f) ≡ Ok y → (x : A) × (r ≡ Ok x) × (f x ≡ Ok y)
 bind_ok (Ok x) f y e = (x, refl, e)
 bind_ok (Err fault) f y e = cc
 
 ok_is : {A : Type 0} (x y : A) → ◌≡◌ {A = Result A JournalFault} (Ok x) (Ok y) → x ≡ y
 ok_is x y e = cc
 
-err_ok : {A : Type 0} (fault : JournalFault) (x : A) → ◌≡◌ {A = Result A JournalFault} (Err fault) (Ok x) → ⊥
+err_ok : {A : Type 0} (fault : JournalFault) (x : A)
+    → ◌≡◌ {A = Result A JournalFault} (Err fault) (Ok x) → ⊥
 err_ok fault x e = cc
 
-good : {A : Type 0} (test : Bool) (r : Result A JournalFault) (fault : JournalFault) (x : A) → (if test then r else Err fault) ≡ Ok x → (test ≡ true) × (r ≡ Ok x)
+good : {A : Type 0} (test : Bool) (r : Result A JournalFault) (fault : JournalFault) (x : A)
+    → (if test then r else Err fault) ≡ Ok x → (test ≡ true) × (r ≡ Ok x)
 good true r fault x e = (refl, e)
 good false r fault x e = absurd (err_ok fault x e)
 
-no_fault : {A : Type 0} (test : Bool) (r : Result A JournalFault) (fault : JournalFault) (x : A) → (if test then Err fault else r) ≡ Ok x → (test ≡ false) × (r ≡ Ok x)
+no_fault : {A : Type 0} (test : Bool) (r : Result A JournalFault) (fault : JournalFault) (x : A)
+    → (if test then Err fault else r) ≡ Ok x → (test ≡ false) × (r ≡ Ok x)
 no_fault true r fault x e = absurd (err_ok fault x e)
 no_fault false r fault x e = (refl, e)
 
@@ -46,7 +60,8 @@ abbrev pub Grows : Type 0
 Grows = (a : List Entry) (e : Entry) → is_archive (a ++ e ∷ []) ≡ (is_archive a && may_follow a e)
 
 -- entries that stand from one place to another, behind others
-pub record Stand (before after : List Entry) (count : ℕ) (file : List ℕ) (place end : ℕ) : Type 0 where
+pub record Stand (before after : List Entry) (count : ℕ) (file : List ℕ) (place end : ℕ) : Type
+    0 where
   pub batch : List Entry
   pub after_is : after ≡ before ++ batch
   pub count_is : length batch ≡ count
@@ -54,41 +69,57 @@ pub record Stand (before after : List Entry) (count : ℕ) (file : List ℕ) (pl
   pub ends : end ≡ place + length (entries_octets batch)
   pub spelled : drop place file ≡ entries_octets batch ++ drop end file
 
-pub record One (before after : List Entry) (entry : Entry) (file : List ℕ) (place end : ℕ) : Type 0 where
+pub record One (before after : List Entry) (entry : Entry) (file : List ℕ) (place end : ℕ) : Type
+    0 where
   pub after_is : after ≡ before ++ entry ∷ []
   pub in_order : keeps_order before entry ≡ true
   pub stands : StandsFrom place file entry end
 
-with_next_ok : (before : List Entry) (file : List ℕ) (place : ℕ) (read : Result (Entry × ℕ) EntryFault) (after : List Entry) (end : ℕ)
+with_next_ok : (before : List Entry) (file : List ℕ) (place : ℕ)
+    (read : Result (Entry × ℕ) EntryFault) (after : List Entry) (end : ℕ)
     → ((entry : Entry) (end : ℕ) → read ≡ Ok (entry, end) → StandsFrom place file entry end)
-    → with_next before file place read ≡ Ok (after, end) → (entry : Entry) × One before after entry file place end
+    → with_next before file place read ≡ Ok (after, end)
+    → (entry : Entry) × One before after entry file place end
 with_next_ok before file place (Ok read) after end law e =
-    let found = good (keeps_order before read.0) (Ok (before ++ read.0 ∷ [], read.1)) (Damaged (place + 1)) (after, end) e in
-    let made : ◌≡◌ {A = List Entry × ℕ} (before ++ read.0 ∷ [], read.1) (after, end) = ok_is (before ++ read.0 ∷ [], read.1) (after, end) found.1 in (
+    let found = good (keeps_order before read.0) (Ok (before ++ read.0 ∷ [], read.1))
+    (Damaged (place + 1)) (after, end) e in
+    let made : ◌≡◌ {A = List Entry × ℕ} (before ++ read.0 ∷ [], read.1) (after, end) =
+    ok_is (before ++ read.0 ∷ [], read.1) (after, end) found.1 in (
       read.0,
       record {
         after_is = sym (ap (λ (p : List Entry × ℕ). p.0) made);
         in_order = found.0;
-        stands = subst (StandsFrom place file read.0) (ap (λ (p : List Entry × ℕ). p.1) made) (law read.0 read.1 refl);
+        stands = subst (StandsFrom place file read.0) (ap (λ (p : List Entry × ℕ). p.1) made)
+            (law read.0 read.1 refl);
       },
     )
-with_next_ok before file place (Err fault) after end law e = absurd (err_ok (Damaged (first_fault before file place fault)) (after, end) e)
+with_next_ok before file place (Err fault) after end law e =
+    absurd (err_ok (Damaged (first_fault before file place fault)) (after, end) e)
 
-next_ok : ReadWhereSpelled → (before : List Entry) (file : List ℕ) (place : ℕ) (after : List Entry) (end : ℕ) → AreOctets file
-    → next_entry before file place ≡ Ok (after, end) → (entry : Entry) × One before after entry file place end
+next_ok : ReadWhereSpelled → (before : List Entry) (file : List ℕ) (place : ℕ) (after : List Entry)
+    (end : ℕ) → AreOctets file
+    → next_entry before file place ≡ Ok (after, end)
+    → (entry : Entry) × One before after entry file place end
 unfolding next_entry
 next_ok law before file place after end all e =
-    with_next_ok before file place (entry_from place file) after end (λ entry stop read. (law place file entry stop all).0 read) e
+    with_next_ok before file place (entry_from place file) after end
+    (λ entry stop read. (law place file entry stop all).0 read) e
 
-grown : Grows → (before after : List Entry) (entry : Entry) (file : List ℕ) (place end : ℕ) → One before after entry file place end → IsArchive before → IsArchive after
+grown : Grows → (before after : List Entry) (entry : Entry) (file : List ℕ) (place end : ℕ)
+    → One before after entry file place end → IsArchive before → IsArchive after
 grown grows before after entry file place end one archive =
-    subst IsArchive (sym one.after_is) (grows before entry ∙ rw (archive, one.stands.storable, one.in_order) refl)
+    subst IsArchive (sym one.after_is) (grows before entry
+    ∙ rw (archive, one.stands.storable, one.in_order) refl)
 
-entries_ok : ReadWhereSpelled → Grows → (count : ℕ) (before : List Entry) (file : List ℕ) (place : ℕ) (after : List Entry) (end : ℕ) → AreOctets file → IsArchive before
-    → entries_at count before file place ≡ Ok (after, end) → Stand before after count file place end × IsArchive after
+entries_ok : ReadWhereSpelled → Grows
+    → (count : ℕ) (before : List Entry) (file : List ℕ) (place : ℕ) (after : List Entry) (end : ℕ)
+    → AreOctets file → IsArchive before
+    → entries_at count before file place ≡ Ok (after, end)
+    → Stand before after count file place end × IsArchive after
 unfolding entries_at
 entries_ok law grows zero before file place after end all archive e =
-    let made : ◌≡◌ {A = List Entry × ℕ} (before, place) (after, end) = ok_is (before, place) (after, end) e in
+    let made : ◌≡◌ {A = List Entry × ℕ} (before, place) (after, end) =
+    ok_is (before, place) (after, end) e in
     let after_is : before ≡ after = ap (λ (p : List Entry × ℕ). p.0) made in
     let end_is : place ≡ end = ap (λ (p : List Entry × ℕ). p.1) made in (
       record {
@@ -102,20 +133,31 @@ entries_ok law grows zero before file place after end all archive e =
       subst IsArchive after_is archive,
     )
 entries_ok law grows (suc count) before file place after end all archive e =
-    let next = bind_ok (next_entry before file place) (λ read. entries_at count read.0 file read.1) (after, end) e in
+    let next = bind_ok (next_entry before file place) (λ read. entries_at count read.0 file read.1)
+    (after, end) e in
     let one = next_ok law before file place next.0.0 next.0.1 all next.1 in
     let mid = next.0.0 in
     let entry = one.0 in
-    let rest = entries_ok law grows count mid file next.0.1 after end all (grown grows before mid entry file place next.0.1 one.1 archive) next.2 in
+    let rest = entries_ok law grows count mid file next.0.1 after end all
+    (grown grows before mid entry file place next.0.1 one.1 archive) next.2 in
     let more = rest.0.batch in (
       record {
         batch = entry ∷ more;
-        after_is = rest.0.after_is ∙ ap (λ (l : List Entry). l ++ more) one.1.after_is ∙ append_assoc before (entry ∷ []) more;
+        after_is = rest.0.after_is ∙ ap (λ (l : List Entry). l ++ more) one.1.after_is
+            ∙ append_assoc before (entry ∷ []) more;
         count_is = ap suc rest.0.count_is;
         storable = rw (one.1.stands.storable) rest.0.storable;
-        ends = omega (arith, one.1.stands.ends, rest.0.ends, ap length (flat_map-cons entry_octets entry more), length-append (entry_octets entry) (entries_octets more));
+        ends = omega (
+          arith,
+          one.1.stands.ends,
+          rest.0.ends,
+          ap length (flat_map-cons entry_octets entry more),
+          length-append (entry_octets entry) (entries_octets more),
+        );
         spelled = one.1.stands.spelled ∙ ap (λ (l : List ℕ). entry_octets entry ++ l) rest.0.spelled
-            ∙ sym (append_assoc (entry_octets entry) (entries_octets more) (drop end file)) ∙ ap (λ (l : List ℕ). l ++ drop end file) (sym (flat_map-cons entry_octets entry more));
+            ∙ sym (append_assoc (entry_octets entry) (entries_octets more) (drop end file))
+            ∙ ap (λ (l : List ℕ). l ++ drop end file)
+            (sym (flat_map-cons entry_octets entry more));
       },
       rest.1,
     )
@@ -126,10 +168,15 @@ taken_octets : (n place : ℕ) (file : List ℕ) → AreOctets file → AreOctet
 taken_octets n place file all k =
     elim (cases_lt k n) [
       | inl below ↦ rw (get_or-take n (drop place file) k 0 below, get_or-drop) (all (place + k))
-      | inr past ↦ omega (arith, get_or_past (take n (drop place file)) k 0 (omega (arith, length-take n (drop place file))))
+      | inr past ↦ omega (
+        arith,
+        get_or_past (take n (drop place file)) k 0
+            (omega (arith, length-take n (drop place file))),
+      )
     ]
 
-ending_ok : (stated : ℕ) (r : Result (List Entry × ℕ) JournalFault) (after : List Entry) (end : ℕ) → ending_at stated r ≡ Ok (after, end) → (r ≡ Ok (after, end)) × (end ≡ stated)
+ending_ok : (stated : ℕ) (r : Result (List Entry × ℕ) JournalFault) (after : List Entry) (end : ℕ)
+    → ending_at stated r ≡ Ok (after, end) → (r ≡ Ok (after, end)) × (end ≡ stated)
 ending_ok stated (Ok read) after end e =
     let found = good (read.1 == stated) (Ok read) (Damaged (min read.1 stated)) (after, end) e in
     let read_is : read ≡ (after, end) = ok_is read (after, end) found.1 in
@@ -147,67 +194,101 @@ pub record Batch (before after : List Entry) (file : List ℕ) (place end : ℕ)
   pub ends : end ≡ place + length (batch_octets batch)
   pub spelled : drop place file ≡ batch_octets batch ++ drop end file
 
-in_three : (file : List ℕ) (place : ℕ) → drop place file ≡ take 4 (drop place file) ++ (take 2 (drop (place + 4) file) ++ drop (place + 6) file)
+in_three : (file : List ℕ) (place : ℕ) → drop place file
+    ≡ take 4 (drop place file) ++ (take 2 (drop (place + 4) file) ++ drop (place + 6) file)
 in_three file place =
-    let behind : drop 2 (drop (place + 4) file) ≡ drop (place + 6) file = drop-drop 2 (place + 4) file ∙ ap (λ (n : ℕ). drop n file) (omega arith) in
+    let behind : drop 2 (drop (place + 4) file) ≡ drop (place + 6) file =
+    drop-drop 2 (place + 4) file ∙ ap (λ (n : ℕ). drop n file) (omega arith) in
     sym (take-append-drop 4 (drop place file))
     ∙ ap (λ (l : List ℕ). take 4 (drop place file) ++ l)
-    (drop-drop 4 place file ∙ sym (take-append-drop 2 (drop (place + 4) file)) ∙ ap (λ (l : List ℕ). take 2 (drop (place + 4) file) ++ l) behind)
+    (drop-drop 4 place file ∙ sym (take-append-drop 2 (drop (place + 4) file))
+    ∙ ap (λ (l : List ℕ). take 2 (drop (place + 4) file) ++ l) behind)
 
 parts : (a x b y c z : List ℕ) → a ≡ x → b ≡ y → c ≡ z → a ++ (b ++ c) ≡ x ++ (y ++ z)
 parts a x b y c z p q r = rw (p, q, r) refl
 
-batch_ok : ReadWhereSpelled → Grows → (before : List Entry) (file : List ℕ) (place : ℕ) (after : List Entry) (end : ℕ) → AreOctets file → IsArchive before
-    → batch_at before file place ≡ Ok (after, end) → Batch before after file place end × IsArchive after
+batch_ok : ReadWhereSpelled → Grows
+    → (before : List Entry) (file : List ℕ) (place : ℕ) (after : List Entry) (end : ℕ)
+    → AreOctets file → IsArchive before
+    → batch_at before file place ≡ Ok (after, end)
+    → Batch before after file place end × IsArchive after
 unfolding batch_at
 batch_ok law grows before file place after end all archive e =
-    let long = no_fault (nat_lt (length file) (place + 6)) _ (Damaged (length file)) (after, end) e in
+    let long = no_fault (nat_lt (length file) (place + 6)) _ (Damaged (length file)) (
+      after,
+      end,
+    ) e in
     let enough : place + 6 ≤ length file = ltb-false (length file) (place + 6) long.0 in
-    let counted = good (nat_le 1 (count_at file place) && nat_le (count_at file place) 256) _ (Damaged (place + 4)) (after, end) long.1 in
+    let counted = good (nat_le 1 (count_at file place) && nat_le (count_at file place) 256) _
+    (Damaged (place + 4)) (after, end) long.1 in
     let range = between (count_at file place) counted.0 in
-    let ended = ending_ok (place + 6 + size_at file place) (entries_at (count_at file place) before file (place + 6)) after end counted.1 in
-    let read = entries_ok law grows (count_at file place) before file (place + 6) after end all archive ended.0 in
+    let ended = ending_ok (place + 6 + size_at file place)
+    (entries_at (count_at file place) before file (place + 6)) after end counted.1 in
+    let read = entries_ok law grows (count_at file place) before file (place + 6) after end all
+    archive ended.0 in
     let batch = read.0.batch in
-    let size_is : size_at file place ≡ length (entries_octets batch) = omega (arith, ended.1, read.0.ends) in
+    let size_is : size_at file place ≡ length (entries_octets batch) =
+    omega (arith, ended.1, read.0.ends) in
     let size : to_be_bytes w32 (length (entries_octets batch)) ≡ take 4 (drop place file) =
-    be_bytes_4 (take 4 (drop place file)) (length (entries_octets batch)) (omega (arith, length-take 4 (drop place file), length-drop place file)) (taken_octets 4 place file all) (sym size_is) in
+    be_bytes_4 (take 4 (drop place file)) (length (entries_octets batch))
+    (omega (arith, length-take 4 (drop place file), length-drop place file))
+    (taken_octets 4 place file all) (sym size_is) in
     let count : to_be_bytes w16 (length batch) ≡ take 2 (drop (place + 4) file) =
-    be_bytes_2 (take 2 (drop (place + 4) file)) (length batch) (omega (arith, length-take 2 (drop (place + 4) file), length-drop (place + 4) file)) (taken_octets 2 (place + 4) file all) read.0.count_is in (
+    be_bytes_2 (take 2 (drop (place + 4) file)) (length batch)
+    (omega (arith, length-take 2 (drop (place + 4) file), length-drop (place + 4) file))
+    (taken_octets 2 (place + 4) file all) read.0.count_is in (
       record {
         batch = batch;
-        is_batch = record { some = omega (arith, range.0, read.0.count_is); most = omega (arith, range.1, read.0.count_is); storable = read.0.storable };
+        is_batch = record {
+          some = omega (arith, range.0, read.0.count_is);
+          most = omega (arith, range.1, read.0.count_is);
+          storable = read.0.storable;
+        };
         after_is = read.0.after_is;
         ends = omega (arith, read.0.ends);
         spelled = in_three file place ∙ parts _ _ _ _ _ _ (sym size) (sym count) read.0.spelled
-            ∙ sym (append_assoc (to_be_bytes w32 (length (entries_octets batch))) (to_be_bytes w16 (length batch) ++ entries_octets batch) (drop end file)
-            ∙ ap (λ (l : List ℕ). to_be_bytes w32 (length (entries_octets batch)) ++ l) (append_assoc (to_be_bytes w16 (length batch)) (entries_octets batch) (drop end file)));
+            ∙ sym (append_assoc (to_be_bytes w32 (length (entries_octets batch)))
+            (to_be_bytes w16 (length batch) ++ entries_octets batch) (drop end file)
+            ∙ ap (λ (l : List ℕ). to_be_bytes w32 (length (entries_octets batch)) ++ l)
+            (append_assoc (to_be_bytes w16 (length batch)) (entries_octets batch)
+            (drop end file)));
       },
       read.1,
     )
 
 -- ---- the file up to a gate
 
-gated-append : (batches more : List (List Entry)) → gated (batches ++ more) ≡ gated batches ++ gated more
+gated-append : (batches more : List (List Entry))
+    → gated (batches ++ more) ≡ gated batches ++ gated more
 gated-append [] more = refl
 gated-append (batch ∷ batches) more =
-    ap (λ (l : List ℕ). 165 ∷ l) (ap (λ (l : List ℕ). batch_octets batch ++ l) (gated-append batches more) ∙ sym (append_assoc (batch_octets batch) (gated batches) (gated more)))
+    ap (λ (l : List ℕ). 165 ∷ l) (ap (λ (l : List ℕ). batch_octets batch ++ l)
+    (gated-append batches more) ∙ sym (append_assoc (batch_octets batch) (gated batches)
+    (gated more)))
 
-joined-append : (batches more : List (List Entry)) → joined (batches ++ more) ≡ joined batches ++ joined more
+joined-append : (batches more : List (List Entry))
+    → joined (batches ++ more) ≡ joined batches ++ joined more
 joined-append [] more = refl
-joined-append (batch ∷ batches) more = ap (λ (l : List Entry). batch ++ l) (joined-append batches more) ∙ sym (append_assoc batch (joined batches) (joined more))
+joined-append (batch ∷ batches) more = ap (λ (l : List Entry). batch ++ l)
+    (joined-append batches more) ∙ sym (append_assoc batch (joined batches) (joined more))
 
-pub all-append : (batches : List (List Entry)) (batch : List Entry) → AllByRecursion IsBatch batches → IsBatch batch → AllByRecursion IsBatch (batches ++ batch ∷ [])
+pub all-append : (batches : List (List Entry)) (batch : List Entry) → AllByRecursion IsBatch batches
+    → IsBatch batch → AllByRecursion IsBatch (batches ++ batch ∷ [])
 all-append [] batch all is = (is, tt)
 all-append (first ∷ batches) batch all is = (all.0, all-append batches batch all.1 is)
 
 one_gated : (batch : List Entry) → gated (batch ∷ []) ≡ 165 ∷ batch_octets batch
 one_gated batch = ap (λ (l : List ℕ). 165 ∷ l) (append-nil (batch_octets batch))
 
-pub gated_more : (batches : List (List Entry)) (batch : List Entry) → gated (batches ++ batch ∷ []) ≡ gated batches ++ 165 ∷ batch_octets batch
-gated_more batches batch = gated-append batches (batch ∷ []) ∙ ap (λ (l : List ℕ). gated batches ++ l) (one_gated batch)
+pub gated_more : (batches : List (List Entry)) (batch : List Entry)
+    → gated (batches ++ batch ∷ []) ≡ gated batches ++ 165 ∷ batch_octets batch
+gated_more batches batch = gated-append batches (batch ∷ [])
+    ∙ ap (λ (l : List ℕ). gated batches ++ l) (one_gated batch)
 
-pub joined_more : (batches : List (List Entry)) (batch : List Entry) → joined (batches ++ batch ∷ []) ≡ joined batches ++ batch
-joined_more batches batch = joined-append batches (batch ∷ []) ∙ ap (λ (l : List Entry). joined batches ++ l) (append-nil batch)
+pub joined_more : (batches : List (List Entry)) (batch : List Entry)
+    → joined (batches ++ batch ∷ []) ≡ joined batches ++ batch
+joined_more batches batch = joined-append batches (batch ∷ [])
+    ∙ ap (λ (l : List Entry). joined batches ++ l) (append-nil batch)
 
 pub led_at_first : (file : List ℕ) → IsArchive [] → file ≡ header ++ drop 8 file → LedTo 8 [] file
 led_at_first file archive is = record {
@@ -225,71 +306,96 @@ none_some x e = cc
 abbrev some_read : List Entry × ℕ → Result (Option (List Entry × ℕ)) JournalFault
 some_read read = Ok (Some read)
 
-open_gate : (test : Bool) (r : Result (Option (List Entry × ℕ)) JournalFault) (x : List Entry × ℕ) → (if test then r else Ok None) ≡ Ok (Some x) → (test ≡ true) × (r ≡ Ok (Some x))
+open_gate : (test : Bool) (r : Result (Option (List Entry × ℕ)) JournalFault) (x : List Entry × ℕ)
+    → (if test then r else Ok None) ≡ Ok (Some x) → (test ≡ true) × (r ≡ Ok (Some x))
 open_gate true r x e = (refl, e)
 open_gate false r x e = absurd (none_some x (ok_is None (Some x) e))
 
-closed_gate : (test : Bool) (r : Result (List Entry × ℕ) JournalFault) → (if test then (r >>= some_read) else Ok None) ≡ Ok None → test ≡ false
+closed_gate : (test : Bool) (r : Result (List Entry × ℕ) JournalFault)
+    → (if test then (r >>= some_read) else Ok None) ≡ Ok None → test ≡ false
 closed_gate true (Ok read) e = absurd (none_some read (sym (ok_is (Some read) None e)))
 closed_gate true (Err fault) e = absurd (err_ok {A = Option (List Entry × ℕ)} fault None e)
 closed_gate false r e = refl
 
-pub led_on : ReadWhereSpelled → Grows → (entries : List Entry) (file : List ℕ) (gate : ℕ) (after : List Entry) (end : ℕ) → AreOctets file → LedTo gate entries file
+pub led_on : ReadWhereSpelled → Grows
+    → (entries : List Entry) (file : List ℕ) (gate : ℕ) (after : List Entry) (end : ℕ)
+    → AreOctets file → LedTo gate entries file
     → gate_at entries file gate ≡ Ok (Some (after, end)) → LedTo end after file
 unfolding gate_at
 led_on law grows entries file gate after end all led e =
     let inside = good (nat_lt gate (length file)) _ (Damaged (length file)) (Some (after, end)) e in
     let there : gate < length file = ltb-true gate (length file) inside.0 in
-    let opened = open_gate (slice_index file gate == 165) (batch_at entries file (gate + 1) >>= some_read) (after, end) inside.1 in
+    let opened = open_gate (slice_index file gate == 165)
+    (batch_at entries file (gate + 1) >>= some_read) (after, end) inside.1 in
     let is_open : slice_index file gate ≡ 165 = eqb-true (slice_index file gate) 165 opened.0 in
     let read = bind_ok (batch_at entries file (gate + 1)) some_read (Some (after, end)) opened.1 in
-    let read_is : read.0 ≡ (after, end) = some_is read.0 (after, end) (ok_is (Some read.0) (Some (after, end)) read.2) in
-    let found = batch_ok law grows entries file (gate + 1) after end all led.leads.archive (read.1 ∙ ap (λ (x : List Entry × ℕ). Ok x) read_is) in
+    let read_is : read.0 ≡ (after, end) = some_is read.0 (
+      after,
+      end,
+    ) (ok_is (Some read.0) (Some (after, end)) read.2) in
+    let found = batch_ok law grows entries file (gate + 1) after end all led.leads.archive (read.1
+    ∙ ap (λ (x : List Entry × ℕ). Ok x) read_is) in
     let batch = found.0.batch in
     let behind : drop gate file ≡ 165 ∷ (batch_octets batch ++ drop end file) =
-    drop_more file gate 0 there ∙ ap (λ (octet : ℕ). octet ∷ drop (gate + 1) file) is_open ∙ ap (λ (l : List ℕ). 165 ∷ l) found.0.spelled in
-    let more : gated (led.batches ++ batch ∷ []) ≡ gated led.batches ++ 165 ∷ batch_octets batch = gated_more led.batches batch in
+    drop_more file gate 0 there ∙ ap (λ (octet : ℕ). octet ∷ drop (gate + 1) file) is_open
+    ∙ ap (λ (l : List ℕ). 165 ∷ l) found.0.spelled in
+    let more : gated (led.batches ++ batch ∷ []) ≡ gated led.batches ++ 165 ∷ batch_octets batch =
+    gated_more led.batches batch in
     record {
       batches = led.batches ++ batch ∷ [];
       leads = record {
         each = all-append led.batches batch led.leads.each found.0.is_batch;
-        entries_are = found.0.after_is ∙ ap (λ (l : List Entry). l ++ batch) led.leads.entries_are ∙ sym (joined_more led.batches batch);
+        entries_are = found.0.after_is ∙ ap (λ (l : List Entry). l ++ batch) led.leads.entries_are
+            ∙ sym (joined_more led.batches batch);
         archive = found.1;
-        there = found.0.ends ∙ omega (arith, led.leads.there, ap length more, length-append (gated led.batches) (165 ∷ batch_octets batch));
+        there = found.0.ends ∙ omega (
+          arith,
+          led.leads.there,
+          ap length more,
+          length-append (gated led.batches) (165 ∷ batch_octets batch),
+        );
       };
       is = led.is ∙ ap (λ (l : List ℕ). header ++ (gated led.batches ++ l)) behind
-          ∙ ap (λ (l : List ℕ). header ++ l) (sym (append_assoc (gated led.batches) (165 ∷ batch_octets batch) (drop end file)) ∙ ap (λ (l : List ℕ). l ++ drop end file) (sym more));
+          ∙ ap (λ (l : List ℕ). header ++ l) (sym
+          (append_assoc (gated led.batches) (165 ∷ batch_octets batch) (drop end file))
+          ∙ ap (λ (l : List ℕ). l ++ drop end file) (sym more));
     }
 
 eqb_false : (a b : ℕ) → (a == b) ≡ false → a ≢ b
 eqb_false a b e same = grind (arith, nat_tests)
 
-pub stands_there : (entries : List Entry) (file : List ℕ) (gate : ℕ) → LedTo gate entries file → gate_at entries file gate ≡ Ok None → StandsAt entries gate file
+pub stands_there : (entries : List Entry) (file : List ℕ) (gate : ℕ) → LedTo gate entries file
+    → gate_at entries file gate ≡ Ok None → StandsAt entries gate file
 unfolding gate_at
 stands_there entries file gate led e =
     let inside = good (nat_lt gate (length file)) _ (Damaged (length file)) None e in
     let there : gate < length file = ltb-true gate (length file) inside.0 in
-    let shut = closed_gate (slice_index file gate == 165) (batch_at entries file (gate + 1)) inside.1 in
+    let shut = closed_gate (slice_index file gate == 165) (batch_at entries file (gate + 1))
+    inside.1 in
     record {
       batches = led.batches;
       gate = slice_index file gate;
       rest = drop (gate + 1) file;
       leads = led.leads;
       shut = eqb_false (slice_index file gate) 165 shut;
-      is = led.is ∙ ap (λ (l : List ℕ). header ++ (gated led.batches ++ l)) (drop_more file gate 0 there);
+      is = led.is ∙ ap (λ (l : List ℕ). header ++ (gated led.batches ++ l))
+          (drop_more file gate 0 there);
     }
 
-pub no_gate : (entries : List Entry) (file : List ℕ) (gate : ℕ) → length file ≤ gate → gate_at entries file gate ≡ Err (Damaged (length file))
+pub no_gate : (entries : List Entry) (file : List ℕ) (gate : ℕ) → length file ≤ gate
+    → gate_at entries file gate ≡ Err (Damaged (length file))
 unfolding gate_at
 no_gate entries file gate past = grind (arith, nat_tests)
 
 -- ---- what a call found at a gate
 
-pub found_some : (r : Result (Option (List Entry × ℕ)) JournalFault) (new : List Entry) (found : Option ℕ) (end : ℕ)
+pub found_some : (r : Result (Option (List Entry × ℕ)) JournalFault) (new : List Entry)
+    (found : Option ℕ) (end : ℕ)
     → r ≡ Ok (option_map (λ e. (new, e)) found) → found ≡ Some end → r ≡ Ok (Some (new, end))
 found_some r new found end e is = e ∙ ap (λ (f : Option ℕ). Ok (option_map (λ e. (new, e)) f)) is
 
-pub found_none : (r : Result (Option (List Entry × ℕ)) JournalFault) (new : List Entry) (found : Option ℕ)
+pub found_none : (r : Result (Option (List Entry × ℕ)) JournalFault) (new : List Entry)
+    (found : Option ℕ)
     → r ≡ Ok (option_map (λ e. (new, e)) found) → found ≡ None → r ≡ Ok None
 found_none r new found e is = e ∙ ap (λ (f : Option ℕ). Ok (option_map (λ e. (new, e)) f)) is
 

@@ -1,13 +1,17 @@
 -- The header at the front of a file.
-use Rattle.std.proofs.Common.{◌≡◌, ℕ, ◌<◌, ◌≤◌, List, ◌++◌, length, take, drop, slice_index, get_or, sym, ap, ◌∙◌, arith, refl}
+use Rattle.std.proofs.Common.{◌≡◌, ℕ, ◌<◌, ◌≤◌, List, ◌++◌, length, take, drop, slice_index, get_or}
+use Rattle.std.proofs.Common.{sym, ap, ◌∙◌, arith, refl}
 use Rattle.std.proofs.lemmas.List.{ext_get_or, get_or-take, length-take-le, take-append-drop}
 use Rattle.gate_journal.specs.File.{header}
 
-pub leads : (file : List ℕ) → ((k : ℕ) → k < 8 → (k < length file) × (slice_index file k ≡ slice_index header k)) → file ≡ header ++ drop 8 file
+pub leads : (file : List ℕ) → ((k : ℕ) → k < 8
+    → (k < length file) × (slice_index file k ≡ slice_index header k))
+    → file ≡ header ++ drop 8 file
 leads file each =
     let long : 8 ≤ length file = omega (arith, (each 7 (omega arith)).0) in
     let size : length (take 8 file) ≡ 8 = length-take-le 8 file long in
     let front : take 8 file ≡ header =
     ext_get_or 0 (take 8 file) header size (λ k below.
-    let inside : k < 8 = omega (arith, size, below) in get_or-take 8 file k 0 inside ∙ (each k inside).1) in
+    let inside : k < 8 = omega (arith, size, below) in get_or-take 8 file k 0 inside
+    ∙ (each k inside).1) in
     sym (take-append-drop 8 file) ∙ ap (λ (l : List ℕ). l ++ drop 8 file) front

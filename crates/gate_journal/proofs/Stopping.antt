@@ -1,5 +1,7 @@
 -- What a stop in an append leaves on a disk in memory.
-use Rattle.std.proofs.Common.{◌≡◌, ◌≢◌, ℕ, zero, suc, ◌+◌, ◌-◌, ◌<◌, ◌≤◌, nat_le, Bool, true, false, IsFalse, if◌then◌else◌, List, [], ◌∷◌, ◌++◌, length, drop, fold, Option, Some, None, refl, sym, ◌∙◌, ap, subst, arith, append_assoc}
+use Rattle.std.proofs.Common.{◌≡◌, ◌≢◌, ℕ, zero, suc, ◌+◌, ◌-◌, ◌<◌, ◌≤◌, nat_le, Bool, true, false}
+use Rattle.std.proofs.Common.{IsFalse, if◌then◌else◌, List, [], ◌∷◌, ◌++◌, length, drop, fold}
+use Rattle.std.proofs.Common.{Option, Some, None, refl, sym, ◌∙◌, ap, subst, arith, append_assoc}
 use Rattle.std.specs.Option.{option_or}
 use Rattle.std.proofs.lemmas.Bool.Decides.{nat_tests}
 use Rattle.std.proofs.lemmas.List.Sums.{fold-append}
@@ -7,7 +9,10 @@ use Rattle.archive_terms.specs.Archive.{Entry, IsArchive}
 use Rattle.record_form.specs.Reading.{ReadBack}
 use Rattle.disk_model.specs.Images.{Pending, all_synced, overwritten}
 use Rattle.disk_model.specs.Calls.{AllMade, FailedAtOne}
-use Rattle.disk_model.specs.MemoryDisk.{DiskState, Medium, RunIs, IsMadeCall, IsFailedCall, run_as_ordered, calls_until_stop, medium_of, pending_of, synced_medium, left_by, after_call, after_event, torn_half, restarted, steered, pick_within, stop_past}
+use Rattle.disk_model.specs.MemoryDisk.{DiskState, Medium, RunIs, IsMadeCall, IsFailedCall}
+use Rattle.disk_model.specs.MemoryDisk.{run_as_ordered, calls_until_stop, medium_of, pending_of}
+use Rattle.disk_model.specs.MemoryDisk.{synced_medium, left_by, after_call, after_event, torn_half}
+use Rattle.disk_model.specs.MemoryDisk.{restarted, steered, pick_within, stop_past}
 use Rattle.disk_model.specs.declared.call.Call.{Call}
 use Rattle.disk_model.specs.declared.event.Event.TheVariants.{Restarted}
 use Rattle.disk_model.specs.declared.orders.Orders.{Orders}
@@ -15,8 +20,11 @@ use Rattle.disk_model.specs.declared.orders.Pick.{Pick}
 use Rattle.disk_model.specs.declared.orders.Pick.TheVariants.{Old, New, Torn}
 use Rattle.disk_model.specs.declared.orders.Stop.{Stop}
 use Rattle.gate_journal.specs.File.{IsBatch, StandsAt, StandsFor}
-use Rattle.gate_journal.specs.Kept.{Keeps, IsAtRest, IsReady, IsToStop, StopsIn, KeepsOnRestart, appending, appending_octets, closed_batch, entries_left, leaves_batch}
-use Rattle.gate_journal.proofs.Adding.{behind, content_is, entries_are, front_of, front_there, octets_written, stands_closed, stands_whole, written_behind}
+use Rattle.gate_journal.specs.Kept.{Keeps, IsAtRest, IsReady, IsToStop, StopsIn, KeepsOnRestart}
+use Rattle.gate_journal.specs.Kept.{appending, appending_octets, closed_batch, entries_left}
+use Rattle.gate_journal.specs.Kept.{leaves_batch}
+use Rattle.gate_journal.proofs.Adding.{behind, content_is, entries_are, front_of, front_there}
+use Rattle.gate_journal.proofs.Adding.{octets_written, stands_closed, stands_whole, written_behind}
 use Rattle.gate_journal.proofs.Following.{follows_kept}
 
 -- ---- what the calls that a stop lets through leave by each pick
@@ -30,59 +38,105 @@ module _ (told : Pending) (gate : ℕ) (at_rest : IsAtRest (Some told) gate) whe
 
   -- octets behind the gate, the gate's octet still its own
   closed_file : List ℕ → List ℕ
-  closed_file octets = front_of held.batches ++ held.gate ∷ behind (front_of held.batches) held.rest octets held.gate gate (front_there told gate at_rest)
+  closed_file octets = front_of held.batches ++ held.gate
+      ∷ behind (front_of held.batches) held.rest octets held.gate gate
+      (front_there told gate at_rest)
 
   written : (octets : List ℕ) → overwritten told.content (gate + 1) octets
-      ≡ front_of held.batches ++ held.gate ∷ behind (front_of held.batches) held.rest octets held.gate gate (front_there told gate at_rest)
+      ≡ front_of held.batches ++ held.gate ∷ behind (front_of held.batches) held.rest octets
+      held.gate gate (front_there told gate at_rest)
   written octets =
       ap (λ (file : List ℕ). overwritten file (gate + 1) octets) (content_is told gate at_rest)
-      ∙ octets_written (front_of held.batches) held.rest octets held.gate gate (front_there told gate at_rest)
+      ∙ octets_written (front_of held.batches) held.rest octets held.gate gate
+      (front_there told gate at_rest)
 
-  stands_behind : (octets : List ℕ) → StandsAt at_rest.1 gate (overwritten told.content (gate + 1) octets)
+  stands_behind : (octets : List ℕ)
+      → StandsAt at_rest.1 gate (overwritten told.content (gate + 1) octets)
   stands_behind octets =
-      stands_closed held.batches at_rest.1 gate held.gate (behind (front_of held.batches) held.rest octets held.gate gate (front_there told gate at_rest))
+      stands_closed held.batches at_rest.1 gate held.gate
+      (behind (front_of held.batches) held.rest octets held.gate gate
+      (front_there told gate at_rest))
       (overwritten told.content (gate + 1) octets) held.leads held.shut (written octets)
 
   -- and then the gate's octet
-  gate_is : (octets : List ℕ) (value : ℕ) → overwritten (overwritten told.content (gate + 1) octets) gate (value ∷ [])
-      ≡ front_of held.batches ++ value ∷ behind (front_of held.batches) held.rest octets held.gate gate (front_there told gate at_rest)
+  gate_is : (octets : List ℕ) (value : ℕ)
+      → overwritten (overwritten told.content (gate + 1) octets) gate (value ∷ [])
+      ≡ front_of held.batches ++ value ∷ behind (front_of held.batches) held.rest octets held.gate
+      gate (front_there told gate at_rest)
   gate_is octets value =
       ap (λ (file : List ℕ). overwritten file gate (value ∷ [])) (written octets)
-      ∙ written_behind (front_of held.batches) (held.gate ∷ behind (front_of held.batches) held.rest octets held.gate gate (front_there told gate at_rest)) (value ∷ []) gate (front_there told gate at_rest)
-      ∙ append_assoc (front_of held.batches) (value ∷ []) (behind (front_of held.batches) held.rest octets held.gate gate (front_there told gate at_rest))
+      ∙ written_behind (front_of held.batches)
+      (held.gate ∷ behind (front_of held.batches) held.rest octets held.gate gate
+      (front_there told gate at_rest)) (value ∷ []) gate (front_there told gate at_rest)
+      ∙ append_assoc (front_of held.batches) (value ∷ [])
+      (behind (front_of held.batches) held.rest octets held.gate gate
+      (front_there told gate at_rest))
 
-  stands_torn : (octets : List ℕ) → StandsAt at_rest.1 gate (overwritten (overwritten told.content (gate + 1) octets) gate (90 ∷ []))
+  stands_torn : (octets : List ℕ)
+      → StandsAt at_rest.1 gate (overwritten (overwritten told.content (gate + 1) octets) gate
+      (90 ∷ []))
   stands_torn octets =
-      stands_closed held.batches at_rest.1 gate 90 (behind (front_of held.batches) held.rest octets held.gate gate (front_there told gate at_rest))
-      (overwritten (overwritten told.content (gate + 1) octets) gate (90 ∷ [])) held.leads torn_is_shut (gate_is octets 90)
+      stands_closed held.batches at_rest.1 gate 90
+      (behind (front_of held.batches) held.rest octets held.gate gate
+      (front_there told gate at_rest))
+      (overwritten (overwritten told.content (gate + 1) octets) gate (90 ∷ [])) held.leads
+      torn_is_shut (gate_is octets 90)
 
-  module _ (batch : List Entry) (law : ReadBack) (ready : IsReady (Some told) batch (closed_batch batch)) (entries : List Entry) (keeps : Keeps (Some told) entries) where
+  module _ (batch : List Entry) (law : ReadBack)
+      (ready : IsReady (Some told) batch (closed_batch batch)) (entries : List Entry)
+      (keeps : Keeps (Some told) entries) where
     old : (file : List ℕ) → StandsAt at_rest.1 gate file → StandsFor entries file
-    old file stands = (gate, subst (λ (l : List Entry). StandsAt l gate file) (entries_are told gate at_rest law entries keeps) stands)
+    old file stands = (
+      gate,
+      subst (λ (l : List Entry). StandsAt l gate file)
+          (entries_are told gate at_rest law entries keeps) stands,
+    )
 
-    new : StandsFor (entries ++ batch) (overwritten (overwritten told.content (gate + 1) (closed_batch batch)) gate (165 ∷ []))
+    new : StandsFor (entries ++ batch) (overwritten
+        (overwritten told.content (gate + 1) (closed_batch batch)) gate (165 ∷ []))
     new = (
       gate + length (closed_batch batch),
-      subst (StandsAt (entries ++ batch) (gate + length (closed_batch batch))) (sym (gate_is (closed_batch batch) 165)) (stands_whole told gate at_rest (closed_batch batch) batch law ready entries keeps),
+      subst (StandsAt (entries ++ batch) (gate + length (closed_batch batch)))
+          (sym (gate_is (closed_batch batch) 165))
+          (stands_whole told gate at_rest (closed_batch batch) batch law ready entries keeps),
     )
 
     abbrev let_through : ℕ → Medium
-    let_through k = fold after_call (synced_medium told.content) (calls_until_stop k (appending gate batch))
+    let_through k = fold after_call (synced_medium told.content)
+        (calls_until_stop k (appending gate batch))
 
-    left_at : (k : ℕ) (pick : Pick) → 0 < k → k ≤ 4 → StandsFor (if leaves_batch k pick then entries ++ batch else entries) (left_by pick (let_through k))
+    left_at : (k : ℕ) (pick : Pick) → 0 < k → k ≤ 4
+        → StandsFor (if leaves_batch k pick then entries ++ batch else entries)
+        (left_by pick (let_through k))
     left_at zero pick some most = absurd (omega arith)
     left_at (suc zero) Old some most = old told.content held
-    left_at (suc zero) New some most = old (overwritten told.content (gate + 1) (closed_batch batch)) (stands_behind (closed_batch batch))
-    left_at (suc zero) Torn some most = old (overwritten told.content (gate + 1) (torn_half (closed_batch batch))) (stands_behind (torn_half (closed_batch batch)))
+    left_at (suc zero) New some most =
+        old (overwritten told.content (gate + 1) (closed_batch batch))
+        (stands_behind (closed_batch batch))
+    left_at (suc zero) Torn some most =
+        old (overwritten told.content (gate + 1) (torn_half (closed_batch batch)))
+        (stands_behind (torn_half (closed_batch batch)))
     left_at (suc (suc zero)) Old some most = old told.content held
-    left_at (suc (suc zero)) New some most = old (overwritten told.content (gate + 1) (closed_batch batch)) (stands_behind (closed_batch batch))
-    left_at (suc (suc zero)) Torn some most = old (overwritten told.content (gate + 1) (torn_half (closed_batch batch))) (stands_behind (torn_half (closed_batch batch)))
-    left_at (suc (suc (suc zero))) Old some most = old (overwritten told.content (gate + 1) (closed_batch batch)) (stands_behind (closed_batch batch))
+    left_at (suc (suc zero)) New some most = old
+        (overwritten told.content (gate + 1) (closed_batch batch))
+        (stands_behind (closed_batch batch))
+    left_at (suc (suc zero)) Torn some most =
+        old (overwritten told.content (gate + 1) (torn_half (closed_batch batch)))
+        (stands_behind (torn_half (closed_batch batch)))
+    left_at (suc (suc (suc zero))) Old some most =
+        old (overwritten told.content (gate + 1) (closed_batch batch))
+        (stands_behind (closed_batch batch))
     left_at (suc (suc (suc zero))) New some most = new
-    left_at (suc (suc (suc zero))) Torn some most = old (overwritten (overwritten told.content (gate + 1) (closed_batch batch)) gate (90 ∷ [])) (stands_torn (closed_batch batch))
-    left_at (suc (suc (suc (suc zero)))) Old some most = old (overwritten told.content (gate + 1) (closed_batch batch)) (stands_behind (closed_batch batch))
+    left_at (suc (suc (suc zero))) Torn some most =
+        old (overwritten (overwritten told.content (gate + 1) (closed_batch batch)) gate (90 ∷ []))
+        (stands_torn (closed_batch batch))
+    left_at (suc (suc (suc (suc zero)))) Old some most =
+        old (overwritten told.content (gate + 1) (closed_batch batch))
+        (stands_behind (closed_batch batch))
     left_at (suc (suc (suc (suc zero)))) New some most = new
-    left_at (suc (suc (suc (suc zero)))) Torn some most = old (overwritten (overwritten told.content (gate + 1) (closed_batch batch)) gate (90 ∷ [])) (stands_torn (closed_batch batch))
+    left_at (suc (suc (suc (suc zero)))) Torn some most =
+        old (overwritten (overwritten told.content (gate + 1) (closed_batch batch)) gate (90 ∷ []))
+        (stands_torn (closed_batch batch))
     left_at (suc (suc (suc (suc (suc k))))) pick some most = absurd (omega arith)
 
 -- ---- the laws of the disk in memory
@@ -90,35 +144,46 @@ module _ (told : Pending) (gate : ℕ) (at_rest : IsAtRest (Some told) gate) whe
 -- a stop comes at its call
 abbrev pub StopsNow : Type 0
 StopsNow =
-    (disk : DiskState) (calls : List Call) (stop : Stop) → disk.stopped ≡ None → disk.stop ≡ Some stop → disk.calls.failing ≡ [] → 0 < stop.calls → stop.calls ≤ length calls
+    (disk : DiskState) (calls : List Call) (stop : Stop) → disk.stopped ≡ None
+    → disk.stop ≡ Some stop → disk.calls.failing ≡ [] → 0 < stop.calls
+    → stop.calls ≤ length calls
     → RunIs disk calls false (calls_until_stop stop.calls calls) (Some stop.pick)
 
 -- or after the calls
 abbrev pub StopsLater : Type 0
 StopsLater =
-    (disk : DiskState) (calls : List Call) (stop : Stop) → disk.stopped ≡ None → disk.stop ≡ Some stop → disk.calls.failing ≡ [] → length calls < stop.calls
+    (disk : DiskState) (calls : List Call) (stop : Stop) → disk.stopped ≡ None
+    → disk.stop ≡ Some stop → disk.calls.failing ≡ [] → length calls < stop.calls
     → RunIs disk calls true calls None
 
 -- calls that were made are a run by the orders
 abbrev pub MadeAsOrdered : Type 0
-MadeAsOrdered = (old new : DiskState) (calls : List Call) → AllMade IsMadeCall old calls new → run_as_ordered old calls ≡ (true, new)
+MadeAsOrdered = (old new : DiskState) (calls : List Call) → AllMade IsMadeCall old calls new
+    → run_as_ordered old calls ≡ (true, new)
 
 -- and those up to one that failed
 abbrev pub FailedAsOrdered : Type 0
 FailedAsOrdered =
-    (old new : DiskState) (calls : List Call) → FailedAtOne IsMadeCall IsFailedCall old calls new → IsFalse new.memory_refused → run_as_ordered old calls ≡ (false, new)
+    (old new : DiskState) (calls : List Call) → FailedAtOne IsMadeCall IsFailedCall old calls new
+    → IsFalse new.memory_refused → run_as_ordered old calls ≡ (false, new)
 
 -- what is synced is all that there is
 abbrev pub SyncedIsAll : Type 0
-SyncedIsAll = (disk : DiskState) (octets : List ℕ) → pending_of disk ≡ all_synced octets → medium_of disk ≡ synced_medium octets
+SyncedIsAll = (disk : DiskState) (octets : List ℕ) → pending_of disk ≡ all_synced octets
+    → medium_of disk ≡ synced_medium octets
 
 -- the orders of a stop
-pub is_to_stop : (disk : DiskState) (orders : Orders) (stop : Stop) → disk.stopped ≡ None → orders.stop ≡ Some stop → orders.failing.failing ≡ [] → 0 < stop.calls → IsToStop (steered disk orders) stop
+pub is_to_stop : (disk : DiskState) (orders : Orders) (stop : Stop) → disk.stopped ≡ None
+    → orders.stop ≡ Some stop → orders.failing.failing ≡ [] → 0 < stop.calls
+    → IsToStop (steered disk orders) stop
 is_to_stop disk orders stop runs stops succeeds some =
     let later : nat_le stop.calls 0 ≡ false = grind (arith, nat_tests) in
     let same : stop.calls - 0 ≡ stop.calls = omega arith in record {
-      runs = ap (λ (p : Option Pick). option_or p (pick_within 0 orders.stop)) runs ∙ ap (pick_within 0) stops ∙ ap (λ (b : Bool). if b then Some stop.pick else None) later;
-      stops = ap (stop_past 0) stops ∙ ap (λ (b : Bool). if b then None else Some (record stop { calls = stop.calls - 0 })) later ∙ ap (λ (n : ℕ). Some (record stop { calls = n })) same;
+      runs = ap (λ (p : Option Pick). option_or p (pick_within 0 orders.stop)) runs
+          ∙ ap (pick_within 0) stops ∙ ap (λ (b : Bool). if b then Some stop.pick else None) later;
+      stops = ap (stop_past 0) stops
+          ∙ ap (λ (b : Bool). if b then None else Some (record stop { calls = stop.calls - 0 }))
+          later ∙ ap (λ (n : ℕ). Some (record stop { calls = n })) same;
       succeeds = succeeds;
     }
 
@@ -126,22 +191,32 @@ not_both : (run : Bool × DiskState) → run.0 ≡ true → run.0 ≡ false → 
 not_both run good bad = cc
 
 -- an append at which the disk is to stop isn't Ok
-pub stopped_is_no_ok : StopsNow → MadeAsOrdered → (disk after : DiskState) (gate : ℕ) (batch : List Entry) (stop : Stop) → IsToStop disk stop → 0 < stop.calls → stop.calls ≤ 4
+pub stopped_is_no_ok : StopsNow → MadeAsOrdered
+    → (disk after : DiskState) (gate : ℕ) (batch : List Entry) (stop : Stop) → IsToStop disk stop
+    → 0 < stop.calls → stop.calls ≤ 4
     → AllMade IsMadeCall disk (appending gate batch) after → ⊥
 stopped_is_no_ok now ordered disk after gate batch stop is some most made =
-    not_both (run_as_ordered disk (appending gate batch)) (ap (λ (r : Bool × DiskState). r.0) (ordered disk after (appending gate batch) made))
+    not_both (run_as_ordered disk (appending gate batch))
+    (ap (λ (r : Bool × DiskState). r.0) (ordered disk after (appending gate batch) made))
     (now disk (appending gate batch) stop is.runs is.stops is.succeeds some most).answer
 
 -- and one before its stop doesn't fail
-pub unstopped_is_no_fault : StopsLater → FailedAsOrdered → (disk after : DiskState) (gate : ℕ) (batch : List Entry) (stop : Stop) → IsToStop disk stop → 4 < stop.calls
-    → FailedAtOne IsMadeCall IsFailedCall disk (appending gate batch) after → IsFalse after.memory_refused → ⊥
+pub unstopped_is_no_fault : StopsLater → FailedAsOrdered
+    → (disk after : DiskState) (gate : ℕ) (batch : List Entry) (stop : Stop) → IsToStop disk stop
+    → 4 < stop.calls
+    → FailedAtOne IsMadeCall IsFailedCall disk (appending gate batch) after
+    → IsFalse after.memory_refused → ⊥
 unstopped_is_no_fault later ordered disk after gate batch stop is past failed ample =
-    not_both (run_as_ordered disk (appending gate batch)) (later disk (appending gate batch) stop is.runs is.stops is.succeeds past).answer
+    not_both (run_as_ordered disk (appending gate batch))
+    (later disk (appending gate batch) stop is.runs is.stops is.succeeds past).answer
     (ap (λ (r : Bool × DiskState). r.0) (ordered disk after (appending gate batch) failed ample))
 
-module _ (now : StopsNow) (ordered : FailedAsOrdered) (disk after : DiskState) (gate : ℕ) (batch : List Entry) (stop : Stop) (is : StopsIn disk gate batch stop after) where
-  run : RunIs disk (appending gate batch) false (calls_until_stop stop.calls (appending gate batch)) (Some stop.pick)
-  run = now disk (appending gate batch) stop is.ordered.runs is.ordered.stops is.ordered.succeeds is.some is.within
+module _ (now : StopsNow) (ordered : FailedAsOrdered) (disk after : DiskState) (gate : ℕ)
+    (batch : List Entry) (stop : Stop) (is : StopsIn disk gate batch stop after) where
+  run : RunIs disk (appending gate batch) false (calls_until_stop stop.calls (appending gate batch))
+      (Some stop.pick)
+  run = now disk (appending gate batch) stop is.ordered.runs is.ordered.stops is.ordered.succeeds
+      is.some is.within
 
   there : run_as_ordered disk (appending gate batch) ≡ (false, after)
   there = ordered disk after (appending gate batch) is.failed is.ample
@@ -151,25 +226,37 @@ module _ (now : StopsNow) (ordered : FailedAsOrdered) (disk after : DiskState) (
   has_stopped = ap (λ (r : Bool × DiskState). r.1.stopped) (sym there) ∙ run.stopped
 
   medium_then : SyncedIsAll → IsAtRest (Some (pending_of disk)) gate
-      → medium_of after ≡ fold after_call (synced_medium (pending_of disk).content) (calls_until_stop stop.calls (appending gate batch))
+      → medium_of after ≡ fold after_call (synced_medium (pending_of disk).content)
+      (calls_until_stop stop.calls (appending gate batch))
   medium_then synced at_rest =
       ap (λ (r : Bool × DiskState). medium_of r.1) (sym there) ∙ run.medium
-      ∙ ap (λ (m : Medium). fold after_call m (calls_until_stop stop.calls (appending gate batch))) (synced disk (pending_of disk).content at_rest.0)
+      ∙ ap (λ (m : Medium). fold after_call m (calls_until_stop stop.calls (appending gate batch)))
+      (synced disk (pending_of disk).content at_rest.0)
 
-  on_restart : (medium : Medium) → medium_of after ≡ medium → pending_of (restarted after stop.pick) ≡ all_synced (left_by stop.pick medium)
+  on_restart : (medium : Medium) → medium_of after ≡ medium
+      → pending_of (restarted after stop.pick) ≡ all_synced (left_by stop.pick medium)
   on_restart medium same =
-      ap (λ (m : Medium). m.pending) (fold-append after_event (synced_medium after.start) after.log (Restarted stop.pick ∷ []))
+      ap (λ (m : Medium). m.pending) (fold-append after_event (synced_medium after.start) after.log
+      (Restarted stop.pick ∷ []))
       ∙ ap (λ (m : Medium). all_synced (left_by stop.pick m)) same
 
   -- and once it is restarted it holds these entries
-  pub keeps_left : SyncedIsAll → ReadBack → IsAtRest (Some (pending_of disk)) gate → IsBatch batch → (entries : List Entry) → Keeps (Some (pending_of disk)) entries → IsArchive (entries ++ batch)
+  pub keeps_left : SyncedIsAll → ReadBack → IsAtRest (Some (pending_of disk)) gate → IsBatch batch
+      → (entries : List Entry) → Keeps (Some (pending_of disk)) entries
+      → IsArchive (entries ++ batch)
       → KeepsOnRestart after stop (entries_left entries batch stop)
   keeps_left synced law at_rest is_batch entries keeps archive =
       let ready : IsReady (Some (pending_of disk)) batch (closed_batch batch) = record {
         spelled = refl;
         is_batch = is_batch;
-        archive = λ others kept. follows_kept law (Some (pending_of disk)) entries batch others keeps archive kept;
+        archive = λ others kept. follows_kept law (Some (pending_of disk)) entries batch others
+            keeps archive kept;
       } in
-      let medium = fold after_call (synced_medium (pending_of disk).content) (calls_until_stop stop.calls (appending gate batch)) in
-      subst (λ (p : Pending). Keeps (Some p) (entries_left entries batch stop)) (sym (on_restart medium (medium_then synced at_rest)))
-      (refl, left_at (pending_of disk) gate at_rest batch law ready entries keeps stop.calls stop.pick is.some is.within)
+      let medium = fold after_call (synced_medium (pending_of disk).content)
+      (calls_until_stop stop.calls (appending gate batch)) in
+      subst (λ (p : Pending). Keeps (Some p) (entries_left entries batch stop))
+      (sym (on_restart medium (medium_then synced at_rest))) (
+        refl,
+        left_at (pending_of disk) gate at_rest batch law ready entries keeps stop.calls
+            stop.pick is.some is.within,
+      )

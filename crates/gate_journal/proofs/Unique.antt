@@ -1,5 +1,7 @@
 -- A file stands for one list at most.
-use Rattle.std.proofs.Common.{◌≡◌, ◌≢◌, ℕ, zero, suc, ◌+◌, ◌<◌, ◌≤◌, ◌^◌, ◌&&◌, Bool, true, false, List, [], ◌∷◌, ◌++◌, length, take, drop, slice_index, IsTrue, Result, Ok, Err, refl, sym, ap, subst, ◌∙◌, arith, append_assoc}
+use Rattle.std.proofs.Common.{◌≡◌, ◌≢◌, ℕ, zero, suc, ◌+◌, ◌<◌, ◌≤◌, ◌^◌, ◌&&◌, Bool, true, false}
+use Rattle.std.proofs.Common.{List, [], ◌∷◌, ◌++◌, length, take, drop, slice_index, IsTrue, Result}
+use Rattle.std.proofs.Common.{Ok, Err, refl, sym, ap, subst, ◌∙◌, arith, append_assoc}
 use Rattle.std.specs.List.{AllByRecursion, list_all}
 use Rattle.std.specs.Int.{w16, w32, to_be_bytes, from_be_bytes}
 use Rattle.std.proofs.lemmas.List.{take_at, drop_at}
@@ -9,7 +11,8 @@ use Rattle.archive_terms.specs.Archive.{Entry, is_storable}
 use Rattle.record_form.specs.declared.fault.EntryFault.{EntryFault}
 use Rattle.record_form.specs.Spelling.{entry_octets}
 use Rattle.record_form.specs.Reading.{ReadBack, entry_from}
-use Rattle.gate_journal.specs.File.{header, entries_octets, batch_octets, IsBatch, gated, joined, StandsAt}
+use Rattle.gate_journal.specs.File.{header, entries_octets, batch_octets, IsBatch, gated, joined}
+use Rattle.gate_journal.specs.File.{StandsAt}
 
 both : (a b : Bool) → (a && b) ≡ true → (a ≡ true) × (b ≡ true)
 both true b e = (refl, e)
@@ -18,18 +21,24 @@ both false b e = absurd (cc)
 ok_is : {A : Type 0} (x y : A) → ◌≡◌ {A = Result A EntryFault} (Ok x) (Ok y) → x ≡ y
 ok_is x y e = cc
 
-same_entry : ReadBack → (e f : Entry) (x y : List ℕ) → IsTrue (is_storable e) → IsTrue (is_storable f) → entry_octets e ++ x ≡ entry_octets f ++ y → e ≡ f
+same_entry : ReadBack → (e f : Entry) (x y : List ℕ) → IsTrue (is_storable e)
+    → IsTrue (is_storable f) → entry_octets e ++ x ≡ entry_octets f ++ y → e ≡ f
 same_entry law e f x y first second same =
     ap (λ (p : Entry × ℕ). p.0)
-    (ok_is (e, length (entry_octets e)) (f, length (entry_octets f)) (sym (law e x first) ∙ ap (entry_from 0) same ∙ law f y second))
+    (ok_is (e, length (entry_octets e)) (f, length (entry_octets f)) (sym (law e x first)
+    ∙ ap (entry_from 0) same ∙ law f y second))
 
 same_rest : (front x y : List ℕ) → front ++ x ≡ front ++ y → x ≡ y
-same_rest front x y same = sym (drop_at front x (length front) refl) ∙ ap (drop (length front)) same ∙ drop_at front y (length front) refl
+same_rest front x y same = sym (drop_at front x (length front) refl) ∙ ap (drop (length front)) same
+    ∙ drop_at front y (length front) refl
 
-regroup : (e : Entry) (es : List Entry) (x : List ℕ) → entries_octets (e ∷ es) ++ x ≡ entry_octets e ++ (entries_octets es ++ x)
-regroup e es x = ap (λ (l : List ℕ). l ++ x) (flat_map-cons entry_octets e es) ∙ append_assoc (entry_octets e) (entries_octets es) x
+regroup : (e : Entry) (es : List Entry) (x : List ℕ)
+    → entries_octets (e ∷ es) ++ x ≡ entry_octets e ++ (entries_octets es ++ x)
+regroup e es x = ap (λ (l : List ℕ). l ++ x) (flat_map-cons entry_octets e es)
+    ∙ append_assoc (entry_octets e) (entries_octets es) x
 
-same_entries : ReadBack → (a b : List Entry) (x y : List ℕ) → length a ≡ length b → list_all is_storable a ≡ true → list_all is_storable b ≡ true
+same_entries : ReadBack → (a b : List Entry) (x y : List ℕ) → length a ≡ length b
+    → list_all is_storable a ≡ true → list_all is_storable b ≡ true
     → entries_octets a ++ x ≡ entries_octets b ++ y → (a ≡ b) × (x ≡ y)
 same_entries law [] [] x y size first second same = (refl, same)
 same_entries law [] (f ∷ b) x y size first second same = absurd (omega (arith, size))
@@ -37,25 +46,34 @@ same_entries law (e ∷ a) [] x y size first second same = absurd (omega (arith,
 same_entries law (e ∷ a) (f ∷ b) x y size first second same =
     let one = both (is_storable e) (list_all is_storable a) first in
     let other = both (is_storable f) (list_all is_storable b) second in
-    let split : entry_octets e ++ (entries_octets a ++ x) ≡ entry_octets f ++ (entries_octets b ++ y) = sym (regroup e a x) ∙ same ∙ regroup f b y in
-    let head : e ≡ f = same_entry law e f (entries_octets a ++ x) (entries_octets b ++ y) one.0 other.0 split in
+    let split : entry_octets e ++ (entries_octets a ++ x)
+    ≡ entry_octets f ++ (entries_octets b ++ y) = sym (regroup e a x) ∙ same ∙ regroup f b y in
+    let head : e ≡ f = same_entry law e f (entries_octets a ++ x) (entries_octets b ++ y) one.0
+    other.0 split in
     let tail : entries_octets a ++ x ≡ entries_octets b ++ y =
-    same_rest (entry_octets f) (entries_octets a ++ x) (entries_octets b ++ y) (sym (ap (λ (g : Entry). entry_octets g ++ (entries_octets a ++ x)) head) ∙ split) in
+    same_rest (entry_octets f) (entries_octets a ++ x) (entries_octets b ++ y)
+    (sym (ap (λ (g : Entry). entry_octets g ++ (entries_octets a ++ x)) head) ∙ split) in
     let rest = same_entries law a b x y (omega (arith, size)) one.1 other.1 tail in
     (ap (λ (l : List Entry). e ∷ l) rest.0 ∙ ap (λ (g : Entry). g ∷ b) head, rest.1)
 
 in_front : (batch : List Entry) (x : List ℕ)
-    → batch_octets batch ++ x ≡ to_be_bytes w32 (length (entries_octets batch)) ++ (to_be_bytes w16 (length batch) ++ (entries_octets batch ++ x))
+    → batch_octets batch ++ x ≡ to_be_bytes w32 (length (entries_octets batch))
+    ++ (to_be_bytes w16 (length batch) ++ (entries_octets batch ++ x))
 in_front batch x =
-    append_assoc (to_be_bytes w32 (length (entries_octets batch))) (to_be_bytes w16 (length batch) ++ entries_octets batch) x
-    ∙ ap (λ (l : List ℕ). to_be_bytes w32 (length (entries_octets batch)) ++ l) (append_assoc (to_be_bytes w16 (length batch)) (entries_octets batch) x)
+    append_assoc (to_be_bytes w32 (length (entries_octets batch)))
+    (to_be_bytes w16 (length batch) ++ entries_octets batch) x
+    ∙ ap (λ (l : List ℕ). to_be_bytes w32 (length (entries_octets batch)) ++ l)
+    (append_assoc (to_be_bytes w16 (length batch)) (entries_octets batch) x)
 
-pub same_batch : ReadBack → (a b : List Entry) (x y : List ℕ) → IsBatch a → IsBatch b → batch_octets a ++ x ≡ batch_octets b ++ y → (a ≡ b) × (x ≡ y)
+pub same_batch : ReadBack → (a b : List Entry) (x y : List ℕ) → IsBatch a → IsBatch b
+    → batch_octets a ++ x ≡ batch_octets b ++ y → (a ≡ b) × (x ≡ y)
 same_batch law a b x y first second same =
-    let behind : to_be_bytes w16 (length a) ++ (entries_octets a ++ x) ≡ to_be_bytes w16 (length b) ++ (entries_octets b ++ y) =
+    let behind : to_be_bytes w16 (length a) ++ (entries_octets a ++ x)
+    ≡ to_be_bytes w16 (length b) ++ (entries_octets b ++ y) =
     ap (drop 4) (sym (in_front a x) ∙ same ∙ in_front b y) in
     let count : length a ≡ length b =
-    sym (from_be_bytes-to_be_bytes_2 (length a) (omega (arith, first.most))) ∙ ap (λ (l : List ℕ). from_be_bytes w16 (take 2 l)) behind
+    sym (from_be_bytes-to_be_bytes_2 (length a) (omega (arith, first.most)))
+    ∙ ap (λ (l : List ℕ). from_be_bytes w16 (take 2 l)) behind
     ∙ from_be_bytes-to_be_bytes_2 (length b) (omega (arith, second.most)) in
     same_entries law a b x y count first.storable second.storable (ap (drop 2) behind)
 
@@ -65,24 +83,39 @@ head_of same = ap (λ (l : List ℕ). slice_index l 0) same
 tail_of : {x y : ℕ} {xs ys : List ℕ} → x ∷ xs ≡ y ∷ ys → xs ≡ ys
 tail_of same = ap (λ (l : List ℕ). drop 1 l) same
 
-one_only : ReadBack → (one other : List (List Entry)) (rest more : List ℕ) (gate shut : ℕ) → AllByRecursion IsBatch one → AllByRecursion IsBatch other → gate ≢ 165 → shut ≢ 165
+one_only : ReadBack → (one other : List (List Entry)) (rest more : List ℕ) (gate shut : ℕ)
+    → AllByRecursion IsBatch one → AllByRecursion IsBatch other → gate ≢ 165 → shut ≢ 165
     → gated one ++ gate ∷ rest ≡ gated other ++ shut ∷ more → one ≡ other
 one_only law [] [] rest more gate shut first second closed closed' same = refl
-one_only law [] (y ∷ ys) rest more gate shut first second closed closed' same = absurd (closed (head_of same))
-one_only law (x ∷ xs) [] rest more gate shut first second closed closed' same = absurd (closed' (sym (head_of same)))
+one_only law [] (y ∷ ys) rest more gate shut first second closed closed' same =
+    absurd (closed (head_of same))
+one_only law (x ∷ xs) [] rest more gate shut first second closed closed' same =
+    absurd (closed' (sym (head_of same)))
 one_only law (x ∷ xs) (y ∷ ys) rest more gate shut first second closed closed' same =
-    let behind : batch_octets x ++ (gated xs ++ gate ∷ rest) ≡ batch_octets y ++ (gated ys ++ shut ∷ more) =
-    sym (append_assoc (batch_octets x) (gated xs) (gate ∷ rest)) ∙ tail_of same ∙ append_assoc (batch_octets y) (gated ys) (shut ∷ more) in
-    let found = same_batch law x y (gated xs ++ gate ∷ rest) (gated ys ++ shut ∷ more) first.0 second.0 behind in
-    ap (λ (l : List (List Entry)). x ∷ l) (one_only law xs ys rest more gate shut first.1 second.1 closed closed' found.1) ∙ ap (λ (b : List Entry). b ∷ ys) found.0
+    let behind : batch_octets x ++ (gated xs ++ gate ∷ rest)
+    ≡ batch_octets y ++ (gated ys ++ shut ∷ more) =
+    sym (append_assoc (batch_octets x) (gated xs) (gate ∷ rest)) ∙ tail_of same
+    ∙ append_assoc (batch_octets y) (gated ys) (shut ∷ more) in
+    let found = same_batch law x y (gated xs ++ gate ∷ rest) (gated ys ++ shut ∷ more) first.0
+    second.0 behind in
+    ap (λ (l : List (List Entry)). x ∷ l) (one_only law xs ys rest more gate shut first.1 second.1
+    closed closed' found.1) ∙ ap (λ (b : List Entry). b ∷ ys) found.0
 
-same_batches : ReadBack → (one other : List Entry) (place there : ℕ) (file : List ℕ) (first : StandsAt one place file) (second : StandsAt other there file) → first.batches ≡ second.batches
+same_batches : ReadBack → (one other : List Entry) (place there : ℕ) (file : List ℕ)
+    (first : StandsAt one place file) (second : StandsAt other there file)
+    → first.batches ≡ second.batches
 same_batches law one other place there file first second =
-    one_only law first.batches second.batches first.rest second.rest first.gate second.gate first.leads.each second.leads.each first.shut second.shut
-    (same_rest header (gated first.batches ++ first.gate ∷ first.rest) (gated second.batches ++ second.gate ∷ second.rest) (sym first.is ∙ second.is))
+    one_only law first.batches second.batches first.rest second.rest first.gate second.gate
+    first.leads.each second.leads.each first.shut second.shut
+    (same_rest header (gated first.batches ++ first.gate ∷ first.rest)
+    (gated second.batches ++ second.gate ∷ second.rest) (sym first.is ∙ second.is))
 
 -- the list, and the place of the gate behind it
-pub stands_for_one : ReadBack → (one other : List Entry) (place there : ℕ) (file : List ℕ) → StandsAt one place file → StandsAt other there file → (one ≡ other) × (place ≡ there)
+pub stands_for_one : ReadBack → (one other : List Entry) (place there : ℕ) (file : List ℕ)
+    → StandsAt one place file → StandsAt other there file → (one ≡ other) × (place ≡ there)
 stands_for_one law one other place there file first second =
-    let same = same_batches law one other place there file first second in
-    (first.leads.entries_are ∙ ap joined same ∙ sym second.leads.entries_are, first.leads.there ∙ ap (λ (b : List (List Entry)). 8 + length (gated b)) same ∙ sym second.leads.there)
+    let same = same_batches law one other place there file first second in (
+      first.leads.entries_are ∙ ap joined same ∙ sym second.leads.entries_are,
+      first.leads.there
+          ∙ ap (λ (b : List (List Entry)). 8 + length (gated b)) same ∙ sym second.leads.there,
+    )

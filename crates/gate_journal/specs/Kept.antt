@@ -1,5 +1,7 @@
 -- A journal on a disk: what is kept there, and what its calls make.
-use Rattle.std.specs.Prelude.{ℕ, ◌+◌, ◌<◌, ◌≤◌, ◌≡◌, length, ◌⊎◌, Bool, false, IsFalse, nat_le, if◌then◌else◌, Option, Some, None, IfSome, IsSomeAnd, List, [], ◌∷◌, ◌++◌}
+use Rattle.std.specs.Prelude.{ℕ, ◌+◌, ◌<◌, ◌≤◌, ◌≡◌, length, ◌⊎◌, Bool, false, IsFalse, nat_le}
+use Rattle.std.specs.Prelude.{if◌then◌else◌, Option, Some, None, IfSome, IsSomeAnd, List, [], ◌∷◌}
+use Rattle.std.specs.Prelude.{◌++◌}
 use Rattle.archive_terms.specs.Archive.{Entry, IsArchive}
 use Rattle.disk_model.specs.Images.{Pending, all_synced}
 use Rattle.disk_model.specs.Moments.{Elapses}
@@ -12,20 +14,24 @@ use Rattle.disk_model.specs.declared.orders.Pick.TheVariants.{Old, New, Torn}
 use Rattle.disk_model.specs.declared.orders.Stop.{Stop}
 use Rattle.octet_core.specs.Fault.{Rose}
 use Rattle.gate_journal.specs.declared.fault.JournalFault.{JournalFault}
-use Rattle.gate_journal.specs.declared.fault.JournalFault.TheVariants.{DiskFault, Full, Stale, Memory}
+use Rattle.gate_journal.specs.declared.fault.JournalFault.TheVariants.{DiskFault, Full, Stale}
+use Rattle.gate_journal.specs.declared.fault.JournalFault.TheVariants.{Memory}
 use Rattle.gate_journal.specs.File.{header, StandsFor, StandsAt, IsBatch, batch_octets}
 use Rattle.gate_journal.specs.Reading.{Refuses}
 
 -- a disk that tells holds a file that stands for these entries, all synced
 abbrev pub Keeps : Option Pending → List Entry → Type 0
-Keeps pending entries = IsSomeAnd pending (λ told. (told ≡ all_synced told.content) × StandsFor entries told.content)
+Keeps pending entries = IsSomeAnd pending (λ told. (told ≡ all_synced told.content)
+    × StandsFor entries told.content)
 
 -- a disk that tells keeps entries, and the gate behind them stands at this place
 abbrev pub IsAtRest : Option Pending → ℕ → Type 0
-IsAtRest pending gate = IfSome pending (λ told. (told ≡ all_synced told.content) × (entries : List Entry) × StandsAt entries gate told.content)
+IsAtRest pending gate = IfSome pending (λ told. (told ≡ all_synced told.content)
+    × (entries : List Entry) × StandsAt entries gate told.content)
 
 -- nothing but reads: what is pending stays, also where one fails
-pub record OnlyReads {D : Type 0} (pending : D → Option Pending) (moment : D → ℕ) (images_since : D → ℕ → List ℕ → Type 0) (old new : D) : Type 0 where
+pub record OnlyReads {D : Type 0} (pending : D → Option Pending) (moment : D → ℕ) (images_since : D
+    → ℕ → List ℕ → Type 0) (old new : D) : Type 0 where
   pub same : pending new ≡ pending old
   pub time : Elapses (moment old) (moment new) (images_since old) (images_since new) (pending new)
 
@@ -45,7 +51,8 @@ appending_octets gate octets = Write (gate + 1) octets ∷ Sync ∷ Write gate (
 abbrev pub appending : ℕ → List Entry → List Call
 appending gate batch = appending_octets gate (closed_batch batch)
 
--- a journal on a disk, as contracts see it: the gate behind its batches, and whether an append has failed
+-- a journal on a disk, as contracts see it: the gate behind its batches, and whether an append has
+-- failed
 pub record JournalState (D : Type 0) : Type 0 where
   pub disk : D
   pub gate : ℕ
@@ -82,17 +89,18 @@ pub record IsToStop (disk : DiskState) (stop : Stop) : Type 0 where
   pub stops : disk.stop ≡ Some stop
   pub succeeds : disk.calls.failing ≡ []
 
--- An append of a batch behind a gate of a disk in memory that was to stop at one of its four calls: it failed, and not for
--- want of memory.
-pub record StopsIn (disk : DiskState) (gate : ℕ) (batch : List Entry) (stop : Stop) (after : DiskState) : Type 0 where
+-- An append of a batch behind a gate of a disk in memory that was to stop at one of its four calls:
+-- it failed, and not for want of memory.
+pub record StopsIn (disk : DiskState) (gate : ℕ) (batch : List Entry) (stop : Stop)
+    (after : DiskState) : Type 0 where
   pub ordered : IsToStop disk stop
   pub some : 0 < stop.calls
   pub within : stop.calls ≤ 4
   pub failed : FailedAtOne IsMadeCall IsFailedCall disk (appending gate batch) after
   pub ample : IsFalse after.memory_refused
 
--- Whether a stop at the k-th of an append's four calls leaves the batch in the file: at the gate's write or at the sync
--- behind it, where the pick keeps all that was written.
+-- Whether a stop at the k-th of an append's four calls leaves the batch in the file: at the gate's
+-- write or at the sync behind it, where the pick keeps all that was written.
 abbrev pub leaves_batch : ℕ → Pick → Bool
 leaves_batch k New = nat_le 3 k
 leaves_batch k Old = false
@@ -100,8 +108,10 @@ leaves_batch k Torn = false
 
 -- the entries that such a stop leaves
 abbrev pub entries_left : List Entry → List Entry → Stop → List Entry
-entries_left entries batch stop = if leaves_batch stop.calls stop.pick then entries ++ batch else entries
+entries_left entries batch stop = if leaves_batch stop.calls stop.pick then entries ++ batch
+    else entries
 
 -- once it is restarted by the stop's pick a disk in memory keeps these entries
 abbrev pub KeepsOnRestart : DiskState → Stop → List Entry → Type 0
-KeepsOnRestart stopped stop entries = Keeps (Some (pending_of (restarted stopped stop.pick))) entries
+KeepsOnRestart stopped stop entries = Keeps (Some (pending_of (restarted stopped stop.pick)))
+    entries

@@ -20,7 +20,8 @@ pub struct Growing {
 
 impl Model for Growing {
     ghost use Rattle.std.specs.Prelude.{◌≡◌, List, None};
-    ghost use Rattle.archive_terms.specs.Archive.{Entry, IsArchive, last_time, frame_time, seal_time};
+    ghost use Rattle.archive_terms.specs.Archive.{Entry, IsArchive, last_time, frame_time};
+    ghost use Rattle.archive_terms.specs.Archive.{seal_time};
 
     ghost Value = { List Entry };
 

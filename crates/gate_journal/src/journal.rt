@@ -1,5 +1,8 @@
 // A journal on a disk.
-ghost use Rattle.std.specs.Prelude.{◌≡◌, ◌≢◌, ◌+◌, ◌-◌, ◌*◌, ◌<◌, ◌≤◌, ◌^◌, ◌++◌, ◌⊎◌, ℕ, true, false, List, length, max, [], ◌∷◌, Some, option_map, IfSome, IsSomeAnd, is_some, IsTrue, OnOk, OnErr, IfOk, IfErr, IsOk, IsErrOf, Ok, Err};
+ghost use Rattle.std.specs.Prelude.{◌≡◌, ◌≢◌, ◌+◌, ◌-◌, ◌*◌, ◌<◌, ◌≤◌, ◌^◌, ◌++◌, ◌⊎◌, ℕ, true};
+ghost use Rattle.std.specs.Prelude.{false, List, length, max, [], ◌∷◌, Some, option_map, IfSome};
+ghost use Rattle.std.specs.Prelude.{IsSomeAnd, is_some, IsTrue, OnOk, OnErr, IfOk, IfErr, IsOk};
+ghost use Rattle.std.specs.Prelude.{IsErrOf, Ok, Err};
 ghost use Rattle.std.specs.List.{list_all};
 ghost use Rattle.octet_core.specs.Fault.{FailsOnlyByFault, Rose};
 ghost use Rattle.archive_terms.specs.Archive.{Entry, IsArchive, is_storable};
@@ -9,7 +12,9 @@ ghost use Rattle.disk_model.specs.Calls.{AllMade, FailedAtOne, RunsCalls};
 ghost use Rattle.disk_model.specs.MemoryDisk.{steered};
 ghost use Rattle.disk_model.specs.declared.call.Call.TheVariants.{Write, Sync};
 ghost use Rattle.gate_journal.specs.File.{StandsFor, StandsAt, entries_octets};
-ghost use Rattle.gate_journal.specs.Kept.{Keeps, IsAtRest, IsOldOrNew, IsReady, IsShort, OnlyReads, RefusesDisk, appending, appending_octets, creating, IsUnread};
+ghost use Rattle.gate_journal.specs.Kept.{Keeps, IsAtRest, IsOldOrNew, IsReady, IsShort, OnlyReads};
+ghost use Rattle.gate_journal.specs.Kept.{RefusesDisk, appending, appending_octets, creating};
+ghost use Rattle.gate_journal.specs.Kept.{IsUnread};
 ghost use Rattle.gate_journal.specs.declared.fault.JournalFault.TheVariants as JournalFault;
 
 use crate::loading::{HEADER, OPEN, load};
@@ -54,8 +59,8 @@ impl<D: Disk> Model for Journal<D> {
 }
 
 impl<D: Disk> Journal<D> {
-    /// A journal of no entries on an empty disk. It costs one write and one sync. A refusal hands the
-    /// disk back; after a fault of the disk the file may hold a part of the header.
+    /// A journal of no entries on an empty disk. It costs one write and one sync. A refusal hands
+    /// the disk back; after a fault of the disk the file may hold a part of the header.
     pub fn create(alloc: Global, mut disk: D) -> Result<Journal<D>, (JournalFault, D)>
         ensures keeps { IfOk result (λ journal. IfSome (D.pending disk) (λ _. Keeps
             (D.pending journal.disk) [])) }
@@ -103,9 +108,11 @@ impl<D: Disk> Journal<D> {
         ensures tells { IfOk result (λ read. is_some (D.pending read.0.disk)
             ≡ is_some (D.pending disk)) }
         ensures calls { IfOk result (λ read. AllMade D.makes disk (Sync ∷ []) read.0.disk) }
-        ensures refused { IfErr result (λ fault. RefusesDisk fault.0 (D.pending disk) (D.faults disk)
+        ensures refused { IfErr result (λ fault.
+            RefusesDisk fault.0 (D.pending disk) (D.faults disk)
             (D.faults fault.1)) }
-        ensures standing { IfErr result (λ fault. (entries : List Entry) → IsSomeAnd (D.pending disk)
+        ensures standing { IfErr result (λ fault. (entries : List Entry)
+            → IsSomeAnd (D.pending disk)
             (λ told. StandsFor entries told.content) → IsUnread fault.0) }
     {
         match load_synced(alloc, &mut disk) {
@@ -122,8 +129,8 @@ impl<D: Disk> Journal<D> {
         }
     }
 
-    /// The same in place, whatever appends failed: the disk is synced, and then read. After a refusal
-    /// the journal is stale.
+    /// The same in place, whatever appends failed: the disk is synced, and then read. After a
+    /// refusal the journal is stale.
     pub fn recover_again(&mut self, alloc: Global) -> Result<Entries, JournalFault>
         ensures stands { IfOk result (λ entries. IfSome (D.pending self.old.disk)
             (λ told. StandsAt entries self.new.gate told.content)) }
@@ -161,9 +168,11 @@ impl<D: Disk> Journal<D> {
         requires archive { (entries : List Entry) → Keeps (D.pending self.old.disk) entries
             → IsArchive (entries ++ batch.now) }
         requires capacity { capacity ≤ 268435456 }
-        ensures appended { OnOk result ((entries : List Entry) → Keeps (D.pending self.old.disk) entries
+        ensures appended { OnOk result ((entries : List Entry)
+            → Keeps (D.pending self.old.disk) entries
             → Keeps (D.pending self.new.disk) (entries ++ batch.now)) }
-        ensures gate { OnOk result (self.new.gate ≡ self.old.gate + (length (entries_octets batch.now) + 7)) }
+        ensures gate { OnOk result (self.new.gate
+            ≡ self.old.gate + (length (entries_octets batch.now) + 7)) }
         ensures any_moment { (entries : List Entry) → Keeps (D.pending self.old.disk) entries
             → HoldsThroughout D.moment D.images_since self.old.disk self.new.disk
             (IsOldOrNew entries batch.now) }
@@ -180,11 +189,13 @@ impl<D: Disk> Journal<D> {
             (self.new ≡ self.old) }
         ensures full { self.old.is_stale ≡ false
             → capacity - (self.old.gate + 1) < length (entries_octets batch.now) + 7
-            → (result ≡ Err (JournalFault.Full (length (entries_octets batch.now) + 7) (capacity - (self.old.gate + 1)))) × (self.new ≡ self.old) }
+            → (result ≡ Err (JournalFault.Full (length (entries_octets batch.now) + 7)
+            (capacity - (self.old.gate + 1)))) × (self.new ≡ self.old) }
         ensures memory { IsErrOf result JournalFault.Memory → self.new ≡ self.old }
         ensures fault { self.old.is_stale ≡ false
             → length (entries_octets batch.now) + 7 ≤ capacity - (self.old.gate + 1)
-            → IsOk result ⊎ IsErrOf result JournalFault.DiskFault ⊎ IsErrOf result JournalFault.Memory }
+            → IsOk result ⊎ IsErrOf result JournalFault.DiskFault
+            ⊎ IsErrOf result JournalFault.Memory }
     {
         disk_model::laws::images_at_a_moment::<D>();
         record_form::laws::read_back();
@@ -213,8 +224,8 @@ impl<D: Disk> Journal<D> {
         self.gate + 1
     }
 
-    /// Whether an append answered `DiskFault`, so that each one answers `Stale`. While none has, the
-    /// gate stands behind what the disk keeps.
+    /// Whether an append answered `DiskFault`, so that each one answers `Stale`. While none has,
+    /// the gate stands behind what the disk keeps.
     pub fn is_stale(&self) -> bool
         ensures stale { result ≡ self.now.is_stale }
         ensures at_rest { self.now.is_stale ≡ false → IsAtRest (D.pending self.now.disk)
@@ -252,14 +263,20 @@ fn put<D: Disk>(disk: &mut D, gate: u64, octets: &[u8]) -> Result<(), Failed>
     requires at_rest { IsAtRest (D.pending disk.old) gate }
     requires size { gate < D.extent disk.old }
     requires room { gate + 1 + length octets.now < 2 ^ 64 }
-    ensures added { OnOk result ((batch : List Entry) → IsReady (D.pending disk.old) batch octets.now → (entries : List Entry) → Keeps (D.pending disk.old) entries → Keeps
+    ensures added { OnOk result ((batch : List Entry)
+        → IsReady (D.pending disk.old) batch octets.now → (entries : List Entry)
+        → Keeps (D.pending disk.old) entries → Keeps
         (D.pending disk.new) (entries ++ batch)) }
-    ensures at_rest { OnOk result ((batch : List Entry) → IsReady (D.pending disk.old) batch octets.now → IsAtRest (D.pending disk.new) (gate + length octets.now)) }
+    ensures at_rest { OnOk result ((batch : List Entry)
+        → IsReady (D.pending disk.old) batch octets.now
+        → IsAtRest (D.pending disk.new) (gate + length octets.now)) }
     ensures size { OnOk result (gate + length octets.now < D.extent disk.new) }
-    ensures any_moment { (batch : List Entry) → IsReady (D.pending disk.old) batch octets.now → (entries : List Entry) → Keeps (D.pending disk.old) entries
+    ensures any_moment { (batch : List Entry) → IsReady (D.pending disk.old) batch octets.now
+        → (entries : List Entry) → Keeps (D.pending disk.old) entries
         → HoldsThroughout D.moment D.images_since disk.old disk.new (IsOldOrNew entries batch) }
     ensures tells { is_some (D.pending disk.new) ≡ is_some (D.pending disk.old) }
-    ensures calls { RunsCalls D.makes D.fails disk.old (appending_octets gate octets.now) disk.new result }
+    ensures calls { RunsCalls D.makes D.fails disk.old (appending_octets gate octets.now) disk.new
+        result }
     ensures cause { FailsOnlyByFault (D.faults disk.old) (D.faults disk.new) result }
 {
     record_form::laws::read_back();
@@ -301,8 +318,10 @@ fn read_all<D: Disk>(alloc: Global, disk: &mut D) -> Result<(Entries, u64), Jour
     ensures fits { IfOk result (λ read. read.1 + 1 < 2 ^ 64) }
     ensures same { OnOk result (disk.new ≡ disk.old) }
     ensures reads { OnlyReads D.pending D.moment D.images_since disk.old disk.new }
-    ensures refused { IfErr result (λ fault. RefusesDisk fault (D.pending disk.old) (D.faults disk.old) (D.faults disk.new)) }
-    ensures standing { IfErr result (λ fault. (entries : List Entry) → IsSomeAnd (D.pending disk.old)
+    ensures refused { IfErr result (λ fault. RefusesDisk fault (D.pending disk.old)
+        (D.faults disk.old) (D.faults disk.new)) }
+    ensures standing { IfErr result (λ fault. (entries : List Entry)
+        → IsSomeAnd (D.pending disk.old)
         (λ told. StandsFor entries told.content) → IsUnread fault) }
 {
     laws::a_refused_file_stands_for_nothing();
@@ -314,11 +333,13 @@ fn read_all<D: Disk>(alloc: Global, disk: &mut D) -> Result<(Entries, u64), Jour
 
 // Reads all octets of the file.
 fn read_file<D: Disk>(alloc: Global, disk: &mut D) -> Result<Vec<u8>, JournalFault>
-    ensures content { IfOk result (λ file. IfSome (D.pending disk.old) (λ told. file.items ≡ told.content)) }
+    ensures content { IfOk result (λ file. IfSome (D.pending disk.old)
+        (λ told. file.items ≡ told.content)) }
     ensures size { IfOk result (λ file. length file.items ≡ D.extent disk.old) }
     ensures same { OnOk result (disk.new ≡ disk.old) }
     ensures reads { OnlyReads D.pending D.moment D.images_since disk.old disk.new }
-    ensures refused { IfErr result (λ fault. RefusesDisk fault (D.pending disk.old) (D.faults disk.old) (D.faults disk.new)) }
+    ensures refused { IfErr result (λ fault. RefusesDisk fault (D.pending disk.old)
+        (D.faults disk.old) (D.faults disk.new)) }
     ensures unread { IfErr result IsUnread }
 {
     disk_model::laws::images_at_a_moment::<D>();

@@ -1,18 +1,21 @@
-// Laws of what a file stands for and of what a stop leaves, each the contract of an empty function: a caller has the law by
-// the call.
-ghost use Rattle.std.specs.Prelude.{◌≡◌, ◌<◌, ◌≤◌, ◌++◌, ℕ, [], List, Option, None, Some, IfSome, IsTrue, IsFalse};
+// Laws of what a file stands for and of what a stop leaves, each the contract of an empty function:
+// a caller has the law by the call.
+ghost use Rattle.std.specs.Prelude.{◌≡◌, ◌<◌, ◌≤◌, ◌++◌, ℕ, [], List, Option, None, Some, IfSome};
+ghost use Rattle.std.specs.Prelude.{IsTrue, IsFalse};
 ghost use Rattle.archive_terms.specs.Archive.{Entry, IsArchive, is_storable};
 ghost use Rattle.std.specs.List.{list_all};
 ghost use Rattle.disk_model.specs.Images.{Pending};
 ghost use Rattle.disk_model.specs.Moments.{IsImageOf};
 ghost use Rattle.disk_model.specs.Calls.{AllMade, FailedAtOne};
-ghost use Rattle.disk_model.specs.MemoryDisk.{DiskState, IsMadeCall, IsFailedCall, pending_of, steered};
+ghost use Rattle.disk_model.specs.MemoryDisk.{DiskState, IsMadeCall, IsFailedCall, pending_of};
+ghost use Rattle.disk_model.specs.MemoryDisk.{steered};
 ghost use Rattle.disk_model.specs.declared.orders.Orders.{Orders};
 ghost use Rattle.disk_model.specs.declared.orders.Stop.{Stop};
 ghost use Rattle.gate_journal.specs.File.{IsBatch, StandsFor, StandsAt};
 ghost use Rattle.record_form.specs.Reading.{AreOctets};
 ghost use Rattle.gate_journal.specs.Reading.{IsDamagedAt, IsNoJournal};
-ghost use Rattle.gate_journal.specs.Kept.{Keeps, IsAtRest, IsToStop, StopsIn, KeepsOnRestart, appending, entries_left};
+ghost use Rattle.gate_journal.specs.Kept.{Keeps, IsAtRest, IsToStop, StopsIn, KeepsOnRestart};
+ghost use Rattle.gate_journal.specs.Kept.{appending, entries_left};
 
 /// A file stands for one list of entries at most, and its gate stands at one place.
 pub fn a_file_stands_for_one_list()
@@ -41,7 +44,8 @@ pub fn a_batch_may_follow()
     record_form::laws::read_back();
 }
 
-/// A file that is damaged is so at one place and stands for nothing; nor does one that is no journal.
+/// A file that is damaged is so at one place and stands for nothing; nor does one that is no
+/// journal.
 pub fn a_refused_file_stands_for_nothing()
     ensures damaged { (place there : ℕ) (entries : List Entry) (file : List ℕ) → AreOctets file
         → IsDamagedAt place file → StandsAt entries there file → ⊥ }

@@ -1,7 +1,9 @@
 // A journal's entries from the octets of its file.
-ghost use Rattle.std.specs.Prelude.{◌≡◌, ◌≤◌, ◌<◌, ◌+◌, ◌^◌, ◌⊎◌, ◌==◌, if◌then◌else◌, min, ◌++◌, drop, IfOk, IfErr, IfSome, IfNone, length, Ok, Err, option_map};
+ghost use Rattle.std.specs.Prelude.{◌≡◌, ◌≤◌, ◌<◌, ◌+◌, ◌^◌, ◌⊎◌, ◌==◌, if◌then◌else◌, min, ◌++◌};
+ghost use Rattle.std.specs.Prelude.{drop, IfOk, IfErr, IfSome, IfNone, length, Ok, Err, option_map};
 ghost use Rattle.gate_journal.specs.File.{header, StandsAt};
-ghost use Rattle.gate_journal.specs.Reading.{Gives, IsNoJournal, Refuses, next_entry, entries_at, batch_at, gate_at, fault_place, first_fault, lesser};
+ghost use Rattle.gate_journal.specs.Reading.{Gives, IsNoJournal, Refuses, next_entry, entries_at};
+ghost use Rattle.gate_journal.specs.Reading.{batch_at, gate_at, fault_place, first_fault, lesser};
 ghost use Rattle.gate_journal.specs.declared.fault.JournalFault.TheVariants.{Damaged};
 ghost use Rattle.gate_journal.specs.declared.fault.JournalFault.TheVariants as JournalFault;
 ghost use Rattle.record_form.specs.declared.fault.EntryFault.TheVariants as EntryFault;
@@ -79,7 +81,8 @@ fn next_entry(
     place: usize,
 ) -> Result<usize, JournalFault>
     requires { place ≤ length file.now }
-    ensures exact { Gives (λ end. (growing.new, end)) result (next_entry growing.old file.now place) }
+    ensures exact { Gives (λ end. (growing.new, end)) result
+        (next_entry growing.old file.now place) }
     ensures behind { IfOk result (λ end. place ≤ end) }
     ensures within { IfOk result (λ end. end ≤ length file.now) }
 {
@@ -99,7 +102,8 @@ fn next_entry(
 fn first_fault(growing: &Growing, file: &[u8], place: usize, fault: EntryFault) -> JournalFault
     requires { place ≤ length file.now }
     ensures memory { fault ≡ EntryFault.Memory → result ≡ JournalFault.Memory }
-    ensures place { (fault ≡ EntryFault.Memory) ⊎ (result ≡ Damaged (first_fault growing.now file.now place fault)) }
+    ensures place { (fault ≡ EntryFault.Memory)
+        ⊎ (result ≡ Damaged (first_fault growing.now file.now place fault)) }
 {
     let is_late = growing.is_late(read_ert_at(file, place));
     match fault_at(file, place, fault) {
@@ -113,7 +117,8 @@ fn first_fault(growing: &Growing, file: &[u8], place: usize, fault: EntryFault) 
 // What a fault of the entry that begins at a place is for the file, by itself.
 fn fault_at(file: &[u8], place: usize, fault: EntryFault) -> JournalFault
     ensures memory { fault ≡ EntryFault.Memory → result ≡ JournalFault.Memory }
-    ensures place { (fault ≡ EntryFault.Memory) ⊎ (result ≡ Damaged (fault_place file.now place fault)) }
+    ensures place { (fault ≡ EntryFault.Memory)
+        ⊎ (result ≡ Damaged (fault_place file.now place fault)) }
 {
     let place = match fault {
         EntryFault::Cut => file.len(),
@@ -135,7 +140,8 @@ fn entries(
     place: usize,
 ) -> Result<usize, JournalFault>
     requires { place ≤ length file.now }
-    ensures exact { Gives (λ end. (growing.new, end)) result (entries_at count growing.old file.now place) }
+    ensures exact { Gives (λ end. (growing.new, end)) result
+        (entries_at count growing.old file.now place) }
     ensures behind { IfOk result (λ end. place ≤ end) }
     ensures within { IfOk result (λ end. end ≤ length file.now) }
 {
@@ -212,7 +218,8 @@ fn gated_batch(
     file: &[u8],
     place: usize,
 ) -> Result<Option<usize>, JournalFault>
-    ensures exact { Gives (λ end. option_map (λ e. (growing.new, e)) end) result (gate_at growing.old file.now place) }
+    ensures exact { Gives (λ end. option_map (λ e. (growing.new, e)) end) result
+        (gate_at growing.old file.now place) }
     ensures behind { IfOk result (λ end. IfSome end (λ e. place < e)) }
     ensures within { IfOk result (λ end. IfSome end (λ e. e ≤ length file.now)) }
     ensures same { IfOk result (λ end. IfNone end (growing.new ≡ growing.old)) }

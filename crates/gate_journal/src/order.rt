@@ -1,6 +1,7 @@
 // The order of an archive, entry by entry.
 ghost use Rattle.std.specs.Prelude.{◌≡◌, ◌&&◌, ◌++◌, [], ◌∷◌, List, Some, option_map};
-ghost use Rattle.archive_terms.specs.Archive.{frame_time, seal_time, is_from, is_above, is_in_order, is_storable, is_archive};
+ghost use Rattle.archive_terms.specs.Archive.{frame_time, seal_time, is_from, is_above};
+ghost use Rattle.archive_terms.specs.Archive.{is_in_order, is_storable, is_archive};
 ghost use Rattle.archive_terms.specs.Archive as terms;
 ghost use Rattle.record_form.specs.Entry.{entry_of, entries_of};
 ghost use Rattle.std.specs.Option.{option_or};
@@ -60,7 +61,8 @@ pub fn follows(entries: &Entries, batch: &Entries) -> bool
 
 // The times of an archive with entries behind it, or none where that is no archive.
 fn pass(before: Option<Times>, entries: &[Entry]) -> Option<Times>
-    ensures { (earlier : List terms.Entry) → Knows earlier before → Knows (earlier ++ entries_of entries.now) result }
+    ensures { (earlier : List terms.Entry) → Knows earlier before
+        → Knows (earlier ++ entries_of entries.now) result }
 {
     archive_terms::laws::follows_by_last_times();
     archive_terms::laws::archive_grows();
@@ -72,7 +74,8 @@ fn pass(before: Option<Times>, entries: &[Entry]) -> Option<Times>
 }
 
 fn next(before: Option<Times>, entry: &Entry) -> Option<Times>
-    ensures { (earlier : List terms.Entry) → Knows earlier before → Knows (earlier ++ entry_of entry.now ∷ []) result }
+    ensures { (earlier : List terms.Entry) → Knows earlier before
+        → Knows (earlier ++ entry_of entry.now ∷ []) result }
 {
     archive_terms::laws::follows_by_last_times();
     archive_terms::laws::archive_grows();

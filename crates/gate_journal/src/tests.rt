@@ -1,5 +1,5 @@
-// A journal through its calls. The files were written out by hand from their form; which entries a stop
-// leaves is the file's promise: the batch is there where the gate was opened.
+// A journal through its calls. The files were written out by hand from their form; which entries a
+// stop leaves is the file's promise: the batch is there where the gate was opened.
 ghost use Rattle.std.specs.Prelude.{Some, IfOk};
 ghost use Rattle.disk_model.specs.MemoryDisk.{pending_of};
 ghost use Rattle.gate_journal.specs.Kept.{Keeps};

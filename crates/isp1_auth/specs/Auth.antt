@@ -1,5 +1,6 @@
 -- What is said of credentials: the first fault, or none.
-use Rattle.std.specs.Prelude.{◌≡◌, ℕ, ◌*◌, ◌<◌, ◌≤◌, nat_lt, nat_eq, if◌then◌else◌, List, Option, Some, None, Result, Ok, Err}
+use Rattle.std.specs.Prelude.{◌≡◌, ℕ, ◌*◌, ◌<◌, ◌≤◌, nat_lt, nat_eq, if◌then◌else◌, List, Option}
+use Rattle.std.specs.Prelude.{Some, None, Result, Ok, Err}
 use Rattle.std.specs.Int.{abs_diff}
 use Rattle.std.specs.Cmp.Lexicographic.{pointwise}
 use Rattle.ber_core.specs.declared.fault.BerFault.{BerFault}
@@ -9,7 +10,8 @@ use Rattle.cds_time.specs.Moment.{moment_of, of_micro_octets}
 use Rattle.isp1_auth.specs.declared.secret.Secret.{Secret}
 use Rattle.isp1_auth.specs.declared.checking.TheConstants.{PICOS_A_SECOND}
 use Rattle.isp1_auth.specs.declared.auth_fault.AuthFault.{AuthFault}
-use Rattle.isp1_auth.specs.declared.auth_fault.AuthFault.TheVariants.{Missing, Malformed, TooOld, WrongDigest}
+use Rattle.isp1_auth.specs.declared.auth_fault.AuthFault.TheVariants.{Missing, Malformed, TooOld}
+use Rattle.isp1_auth.specs.declared.auth_fault.AuthFault.TheVariants.{WrongDigest}
 use Rattle.isp1_auth.specs.Digest.{digest}
 use Rattle.isp1_auth.specs.Signed.{Claim, sequence}
 
@@ -35,13 +37,17 @@ IsProtected secret claim = claim.protected ≡ digest secret claim.time claim.nu
 -- The answer to octets that are used as credentials.
 abbrev pub IsAnswerTo : List ℕ → Secret → ℕ → Result (Unit {0}) AuthFault → Type 0
 IsAnswerTo octets secret now (Ok accepted) =
-    (claim : Claim) × (moment : ℕ) × Says octets claim moment × (abs_diff now moment ≤ allowed secret) × IsProtected secret claim
+    (claim : Claim) × (moment : ℕ) × Says octets claim moment
+    × (abs_diff now moment ≤ allowed secret) × IsProtected secret claim
 IsAnswerTo octets secret now (Err Missing) = ⊥
-IsAnswerTo octets secret now (Err Malformed) = (claim : Claim) (moment : ℕ) → Says octets claim moment → ⊥
+IsAnswerTo octets secret now (Err Malformed) = (claim : Claim) (moment : ℕ)
+    → Says octets claim moment → ⊥
 IsAnswerTo octets secret now (Err (TooOld difference)) =
-    (claim : Claim) × (moment : ℕ) × Says octets claim moment × (difference ≡ abs_diff now moment) × (allowed secret < difference)
+    (claim : Claim) × (moment : ℕ) × Says octets claim moment × (difference ≡ abs_diff now moment)
+    × (allowed secret < difference)
 IsAnswerTo octets secret now (Err WrongDigest) =
-    (claim : Claim) × (moment : ℕ) × Says octets claim moment × (abs_diff now moment ≤ allowed secret) × (IsProtected secret claim → ⊥)
+    (claim : Claim) × (moment : ℕ) × Says octets claim moment
+    × (abs_diff now moment ≤ allowed secret) × (IsProtected secret claim → ⊥)
 
 -- The answer to credentials: unused ones are Missing.
 abbrev pub IsAnswer : Option (List ℕ) → Secret → ℕ → Result (Unit {0}) AuthFault → Type 0

@@ -1,4 +1,5 @@
--- What protects credentials (CCSDS 913.1-B): the digest of the sequence of time, number, name and password.
+-- What protects credentials (CCSDS 913.1-B): the digest of the sequence of time, number, name and
+-- password.
 use Rattle.std.specs.Prelude.{ℕ, pos, List, [], ◌∷◌, ◌++◌, length}
 use Rattle.ber_core.specs.Length.{shortest_length}
 use Rattle.ber_core.specs.Integer.{integer_octets}
@@ -37,7 +38,8 @@ digest secret time number = hashed secret.hash (hash_input secret time number)
 abbrev pub before_name : Secret → List ℕ → ℕ → List ℕ
 before_name secret time number =
     (0x30 ∷ shortest_length (length (canonical_all (hash_fields secret time number))))
-    ++ canonical (primitive (0x04 ∷ []) time) ++ canonical (primitive (0x02 ∷ []) (integer_octets (pos number)))
+    ++ canonical (primitive (0x04 ∷ []) time)
+    ++ canonical (primitive (0x02 ∷ []) (integer_octets (pos number)))
     ++ (0x1a ∷ []) ++ shortest_length (length secret.name.now)
 
 -- between the name and the password

@@ -13,17 +13,22 @@ use Rattle.isp1_auth.specs.Auth.{auth, allowed, Says, IsProtected, IsAnswerTo}
 -- Octets have one answer, the one that is worked out.
 abbrev pub OneAnswer : Type 0
 OneAnswer =
-    (octets : List ℕ) (secret : Secret) (now : ℕ) (answer : Result (Unit {0}) AuthFault) → IsSlice octets
+    (octets : List ℕ) (secret : Secret) (now : ℕ) (answer : Result (Unit {0}) AuthFault)
+    → IsSlice octets
     → IsAnswerTo octets secret now answer ↔ (answer ≡ auth secret (Some octets) now)
 
--- Credentials with the secret's digest are accepted exactly while their time is at most the delay from now, either way.
+-- Credentials with the secret's digest are accepted exactly while their time is at most the delay
+-- from now, either way.
 abbrev pub AcceptedWhileNear : Type 0
 AcceptedWhileNear =
-    (octets : List ℕ) (secret : Secret) (claim : Claim) (moment now : ℕ) → Says octets claim moment → IsProtected secret claim
+    (octets : List ℕ) (secret : Secret) (claim : Claim) (moment now : ℕ) → Says octets claim moment
+    → IsProtected secret claim
     → (auth secret (Some octets) now ≡ Ok tt) ↔ (abs_diff now moment ≤ allowed secret)
 
--- What is signed at a moment is accepted at that moment, where a delay of a second or more is allowed.
+-- What is signed at a moment is accepted at that moment, where a delay of a second or more is
+-- allowed.
 abbrev pub SignedIsAccepted : Type 0
 SignedIsAccepted =
-    (secret : Secret) (now number : ℕ) → now < MOMENT_END → number ≤ GREATEST_NUMBER → 1 ≤ secret.delay
+    (secret : Secret) (now number : ℕ) → now < MOMENT_END → number ≤ GREATEST_NUMBER
+    → 1 ≤ secret.delay
     → auth secret (Some (signed secret (octets_of (in_micros now)) number)) now ≡ Ok tt

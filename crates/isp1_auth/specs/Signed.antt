@@ -17,14 +17,17 @@ pub record Claim : Type 0 where
   pub number : ℕ
   pub protected : List ℕ
 
--- time OCTET STRING of 8, number INTEGER 0 to 2147483647, protected OCTET STRING: of as many octets as a slice has
+-- time OCTET STRING of 8, number INTEGER 0 to 2147483647, protected OCTET STRING: of as many octets
+-- as a slice has
 abbrev pub fields : Members Claim
-fields = members_as (simple (0x04 ∷ []) (octet_string 8 8) refl ▸ natural (0x02 ∷ []) 0 GREATEST_NUMBER refl refl ▸ last (simple (0x04 ∷ []) (octet_string 0 (2 ^ 63 - 1)) refl)) (record {
-  to = λ p. record { time = p.0; number = p.1.0; protected = p.1.1 };
-  from = λ c. (c.time, (c.number, c.protected));
-  there = λ c. refl;
-  back = λ p. refl;
-})
+fields = members_as (simple (0x04 ∷ []) (octet_string 8 8) refl ▸ natural (0x02 ∷ []) 0
+    GREATEST_NUMBER refl refl ▸ last (simple (0x04 ∷ []) (octet_string 0 (2 ^ 63 - 1)) refl))
+    (record {
+      to = λ p. record { time = p.0; number = p.1.0; protected = p.1.1 };
+      from = λ c. (c.time, (c.number, c.protected));
+      there = λ c. refl;
+      back = λ p. refl;
+    })
 
 -- the SEQUENCE of these
 abbrev pub sequence : Element Claim
@@ -32,7 +35,11 @@ sequence = structured (0x30 ∷ []) fields refl
 
 -- a time and a number, protected by the secret's digest
 abbrev pub claim : Secret → List ℕ → ℕ → Claim
-claim secret time number = record { time = time; number = number; protected = digest secret time number }
+claim secret time number = record {
+  time = time;
+  number = number;
+  protected = digest secret time number;
+}
 
 -- the credentials that say so, in the canonical spelling
 abbrev pub signed : Secret → List ℕ → ℕ → List ℕ

@@ -1,5 +1,7 @@
--- What octets in a message's place are: a spelled message is found whole, and what is found whole is spelled.
-use Rattle.std.proofs.Common.{◌≡◌, ℕ, ◌+◌, ◌≤◌, List, ◌++◌, length, Option, Some, None, refl, ap, ◌∙◌, arith}
+-- What octets in a message's place are: a spelled message is found whole, and what is found whole
+-- is spelled.
+use Rattle.std.proofs.Common.{◌≡◌, ℕ, ◌+◌, ◌≤◌, List, ◌++◌, length, Option, Some, None, refl, ap}
+use Rattle.std.proofs.Common.{◌∙◌, arith}
 use Rattle.std.specs.Option.{option_or}
 use Rattle.std.specs.Int.{w16, w32, from_be_bytes, to_be_bytes}
 use Rattle.std.proofs.lemmas.Bool.{le-ltb, le-leb}
@@ -20,24 +22,32 @@ declared_is n h = from_be_bytes-to_be_bytes_4 n (omega arith)
 allowed : (p n : ℕ) → n ≤ LONGEST_PDU → wrong_size p 1 (Some n) ≡ None
 allowed p n h = rw (le-leb n LONGEST_PDU h) refl
 
-pub fault_of-spelling : (p : ℕ) (m : Content) (y : List ℕ) → IsMessage m → fault_of p (spelling m ++ y) ≡ None
+pub fault_of-spelling : (p : ℕ) (m : Content) (y : List ℕ) → IsMessage m
+    → fault_of p (spelling m ++ y) ≡ None
 fault_of-spelling p (pdu body) y h =
-    ap (λ (n : ℕ). option_or (wrong_size p 1 (Some n)) None) (declared_is (length body) h) ∙ ap (λ (o : Option TmlFault). option_or o None) (allowed p (length body) h)
+    ap (λ (n : ℕ). option_or (wrong_size p 1 (Some n)) None) (declared_is (length body) h)
+    ∙ ap (λ (o : Option TmlFault). option_or o None) (allowed p (length body) h)
 fault_of-spelling p (context interval factor) y h = refl
 fault_of-spelling p heartbeat y h = refl
 
 pub size_is : (came n : ℕ) → 8 + n ≤ came → size_among came (Some n) ≡ Some (8 + n)
 size_is came n h = rw (le-ltb came (8 + n) h) refl
 
-pub whole_size-spelling : (m : Content) (y : List ℕ) → IsMessage m → whole_size (spelling m ++ y) ≡ Some (length (spelling m))
+pub whole_size-spelling : (m : Content) (y : List ℕ) → IsMessage m
+    → whole_size (spelling m ++ y) ≡ Some (length (spelling m))
 whole_size-spelling (pdu body) y h =
-    let long : 8 + length body ≤ length (spelling (pdu body) ++ y) = omega (arith, length-append body y) in
-    ap (λ (n : ℕ). size_among (length (spelling (pdu body) ++ y)) (Some n)) (declared_is (length body) h) ∙ size_is _ _ long ∙ ap (λ (n : ℕ). Some n) (omega arith)
-whole_size-spelling (context interval factor) y h = size_is (length (spelling (context interval factor) ++ y)) 12 (omega arith)
+    let long : 8 + length body ≤ length (spelling (pdu body) ++ y) =
+    omega (arith, length-append body y) in
+    ap (λ (n : ℕ). size_among (length (spelling (pdu body) ++ y)) (Some n))
+    (declared_is (length body) h) ∙ size_is _ _ long ∙ ap (λ (n : ℕ). Some n) (omega arith)
+whole_size-spelling (context interval factor) y h =
+    size_is (length (spelling (context interval factor) ++ y)) 12 (omega arith)
 whole_size-spelling heartbeat y h = size_is (length (spelling heartbeat ++ y)) 0 (omega arith)
 
 pub content-spelling : (m : Content) → IsMessage m → content (spelling m) ≡ m
 content-spelling (pdu body) h = refl
 content-spelling (context interval factor) h =
-    ap (λ (n : ℕ). context n (from_be_bytes w16 (to_be_bytes w16 factor))) (from_be_bytes-to_be_bytes_2 interval h.0) ∙ ap (λ (n : ℕ). context interval n) (from_be_bytes-to_be_bytes_2 factor h.1)
+    ap (λ (n : ℕ). context n (from_be_bytes w16 (to_be_bytes w16 factor)))
+    (from_be_bytes-to_be_bytes_2 interval h.0)
+    ∙ ap (λ (n : ℕ). context interval n) (from_be_bytes-to_be_bytes_2 factor h.1)
 content-spelling heartbeat h = refl

@@ -16,6 +16,7 @@ picos seconds = seconds * PICOS_A_SECOND
 abbrev pub IsDue : Pulse → ℕ → Type 0
 IsDue p now = (p.interval ≢ 0) × (picos p.interval ≤ now - p.sent)
 
--- nothing was heard for the interval times the factor, or longer; with interval 0 there is no dead timer
+-- nothing was heard for the interval times the factor, or longer; with interval 0 there is no dead
+-- timer
 abbrev pub IsDead : Pulse → ℕ → Type 0
 IsDead p now = (p.interval ≢ 0) × (picos (p.interval * p.factor) ≤ now - p.heard)

@@ -21,7 +21,8 @@ protocol = 0x49 ∷ 0x53 ∷ 0x50 ∷ 0x31 ∷ 0 ∷ 0 ∷ 0 ∷ 1 ∷ []
 -- the one spelling of a message
 abbrev pub spelling : Content → List ℕ
 spelling (pdu body) = header 1 (length body) ++ body
-spelling (context interval factor) = header 2 CONTEXT_BODY ++ protocol ++ to_be_bytes w16 interval ++ to_be_bytes w16 factor
+spelling (context interval factor) = header 2 CONTEXT_BODY ++ protocol ++ to_be_bytes w16 interval
+    ++ to_be_bytes w16 factor
 spelling heartbeat = header 3 0
 
 abbrev pub spellings : List Content → List ℕ

@@ -1,5 +1,6 @@
 -- The messages of a list of octets, worked out from left to right.
-use Rattle.std.specs.Prelude.{◌≡◌, ℕ, zero, suc, ◌+◌, List, [], ◌∷◌, length, take, drop, Option, Some, None, ◌==◌, if◌then◌else◌}
+use Rattle.std.specs.Prelude.{◌≡◌, ℕ, zero, suc, ◌+◌, List, [], ◌∷◌, length, take, drop, Option}
+use Rattle.std.specs.Prelude.{Some, None, ◌==◌, if◌then◌else◌}
 use Rattle.std.specs.Int.{w16, from_be_bytes}
 use Rattle.isp1_tml.specs.declared.tml_fault.TmlFault.{TmlFault}
 use Rattle.isp1_tml.specs.Message.{Content, pdu, context, heartbeat, spelling, IsMessage}
@@ -10,7 +11,8 @@ use Rattle.isp1_tml.specs.Stream.{whole_size, IsStream}
 abbrev pub content_by : ℕ → List ℕ → Content
 content_by kind body =
     if kind == 1 then pdu body
-    else if kind == 2 then context (from_be_bytes w16 (drop 8 body)) (from_be_bytes w16 (drop 10 body))
+    else if kind == 2 then context (from_be_bytes w16 (drop 8 body))
+    (from_be_bytes w16 (drop 10 body))
     else heartbeat
 
 abbrev pub content : List ℕ → Content
@@ -40,7 +42,8 @@ reading_by later octets None (Some size) = behind (content (take size octets)) (
 unfoldable pub reading_within : ℕ → ℕ → List ℕ → Reading
 reading_within zero place octets = at_end octets (fault_of place octets)
 reading_within (suc n) place octets =
-    reading_by (λ size. reading_within n (place + size) (drop size octets)) octets (fault_of place octets) (whole_size octets)
+    reading_by (λ size. reading_within n (place + size) (drop size octets)) octets
+    (fault_of place octets) (whole_size octets)
 
 abbrev pub reading : ℕ → List ℕ → Reading
 reading place octets = reading_within (length octets) place octets

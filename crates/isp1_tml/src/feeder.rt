@@ -1,5 +1,6 @@
 // Octets in any pieces, made into whole messages.
-ghost use Rattle.std.specs.Prelude.{◌≡◌, ◌≢◌, ◌≤◌, ◌↔◌, ℕ, List, [], ◌++◌, take, drop, length, min, None, Some, IsTrue, ⊤, OnOk, IfOk, IfErr, IfSome};
+ghost use Rattle.std.specs.Prelude.{◌≡◌, ◌≢◌, ◌≤◌, ◌↔◌, ℕ, List, [], ◌++◌, take, drop, length, min};
+ghost use Rattle.std.specs.Prelude.{None, Some, IsTrue, ⊤, OnOk, IfOk, IfErr, IfSome};
 ghost use Rattle.std.specs.Borrow.{sem, follows_so};
 ghost use mathlib.Core.Option.{none};
 ghost use Rattle.isp1_tml.specs.contracts.feeder.Feeder.{the_row};
@@ -7,7 +8,8 @@ ghost use Rattle.isp1_tml.specs.Message.{Content};
 ghost use Rattle.isp1_tml.specs.Stream.{IsStream};
 ghost use Rattle.isp1_tml.specs.Reading.{reading};
 ghost use Rattle.isp1_tml.specs.Given.{given};
-ghost use Rattle.isp1_tml.specs.Feeding.{fresh, held, room_of, held_with, HasFault, StandsFor, next_of, after_next};
+ghost use Rattle.isp1_tml.specs.Feeding.{fresh, held, room_of, held_with, HasFault, StandsFor};
+ghost use Rattle.isp1_tml.specs.Feeding.{next_of, after_next};
 
 use crate::Memory;
 use crate::message::{Message, front_of, message_of};

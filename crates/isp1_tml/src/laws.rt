@@ -1,9 +1,11 @@
 // What the definitions say of every stream. A law's function does nothing: its contract is the law.
-ghost use Rattle.std.specs.Prelude.{◌≡◌, ℕ, ◌+◌, ◌<◌, ◌≤◌, List, [], ◌∷◌, ◌++◌, length, slice_index, Option, None, Some, Ok};
+ghost use Rattle.std.specs.Prelude.{◌≡◌, ℕ, ◌+◌, ◌<◌, ◌≤◌, List, [], ◌∷◌, ◌++◌, length};
+ghost use Rattle.std.specs.Prelude.{slice_index, Option, None, Some, Ok};
 ghost use Rattle.std.specs.List.{AllByRecursion};
 ghost use Rattle.isp1_tml.specs.declared.tml_fault.TmlFault.{TmlFault};
 ghost use Rattle.isp1_tml.specs.declared.message.TheConstants.{LONGEST_PDU};
-ghost use Rattle.isp1_tml.specs.Message.{Content, pdu, heartbeat, header, spelling, spellings, IsMessage};
+ghost use Rattle.isp1_tml.specs.Message.{Content, pdu, heartbeat, header, spelling, spellings};
+ghost use Rattle.isp1_tml.specs.Message.{IsMessage};
 ghost use Rattle.isp1_tml.specs.Fault.{fault_of};
 ghost use Rattle.isp1_tml.specs.Stream.{IsStream, BeginsHeader, BeginsMessage, whole_size};
 ghost use Rattle.isp1_tml.specs.Reading.{reading, IsRead};

@@ -1,5 +1,6 @@
 // The octets that a feeder holds.
-ghost use Rattle.std.specs.Prelude.{◌≡◌, ◌+◌, ◌-◌, ◌≤◌, ◌++◌, [], take, drop, length, vec_len, vec_capacity, IfOk};
+ghost use Rattle.std.specs.Prelude.{◌≡◌, ◌+◌, ◌-◌, ◌≤◌, ◌++◌, [], take, drop, length, vec_len};
+ghost use Rattle.std.specs.Prelude.{vec_capacity, IfOk};
 
 use crate::Memory;
 use crate::message::{HEADER, LONGEST_PDU};

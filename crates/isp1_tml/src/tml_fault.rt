@@ -1,6 +1,7 @@
 // Why octets in a message's place are refused.
 ghost use Rattle.std.specs.Prelude.{◌≡◌, ◌+◌, ◌<◌, length, IfSome};
-ghost use Rattle.isp1_tml.specs.Fault.{capped, first_difference, bad_type, not_zero, bad_length, bad_context, declared_length, fault_of, is_allowed};
+ghost use Rattle.isp1_tml.specs.Fault.{capped, first_difference, bad_type, not_zero, bad_length};
+ghost use Rattle.isp1_tml.specs.Fault.{bad_context, declared_length, fault_of, is_allowed};
 
 use crate::message::{CONTEXT_BODY, LONGEST_PDU};
 use std::error::Error;

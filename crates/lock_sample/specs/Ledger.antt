@@ -1,5 +1,6 @@
 -- What one thread gets that makes the calls of a list one after the other. This product's own.
-use Rattle.std.specs.Prelude.{◌≡◌, ℕ, ◌+◌, ◌-◌, nat_lt, List, [], ◌∷◌, ◌++◌, length, if◌then◌else◌, Option, Some, None, unwrap_or}
+use Rattle.std.specs.Prelude.{◌≡◌, ℕ, ◌+◌, ◌-◌, nat_lt, List, [], ◌∷◌, ◌++◌, length, if◌then◌else◌}
+use Rattle.std.specs.Prelude.{Option, Some, None, unwrap_or}
 use Rattle.std.specs.List.{fold}
 use Rattle.lock_sample.specs.State.{State}
 use Rattle.lock_sample.specs.declared.account.Opening.{Opening}
@@ -15,12 +16,14 @@ opened o = record { opening = o; balance = o.balance; latest = 0; notes = [] }
 
 -- the balance after a posting, or none where it can't be made
 abbrev pub posted : ℕ → Posting → Option ℕ
-posted b (Deposit amount) = if nat_lt (18446744073709551615 - b) amount then None else Some (b + amount)
+posted b (Deposit amount) = if nat_lt (18446744073709551615 - b) amount then None
+    else Some (b + amount)
 posted b (Withdrawal amount) = if nat_lt b amount then None else Some (b - amount)
 
 -- the balance after an order, or none where it is refused
 abbrev pub balance_after : State → Order → Option ℕ
-balance_after s o = if nat_lt (length s.notes) s.opening.room then posted s.balance o.posting else None
+balance_after s o = if nat_lt (length s.notes) s.opening.room then posted s.balance o.posting
+    else None
 
 -- the moment of a call
 abbrev pub moment_at : State → ℕ → ℕ
@@ -37,14 +40,25 @@ reply_with o None = Refused o
 
 -- the account after a call, and its reply
 abbrev pub after : State → ℕ → Order → State
-after s reading o = record { opening = s.opening; balance = unwrap_or (balance_after s o) s.balance; latest = moment_at s reading; notes = notes_with s.notes o (balance_after s o) }
+after s reading o = record {
+  opening = s.opening;
+  balance = unwrap_or (balance_after s o) s.balance;
+  latest = moment_at s reading;
+  notes = notes_with s.notes o (balance_after s o);
+}
 
 abbrev pub reply_to : State → Order → Reply
 reply_to s o = reply_with o (balance_after s o)
 
 -- the event of a call that a clerk makes now
 abbrev pub booking_at : State → ℕ → ℕ → Order → Booking
-booking_at s clerk reading o = record { clerk = clerk; reading = reading; order = o; moment = moment_at s reading; reply = reply_to s o }
+booking_at s clerk reading o = record {
+  clerk = clerk;
+  reading = reading;
+  order = o;
+  moment = moment_at s reading;
+  reply = reply_to s o;
+}
 
 -- the account after an event
 abbrev pub then_booked : State → Booking → State

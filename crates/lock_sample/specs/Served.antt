@@ -1,5 +1,6 @@
 -- What a clerk did. This product's own.
-use Rattle.std.specs.Prelude.{◌≡◌, ℕ, ◌+◌, Bool, true, List, [], ◌∷◌, ◌++◌, length, map, if◌then◌else◌, Option, Some, None}
+use Rattle.std.specs.Prelude.{◌≡◌, ℕ, ◌+◌, Bool, true, List, [], ◌∷◌, ◌++◌, length, map}
+use Rattle.std.specs.Prelude.{if◌then◌else◌, Option, Some, None}
 use mathlib.Core.List.{IsPrefix}
 use Rattle.turn_lock.specs.Known.{Known, Lock}
 use Rattle.turn_lock.specs.Own.{mark}
@@ -17,8 +18,10 @@ use Rattle.lock_sample.specs.declared.seat.Seat.{Seat}
 abbrev pub booked : Opening → List Booking → ℕ → ℕ → Order → Booking
 booked o before clerk reading order = booking_at (replay (opened o) before) clerk reading order
 
--- the pass made one call and got its reply, after the events of some list that begins with all that it had seen
-pub record MadeOne (o : Opening) (clerk reading : ℕ) (order : Order) (reply : Reply) (old new : Known Booking Opening) : Type 0 where
+-- the pass made one call and got its reply, after the events of some list that begins with all that
+-- it had seen
+pub record MadeOne (o : Opening) (clerk reading : ℕ) (order : Order) (reply : Reply)
+    (old new : Known Booking Opening) : Type 0 where
   pub before : List Booking
   pub later : IsPrefix old.seen before
   pub seen : new.seen ≡ before ++ booked o before clerk reading order ∷ []
@@ -40,15 +43,19 @@ readings_of ms = map (λ m. m.event.reading) ms
 abbrev pub replies_of : List (Mark Booking) → List Reply
 replies_of ms = map (λ m. m.event.reply) ms
 
--- the clerk's own events gained those of all orders that the desk gave, with the readings that it gave and the replies that it took; and the desk was closed, or the turns were spent
-pub record Served (clerk : ℕ) (spent : Bool) (own own' : List (Mark Booking)) (before after : Told) : Type 0 where
+-- the clerk's own events gained those of all orders that the desk gave, with the readings that it
+-- gave and the replies that it took; and the desk was closed, or the turns were spent
+pub record Served (clerk : ℕ) (spent : Bool) (own own' : List (Mark Booking))
+    (before after : Told) : Type 0 where
   pub gained : List (Mark Booking)
   pub adds : own' ≡ own ++ gained
   pub clerks : AreOf clerk gained
   pub told : Adds before after (answers_of gained spent) (readings_of gained) (replies_of gained)
 
--- the clerk with this pass served a desk: the pass is as before but for what it saw, its own events, and one turn for each of these
-pub record HasServed (lock : Lock Opening) (clerk : ℕ) (spent : Bool) (old new : Known Booking Opening) (before after : Told) : Type 0 where
+-- the clerk with this pass served a desk: the pass is as before but for what it saw, its own
+-- events, and one turn for each of these
+pub record HasServed (lock : Lock Opening) (clerk : ℕ) (spent : Bool)
+    (old new : Known Booking Opening) (before after : Told) : Type 0 where
   pub lock_is : new.lock ≡ Some lock
   pub ready : new.standing ≡ Ready
   pub joined : new.joined ≡ old.joined
@@ -65,12 +72,17 @@ IsSeated lock s = (s.pass.lock ≡ Some lock) × (s.pass.standing ≡ Ready)
 abbrev pub AtDesk : Lock Opening → ℕ → Seat → Seat → Told → Told → Type 0
 AtDesk lock clerk s s' before after = HasServed lock clerk s'.spent s.pass s'.pass before after
 
--- the relation holds of each seat and the desk at its place, with the clerk's number, which goes up from n on
-abbrev pub Each : {D : Type 0} → (ℕ → Seat → Seat → D → D → Type 0) → ℕ → List Seat → List Seat → List D → List D → Type 0
+-- the relation holds of each seat and the desk at its place, with the clerk's number, which goes up
+-- from n on
+abbrev pub Each : {D : Type 0} → (ℕ → Seat → Seat → D → D → Type 0) → ℕ → List Seat → List Seat
+    → List D → List D → Type 0
 Each rel n [] [] [] [] = Unit {0}
-Each rel n (s ∷ ss) (s' ∷ ss') (d ∷ ds) (d' ∷ ds') = rel n s s' d d' × Each rel (n + 1) ss ss' ds ds'
+Each rel n (s ∷ ss) (s' ∷ ss') (d ∷ ds) (d' ∷ ds') = rel n s s' d d'
+    × Each rel (n + 1) ss ss' ds ds'
 Each rel n _ _ _ _ = ⊥
 
 -- each seat's clerk served the desk at its place, from the number `first` on
-abbrev pub EachServed : {D : Type 0} → (D → Told) → Lock Opening → ℕ → List Seat → List Seat → List D → List D → Type 0
-EachServed told lock first ss ss' ds ds' = Each (λ n s s' d d'. AtDesk lock n s s' (told d) (told d')) first ss ss' ds ds'
+abbrev pub EachServed : {D : Type 0} → (D → Told) → Lock Opening → ℕ → List Seat → List Seat
+    → List D → List D → Type 0
+EachServed told lock first ss ss' ds ds' = Each
+    (λ n s s' d d'. AtDesk lock n s s' (told d) (told d')) first ss ss' ds ds'

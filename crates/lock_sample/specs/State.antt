@@ -2,7 +2,8 @@
 use Rattle.std.specs.Prelude.{ℕ, List}
 use Rattle.lock_sample.specs.declared.account.Opening.{Opening}
 
--- what it was opened with; its balance; the latest reading of all calls; the notes of all orders that were booked
+-- what it was opened with; its balance; the latest reading of all calls; the notes of all orders
+-- that were booked
 pub record State : Type 0 where
   pub opening : Opening
   pub balance : ℕ

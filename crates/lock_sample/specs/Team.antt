@@ -1,5 +1,6 @@
 -- What a team of clerks did. This product's own.
-use Rattle.std.specs.Prelude.{◌≡◌, ℕ, ◌+◌, ◌-◌, ◌*◌, ◌≤◌, Bool, true, List, [], ◌∷◌, ◌++◌, length, map, All, Some}
+use Rattle.std.specs.Prelude.{◌≡◌, ℕ, ◌+◌, ◌-◌, ◌*◌, ◌≤◌, Bool, true, List, [], ◌∷◌, ◌++◌, length}
+use Rattle.std.specs.Prelude.{map, All, Some}
 use Rattle.turn_lock.specs.Known.{Known, Lock}
 use Rattle.turn_lock.specs.declared.view.Mark.{Mark}
 use Rattle.turn_lock.specs.declared.pass.Standing.TheVariants.{Ready}
@@ -33,21 +34,26 @@ abbrev pub turns_of : List Seat → ℕ
 turns_of [] = 0
 turns_of (s ∷ ss) = s.pass.left + s.pass.entered + turns_of ss
 
--- a clerk's own events are those of all orders that its desk gave, until it was closed, or the clerk had made so many calls
+-- a clerk's own events are those of all orders that its desk gave, until it was closed, or the
+-- clerk had made so many calls
 pub record Did (clerk turns : ℕ) (own : List (Mark Booking)) (before after : Told) : Type 0 where
   pub spent : Bool
   pub served : Served clerk spent [] own before after
   pub within : length own ≤ turns
   pub all_turns : spent ≡ true → length own ≡ turns
 
--- the relation holds of each list and the desk at its place, with the clerk's number, which goes up from n on
-abbrev pub EachDid : {D : Type 0} → (D → Told) → ℕ → ℕ → List (List (Mark Booking)) → List D → List D → Type 0
+-- the relation holds of each list and the desk at its place, with the clerk's number, which goes up
+-- from n on
+abbrev pub EachDid : {D : Type 0} → (D → Told) → ℕ → ℕ → List (List (Mark Booking)) → List D
+    → List D → Type 0
 EachDid told turns n [] [] [] = Unit {0}
-EachDid told turns n (own ∷ owns) (d ∷ ds) (d' ∷ ds') = Did n turns own (told d) (told d') × EachDid told turns (n + 1) owns ds ds'
+EachDid told turns n (own ∷ owns) (d ∷ ds) (d' ∷ ds') = Did n turns own (told d) (told d')
+    × EachDid told turns (n + 1) owns ds ds'
 EachDid told turns n _ _ _ = ⊥
 
 -- so far the passes of the first seats were joined into the pass, and the others are still to be
-pub record Gathered (lock : Lock Opening) (seats : List Seat) (start : Known Booking Opening) (done rest : List Seat) (pass : Known Booking Opening) : Type 0 where
+pub record Gathered (lock : Lock Opening) (seats : List Seat) (start : Known Booking Opening)
+    (done rest : List Seat) (pass : Known Booking Opening) : Type 0 where
   pub ready : IsReady lock pass
   pub own : pass.own ≡ start.own
   pub idle : All (λ s. IsIdle lock s) rest
@@ -56,7 +62,8 @@ pub record Gathered (lock : Lock Opening) (seats : List Seat) (start : Known Boo
   pub turns : pass.left + pass.entered ≡ start.left + start.entered + turns_of done
 
 -- so far `place` of `count` seats got their turns from the pass
-pub record Seating (lock : Lock Opening) (start : Known Booking Opening) (count turns place : ℕ) (seats : List Seat) (pass : Known Booking Opening) : Type 0 where
+pub record Seating (lock : Lock Opening) (start : Known Booking Opening) (count turns place : ℕ)
+    (seats : List Seat) (pass : Known Booking Opening) : Type 0 where
   pub main : IsFresh lock pass
   pub enough : (count - place) * turns ≤ pass.left
   pub vacant : All (λ s. IsVacant lock turns s) seats

@@ -5,19 +5,26 @@ use Rattle.lock_sample.specs.declared.order.Reply.{Reply}
 
 -- an object that still tells has told what it told before, and then this
 abbrev pub Tells : {A : Type 0} → Option (List A) → Option (List A) → List A → Type 0
-Tells before after more = IfSome after (λ told. IsSomeAnd before (λ earlier. told ≡ earlier ++ more))
+Tells before after more = IfSome after (λ told.
+    IsSomeAnd before (λ earlier. told ≡ earlier ++ more))
 
--- what a desk tells of its answers to who asks for an order, of its clock's readings, and of the replies that it took
+-- what a desk tells of its answers to who asks for an order, of its clock's readings, and of the
+-- replies that it took
 pub record Told : Type 0 where
   pub answers : Option (List (Option Order))
   pub readings : Option (List ℕ)
   pub replies : Option (List Reply)
 
 abbrev pub told_of : Option (List (Option Order)) → Option (List ℕ) → Option (List Reply) → Told
-told_of answers readings replies = record { answers = answers; readings = readings; replies = replies }
+told_of answers readings replies = record {
+  answers = answers;
+  readings = readings;
+  replies = replies;
+}
 
 -- the desk gave these answers and readings since, and took these replies
-pub record Adds (before after : Told) (answers : List (Option Order)) (readings : List ℕ) (replies : List Reply) : Type 0 where
+pub record Adds (before after : Told) (answers : List (Option Order)) (readings : List ℕ)
+    (replies : List Reply) : Type 0 where
   pub gave : Tells before.answers after.answers answers
   pub read : Tells before.readings after.readings readings
   pub took : Tells before.replies after.replies replies

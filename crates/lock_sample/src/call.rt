@@ -12,8 +12,8 @@ use std::snapshot::Snapshot;
 use std::sync::Wait;
 use turn_lock::{Names, Pass, Turns};
 
-/// A call that was made, seen as its event. Of the account and the order, which are no longer as they
-/// were, it keeps no octet.
+/// A call that was made, seen as its event. Of the account and the order, which are no longer as
+/// they were, it keeps no octet.
 #[derive(Drop)]
 pub struct Call {
     before: Snapshot<Account>,

@@ -4,8 +4,8 @@ ghost use Rattle.lock_sample.specs.Told.{Tells, Adds, order_of, reading_of, told
 
 use crate::order::{Order, Reply};
 
-/// Where orders come from and replies go to. Contracts see what it tells of its answers to `next` and
-/// of the replies that it took, each in order, or nothing where it doesn't tell.
+/// Where orders come from and replies go to. Contracts see what it tells of its answers to `next`
+/// and of the replies that it took, each in order, or nothing where it doesn't tell.
 pub trait Counter {
     ghost use Rattle.std.specs.Prelude.{Option, List};
     ghost use Rattle.lock_sample.specs.declared.order.Order.{Order};
@@ -25,7 +25,8 @@ pub trait Counter {
         ensures replies { Tells (replies self.old) (replies self.new) (reply ∷ []) };
 }
 
-/// A clock. Contracts see what it tells of its readings, in order, or nothing where it doesn't tell.
+/// A clock. Contracts see what it tells of its readings, in order, or nothing where it doesn't
+/// tell.
 pub trait Clock {
     ghost use Rattle.std.specs.Prelude.{Option, List, ℕ};
 
@@ -43,7 +44,8 @@ pub trait Desk {
 
     /// The next order and when it came, or none: the desk is closed.
     fn next(&mut self) -> Option<(u64, Order)>
-        ensures { Adds (told self.old) (told self.new) (order_of result ∷ []) (reading_of result) [] };
+        ensures { Adds (told self.old) (told self.new) (order_of result ∷ []) (reading_of result)
+            [] };
 
     fn take(&mut self, reply: Reply)
         ensures { Adds (told self.old) (told self.new) [] [] (reply ∷ []) };

@@ -1,9 +1,11 @@
 // All clerks at once, from the opening of the account to its closing.
-ghost use Rattle.std.specs.Prelude.{◌≡◌, ◌+◌, ◌*◌, ◌^◌, ◌≤◌, [], ◌∷◌, ◌++◌, length, vec_len, All, IfOk};
+ghost use Rattle.std.specs.Prelude.{◌≡◌, ◌+◌, ◌*◌, ◌^◌, ◌≤◌, [], ◌∷◌, ◌++◌, length, vec_len, All};
+ghost use Rattle.std.specs.Prelude.{IfOk};
 ghost use Rattle.turn_lock.specs.Own.{MakeUp};
 ghost use Rattle.lock_sample.specs.Ledger.{opened, StandsAs};
 ghost use Rattle.lock_sample.specs.Served.{IsSeated};
-ghost use Rattle.lock_sample.specs.Team.{IsReady, IsFresh, IsVacant, IsIdle, EachDid, owns_of, turns_of};
+ghost use Rattle.lock_sample.specs.Team.{IsReady, IsFresh, IsVacant, IsIdle, EachDid, owns_of};
+ghost use Rattle.lock_sample.specs.Team.{turns_of};
 
 use crate::account::Account;
 use crate::booking::Booking;
@@ -73,8 +75,9 @@ fn serve_seats<R: Threads + Wait + Sync, D: Desk + Send>(
     serve_desks(rt, lock, all, desks, 0);
 }
 
-/// Serves all desks at once, each by a clerk that makes so many calls at most, and closes the account.
-/// The pass tells the history, and which events each clerk has as its own, the first desk's first.
+/// Serves all desks at once, each by a clerk that makes so many calls at most, and closes the
+/// account. The pass tells the history, and which events each clerk has as its own, the first
+/// desk's first.
 pub fn run_desks<R: Threads + Wait + Sync, D: Desk + Send>(
     rt: &R,
     alloc: Global,

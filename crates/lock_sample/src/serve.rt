@@ -14,8 +14,8 @@ use std::sync::Wait;
 use std::thread::{Threads, join_mut};
 use turn_lock::{Pass, Turns};
 
-/// Has the desk's orders answered, one a turn, until it is closed or the turns are spent. Says whether
-/// they were.
+/// Has the desk's orders answered, one a turn, until it is closed or the turns are spent. Says
+/// whether they were.
 #[tactic(auto, using(crate::proofs::Serving::serving_nothing, crate::proofs::Serving::serving_spent, crate::proofs::Serving::serving_end))]
 fn serve_desk<R: Wait, D: Desk>(
     rt: &R,
@@ -26,7 +26,8 @@ fn serve_desk<R: Wait, D: Desk>(
 ) -> bool
     requires lock { pass.old.lock ≡ Some lock.now }
     requires ready { pass.old.standing ≡ Ready }
-    ensures { HasServed lock.now clerk result pass.old pass.new (D.told desk.old) (D.told desk.new) }
+    ensures { HasServed lock.now clerk result pass.old pass.new (D.told desk.old)
+        (D.told desk.new) }
 {
     'orders: while pass.left() > 0 {
         let Some((reading, order)) = desk.next() else {

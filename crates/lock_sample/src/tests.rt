@@ -10,7 +10,8 @@ use std::test::*;
 use std::thread::Threads;
 use turn_lock::{Pass, Turns};
 
-/// Orders in memory, and the replies to them. It tells the replies as long as it has memory for them.
+/// Orders in memory, and the replies to them. It tells the replies as long as it has memory for
+/// them.
 #[derive(Drop)]
 struct Tray {
     orders: VecDeque<Order>,

@@ -1,4 +1,5 @@
--- The adapters over std's readers and writers: what they tell, which is what their reader or writer tells.
+-- The adapters over std's readers and writers: what they tell, which is what their reader or writer
+-- tells.
 use Rattle.std.specs.Prelude.{ℕ, ⊤, ◌≤◌, Option, None, Some, IsSome, List, ◌++◌, length}
 use Rattle.octet_core.specs.Written.{IsFront}
 
@@ -26,4 +27,5 @@ StillTells (Some first) now = IsSome now
 abbrev pub AppendsFront : Option (List ℕ) → Option (List ℕ) → List ℕ → Type 0
 AppendsFront None now octets = ⊤
 AppendsFront (Some there) None octets = ⊥
-AppendsFront (Some there) (Some now) octets = (length there ≤ length now) × IsFront now (there ++ octets)
+AppendsFront (Some there) (Some now) octets = (length there ≤ length now)
+    × IsFront now (there ++ octets)

@@ -15,7 +15,10 @@ after_taking source n = record source { left = drop n source.left; calls = after
 
 -- the source after a call that failed, which took nothing
 abbrev pub after_failing : SourceState → SourceState
-after_failing source = record source { calls = after_call source.calls; faults = count_up source.faults }
+after_failing source = record source {
+  calls = after_call source.calls;
+  faults = count_up source.faults;
+}
 
 -- a sink in memory: what was written, its calls, its faults, and whether memory was refused
 pub record SinkState : Type 0 where
@@ -40,8 +43,10 @@ with_refusal sink = record sink { faults = count_up sink.faults; memory_refused 
 abbrev pub with_call : SinkState → SinkState
 with_call sink = record sink { calls = after_call sink.calls }
 
--- a call that failed was a listed one, which wrote the first half of its octets, or was refused memory and wrote none
+-- a call that failed was a listed one, which wrote the first half of its octets, or was refused
+-- memory and wrote none
 abbrev pub IsFailedPut : SinkState → List ℕ → SinkState → Type 0
 IsFailedPut old octets new =
-    (IsTrue (fails_next old.calls) × (new ≡ with_fault (with_written (with_call old) (take (length octets / 2) octets))))
+    (IsTrue (fails_next old.calls)
+    × (new ≡ with_fault (with_written (with_call old) (take (length octets / 2) octets))))
     ⊎ (new ≡ with_refusal (with_call old))

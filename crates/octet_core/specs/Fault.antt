@@ -1,4 +1,5 @@
--- Counts of faults: an object of the outside fails only where its count rose. This product's own rule.
+-- Counts of faults: an object of the outside fails only where its count rose. This product's own
+-- rule.
 use Rattle.std.specs.Prelude.{ℕ, ◌+◌, ◌<◌, ◌≤◌, ◌≡◌, ◌⊎◌, min, Result, IsErr, OnOk, OnErr}
 use Rattle.octet_core.specs.declared.failed.Failed.{Failed}
 
@@ -14,7 +15,8 @@ count_up n = min (n + 1) last_count
 abbrev pub Rose : ℕ → ℕ → Type 0
 Rose before now = (before < now) ⊎ (last_count ≤ now)
 
--- a call that leaves the count of faults at `now` fails only where the count went up by one, and is Ok only where it stayed
+-- a call that leaves the count of faults at `now` fails only where the count went up by one, and is
+-- Ok only where it stayed
 pub record FailsOnlyByFault {T : Type 0} (before now : ℕ) (result : Result T Failed) : Type 0 where
   pub never_falls : before ≤ now
   pub rose : IsErr result → Rose before now

@@ -1,5 +1,7 @@
 -- Whoever reads the messages of a START reads its frames, and nothing else.
-use Rattle.std.proofs.Common.{◌≡◌, ℕ, ℤ, suc, pos, negsuc, ◌≤ℤ◌, ◌+◌, ◌*◌, ◌≤◌, ◌&&◌, nat_le, Bool, true, false, cond, if◌then◌else◌, List, [], ◌∷◌, length, map, take, Option, Some, None, refl, sym, ap, subst, length-append, arith}
+use Rattle.std.proofs.Common.{◌≡◌, ℕ, ℤ, suc, pos, negsuc, ◌≤ℤ◌, ◌+◌, ◌*◌, ◌≤◌, ◌&&◌, nat_le, Bool}
+use Rattle.std.proofs.Common.{true, false, cond, if◌then◌else◌, List, [], ◌∷◌, length, map, take}
+use Rattle.std.proofs.Common.{Option, Some, None, refl, sym, ap, subst, length-append, arith}
 use Rattle.std.proofs.lemmas.Bool.{and_parts, leb-true}
 use Rattle.std.proofs.lemmas.Int.{ints}
 use Rattle.std.proofs.lemmas.List.Elements.{All-get_or}
@@ -17,10 +19,12 @@ use Rattle.return_pdu.specs.declared.service.Service.TheVariants.{Raf}
 use Rattle.return_pdu.specs.TransferItem as said
 use Rattle.return_pdu.specs.TransferItem.{raf_item, BuffersAreExact}
 use Rattle.return_pdu.specs.Plain.{FramesArePlain, EndIsPlain, FramesAreShort}
-use Rattle.archive_terms.specs.Archive.{frame, loss_of_sync, production, seal, is_moment, is_storable, is_archive}
+use Rattle.archive_terms.specs.Archive.{frame, loss_of_sync, production, seal, is_moment}
+use Rattle.archive_terms.specs.Archive.{is_storable, is_archive}
 use Rattle.archive_terms.specs.Archive as terms
 use Rattle.archive_terms.specs.Selection.{is_picked}
-use Rattle.archive_terms.specs.Delivery.{Item, archived, backlog, end_of_data, archived_items, all_items, is_complete, IsBuffer, cut, offline_buffers}
+use Rattle.archive_terms.specs.Delivery.{Item, archived, backlog, end_of_data, archived_items}
+use Rattle.archive_terms.specs.Delivery.{all_items, is_complete, IsBuffer, cut, offline_buffers}
 use Rattle.archive_terms.specs.Continuity.{continuity, gap, last_frame, told_items, told_buffers}
 use Rattle.cds_time.specs.Octets.{FieldsFit}
 use Rattle.cds_time.specs.declared.cds.Cds.{Cds}
@@ -52,22 +56,28 @@ abbrev AreOffline : List Item → Type 0
 AreOffline items = AllByRecursion IsOffline items
 
 -- an entry more is picked or isn't
-one_picked : (place : ℕ) (entry : terms.Entry) (later : List (ℕ × terms.Entry)) → IsOffline (archived place entry) → AreOffline (archived_items later)
+one_picked : (place : ℕ) (entry : terms.Entry) (later : List (ℕ × terms.Entry))
+    → IsOffline (archived place entry) → AreOffline (archived_items later)
     → (b : Bool) → AreOffline (archived_items (cond b ((place, entry) ∷ later) later))
 one_picked place entry later is all true = (is, all)
 one_picked place entry later is all false = all
 
-picks_are : (start stop : Cds) (quality : ℕ) (entries : List Entry) (n : ℕ) (rest : List Entry) → is_archive (archive_of rest) ≡ true → AllFit rest
+picks_are : (start stop : Cds) (quality : ℕ) (entries : List Entry) (n : ℕ) (rest : List Entry)
+    → is_archive (archive_of rest) ≡ true → AllFit rest
     → AreOffline (archived_items (picks start stop quality entries n rest))
 picks_are start stop quality entries n [] archive fits = tt
 picks_are start stop quality entries n (Seal at ∷ rest) archive fits =
-    picks_are start stop quality entries (n + 1) rest (first_storable (entry_of (Seal at)) (archive_of rest) archive).1 fits.1
+    picks_are start stop quality entries (n + 1) rest
+    (first_storable (entry_of (Seal at)) (archive_of rest) archive).1 fits.1
 picks_are start stop quality entries n (Frame ert found antenna lost octets ∷ rest) archive fits =
-    let parts = first_storable (entry_of (Frame ert found antenna lost octets)) (archive_of rest) archive in
-    one_picked n (entry_of (Frame ert found antenna lost octets)) (picks start stop quality entries (n + 1) rest)
+    let parts = first_storable (entry_of (Frame ert found antenna lost octets)) (archive_of rest)
+    archive in
+    one_picked n (entry_of (Frame ert found antenna lost octets))
+    (picks start stop quality entries (n + 1) rest)
     (record { storable = parts.0; ert = fits.0.0 })
     (picks_are start stop quality entries (n + 1) rest parts.1 fits.1)
-    (is_picked (selection start stop quality) (archive_of entries) n (entry_of (Frame ert found antenna lost octets)))
+    (is_picked (selection start stop quality) (archive_of entries) n
+    (entry_of (Frame ert found antenna lost octets)))
 
 -- ---- the buffers of a START
 
@@ -76,11 +86,15 @@ HasFew items = length items ≤ 2
 
 cut_few : CutsAreBuffers → (items : List Item) → AllByRecursion HasFew (cut 2 items)
 cut_few cuts items =
-    each_at HasFew (cut 2 items) [] (λ i below. (All-get_or (IsBuffer 2) (cut 2 items) i [] below (cuts 2 items (omega arith))).few)
+    each_at HasFew (cut 2 items) [] (λ i below.
+    (All-get_or (IsBuffer 2) (cut 2 items) i [] below (cuts 2 items (omega arith))).few)
 
-buffers_few : CutsAreBuffers → (entries : List (ℕ × terms.Entry)) (closed : Bool) → AllByRecursion HasFew (offline_buffers 2 entries closed)
-buffers_few cuts entries true = each_joined HasFew (cut 2 (archived_items entries)) ((end_of_data ∷ []) ∷ []) (cut_few cuts (archived_items entries)) (omega arith, tt)
-buffers_few cuts entries false = each_filtered HasFew (is_complete 2) (cut 2 (archived_items entries)) (cut_few cuts (archived_items entries))
+buffers_few : CutsAreBuffers → (entries : List (ℕ × terms.Entry)) (closed : Bool)
+    → AllByRecursion HasFew (offline_buffers 2 entries closed)
+buffers_few cuts entries true = each_joined HasFew (cut 2 (archived_items entries))
+    ((end_of_data ∷ []) ∷ []) (cut_few cuts (archived_items entries)) (omega arith, tt)
+buffers_few cuts entries false = each_filtered HasFew (is_complete 2)
+    (cut 2 (archived_items entries)) (cut_few cuts (archived_items entries))
 
 end_is : (closed : Bool) → AreOffline (if closed then end_of_data ∷ [] else [])
 end_is true = (tt, tt)
@@ -93,18 +107,24 @@ most_octets = 65836
 
 record Said (archive : List terms.Entry) (before : Option ℕ) (buffer : List Item) : Type 0 where
   fit : AllByRecursion raf_item.Fits (map item_said (told_items archive before buffer))
-  are : each_tree raf_item.tree (map item_said (told_items archive before buffer)) ≡ trees (map item_tree (told_items archive before buffer))
+  are : each_tree raf_item.tree (map item_said (told_items archive before buffer))
+      ≡ trees (map item_tree (told_items archive before buffer))
   count : length (map item_said (told_items archive before buffer)) ≡ length buffer
-  small : length (flat_map canonical (map item_tree (told_items archive before buffer))) ≤ most_octets * length buffer
+  small : length (flat_map canonical (map item_tree (told_items archive before buffer)))
+      ≤ most_octets * length buffer
 
 both_same : {t u : Tree} {ts us : Trees} → t ≡ u → ts ≡ us → tree_and t ts ≡ tree_and u us
 both_same same others = rw (same, others) refl
 
-continuity_in_range : (entries : List terms.Entry) (before : Option ℕ) (place : ℕ) → (negsuc 0 ≤ℤ continuity entries before place) × (continuity entries before place ≤ℤ pos 16777215)
+continuity_in_range : (entries : List terms.Entry) (before : Option ℕ) (place : ℕ)
+    → (negsuc 0 ≤ℤ continuity entries before place)
+    × (continuity entries before place ≤ℤ pos 16777215)
 continuity_in_range entries None place = (grind (arith, ints), grind (arith, ints))
-continuity_in_range entries (Some before) place = let capped : gap entries before place ≤ 16777215 = omega arith in (grind (arith, ints), grind (arith, ints))
+continuity_in_range entries (Some before) place = let capped : gap entries before place ≤ 16777215 =
+    omega arith in (grind (arith, ints), grind (arith, ints))
 
-frame_in_range : (entries : List terms.Entry) (before : Option ℕ) (place : ℕ) (f : terms.Frame) → is_storable (frame f) ≡ true
+frame_in_range : (entries : List terms.Entry) (before : Option ℕ) (place : ℕ) (f : terms.Frame)
+    → is_storable (frame f) ≡ true
     → IsFrame (frame_of f.ert f.antenna (continuity entries before place) f.quality f.octets)
 frame_in_range entries before place f storable =
     let antenna = f.antenna in
@@ -135,12 +155,19 @@ end_small : length (canonical pdu.end_of_data) ≤ most_octets
 unfolding canonical element shortest_length
 end_small = omega arith
 
-one_more : (tree : Tree) (others : List Tree) (n : ℕ) → length (canonical tree) ≤ most_octets → length (flat_map canonical others) ≤ most_octets * n
+one_more : (tree : Tree) (others : List Tree) (n : ℕ) → length (canonical tree) ≤ most_octets
+    → length (flat_map canonical others) ≤ most_octets * n
     → length (flat_map canonical (tree ∷ others)) ≤ most_octets * suc n
-one_more tree others n small rest = omega (arith, length-append (canonical tree) (flat_map canonical others), small, rest)
+one_more tree others n small rest = omega (
+  arith,
+  length-append (canonical tree) (flat_map canonical others),
+  small,
+  rest,
+)
 
 module _ (short : FramesAreShort) (plain : FramesArePlain) (ended : EndIsPlain) where
-  say : (archive : List terms.Entry) (before : Option ℕ) (buffer : List Item) → AreOffline buffer → Said archive before buffer
+  say : (archive : List terms.Entry) (before : Option ℕ) (buffer : List Item) → AreOffline buffer
+      → Said archive before buffer
   say archive before [] all = record { fit = tt; are = refl; count = refl; small = omega arith }
   say archive before (backlog ∷ buffer) all = absurd all.0
   say archive before (archived place (loss_of_sync l) ∷ buffer) all = absurd all.0
@@ -152,7 +179,8 @@ module _ (short : FramesAreShort) (plain : FramesArePlain) (ended : EndIsPlain) 
         fit = (ended.fits, rest.fit);
         are = both_same ended.tree rest.are;
         count = ap suc rest.count;
-        small = one_more pdu.end_of_data (map item_tree (told_items archive before buffer)) (length buffer) end_small rest.small;
+        small = one_more pdu.end_of_data (map item_tree (told_items archive before buffer))
+            (length buffer) end_small rest.small;
       }
   say archive before (archived place (frame f) ∷ buffer) all =
       let stands : MayStand f = all.0 in
@@ -164,53 +192,81 @@ module _ (short : FramesAreShort) (plain : FramesArePlain) (ended : EndIsPlain) 
         fit = (is.fits, rest.fit);
         are = both_same is.tree rest.are;
         count = ap suc rest.count;
-        small = one_more (pdu.frame shown) (map item_tree (told_items archive (Some place) buffer)) (length buffer) (omega (arith, short shown ranges, ranges.octets_fit)) rest.small;
+        small = one_more (pdu.frame shown) (map item_tree (told_items archive (Some place) buffer))
+            (length buffer) (omega (arith, short shown ranges, ranges.octets_fit)) rest.small;
       }
 
-buffer_small : (members : List Tree) (n : ℕ) → length (flat_map canonical members) ≤ n → length (canonical (transfer_buffer members)) ≤ n + 10
+buffer_small : (members : List Tree) (n : ℕ) → length (flat_map canonical members) ≤ n
+    → length (canonical (transfer_buffer members)) ≤ n + 10
 buffer_small members n small =
     let content = length (canonical_all (trees members)) in
-    omega (arith, length-constructed buffer_tag (trees members), ap length (spelled-trees members), few-shortest_length content, small)
+    omega (
+      arith,
+      length-constructed buffer_tag (trees members),
+      ap length (spelled-trees members),
+      few-shortest_length content,
+      small,
+    )
 
-module _ (short : FramesAreShort) (plain : FramesArePlain) (ended : EndIsPlain) (exact : BuffersAreExact) (spells : CanonicalSpells) where
-  buffer_readable : (archive : List terms.Entry) (before : Option ℕ) (buffer : List Item) → AreOffline buffer → HasFew buffer
+module _ (short : FramesAreShort) (plain : FramesArePlain) (ended : EndIsPlain)
+    (exact : BuffersAreExact) (spells : CanonicalSpells) where
+  buffer_readable : (archive : List terms.Entry) (before : Option ℕ) (buffer : List Item)
+      → AreOffline buffer → HasFew buffer
       → IsReadable (told_items archive before buffer)
   buffer_readable archive before buffer all few =
       let members = map item_tree (told_items archive before buffer) in
       let items = map item_said (told_items archive before buffer) in
       let s = say short plain ended archive before buffer all in
       let small : length (flat_map canonical members) ≤ 131672 = omega (arith, s.small, few) in
-      let fits : length (canonical (transfer_buffer members)) ≤ 131682 = buffer_small members 131672 small in
-      let fit : (said.buffer Raf).Fits items = record { few = omega (arith, s.count, few); each = s.fit } in
-      let same : (said.buffer Raf).tree items ≡ transfer_buffer members = ap (λ ts. constructed buffer_tag ts) s.are in
+      let fits : length (canonical (transfer_buffer members)) ≤ 131682 =
+      buffer_small members 131672 small in
+      let fit : (said.buffer Raf).Fits items =
+      record { few = omega (arith, s.count, few); each = s.fit } in
+      let same : (said.buffer Raf).tree items ≡ transfer_buffer members =
+      ap (λ ts. constructed buffer_tag ts) s.are in
       let spelled : Spells ((said.buffer Raf).tree items) (canonical (transfer_buffer members))
-      = subst (λ t. Spells t (canonical (transfer_buffer members))) (sym same) (spells (transfer_buffer members) (omega (arith, fits))) in
+      = subst (λ t. Spells t (canonical (transfer_buffer members))) (sym same)
+      (spells (transfer_buffer members) (omega (arith, fits))) in
       record {
         fits = omega (arith, fits);
         read = exact.again Raf items (canonical (transfer_buffer members)) fit spelled;
         fit = fit;
         spelled = spelled;
-        no_others = λ others other_fit e. exact.one Raf (canonical (transfer_buffer members)) others items other_fit fit e spelled;
+        no_others = λ others other_fit e. exact.one Raf (canonical (transfer_buffer members)) others
+            items other_fit fit e spelled;
       }
 
-  buffers_readable : (archive : List terms.Entry) (before : Option ℕ) (buffers : List (List Item)) → AllByRecursion AreOffline buffers → AllByRecursion HasFew buffers
+  buffers_readable : (archive : List terms.Entry) (before : Option ℕ) (buffers : List (List Item))
+      → AllByRecursion AreOffline buffers → AllByRecursion HasFew buffers
       → AreReadable (told_buffers archive before buffers)
   buffers_readable archive before [] all few = tt
-  buffers_readable archive before (buffer ∷ buffers) all few =
-      (buffer_readable archive before buffer all.0 few.0, buffers_readable archive (last_frame before buffer) buffers all.1 few.1)
+  buffers_readable archive before (buffer ∷ buffers) all few = (
+    buffer_readable archive before buffer all.0 few.0,
+    buffers_readable archive (last_frame before buffer) buffers all.1 few.1,
+  )
 
-  pub start_readable : CutsAreBuffers → (start stop : Cds) (quality : ℕ) (entries : List Entry) (closed : Bool) → is_archive (archive_of entries) ≡ true → AllFit entries
-      → (let picked = picks start stop quality entries 0 entries in let items = items_in (offline_buffers 2 picked closed) in take (length items) (all_items picked closed) ≡ items)
-      → AreReadable (told_buffers (archive_of entries) None (offline_buffers 2 (picks start stop quality entries 0 entries) closed))
+  pub start_readable : CutsAreBuffers
+      → (start stop : Cds) (quality : ℕ) (entries : List Entry) (closed : Bool)
+      → is_archive (archive_of entries) ≡ true → AllFit entries
+      → (let picked = picks start stop quality entries 0 entries in
+      let items = items_in (offline_buffers 2 picked closed) in
+      take (length items) (all_items picked closed) ≡ items)
+      → AreReadable (told_buffers (archive_of entries) None
+      (offline_buffers 2 (picks start stop quality entries 0 entries) closed))
   start_readable cuts start stop quality entries closed archive fits begins =
       let picked = picks start stop quality entries 0 entries in
       let buffers = offline_buffers 2 picked closed in
       let all : AreOffline (all_items picked closed)
-      = each_joined IsOffline (archived_items picked) (if closed then end_of_data ∷ [] else []) (picks_are start stop quality entries 0 entries archive fits) (end_is closed) in
-      let items : AreOffline (items_in buffers) = subst AreOffline begins (each_taken IsOffline (length (items_in buffers)) (all_items picked closed) all) in
-      buffers_readable (archive_of entries) None buffers (each_split IsOffline buffers items) (buffers_few cuts picked closed)
+      = each_joined IsOffline (archived_items picked) (if closed then end_of_data ∷ [] else [])
+      (picks_are start stop quality entries 0 entries archive fits) (end_is closed) in
+      let items : AreOffline (items_in buffers) =
+      subst AreOffline begins (each_taken IsOffline (length (items_in buffers))
+      (all_items picked closed) all) in
+      buffers_readable (archive_of entries) None buffers (each_split IsOffline buffers items)
+      (buffers_few cuts picked closed)
 
 -- each message of a START is one that the transport reads
-pub are_messages : (told : List (List (Item × Option ℤ))) → AreReadable told → AllByRecursion IsMessage (map buffer_message told)
+pub are_messages : (told : List (List (Item × Option ℤ))) → AreReadable told
+    → AllByRecursion IsMessage (map buffer_message told)
 are_messages [] readable = tt
 are_messages (buffer ∷ told) readable = (readable.0.fits, are_messages told readable.1)

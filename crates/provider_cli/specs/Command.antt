@@ -6,7 +6,8 @@ use Rattle.octet_core.specs.Written.{Gains, GainsFront}
 use Rattle.provider_cli.specs.declared.words.Plan.{Plan}
 use Rattle.provider_cli.specs.declared.words.Plan.TheVariants.{Drill}
 use Rattle.provider_cli.specs.declared.status.Status.{Status}
-use Rattle.provider_cli.specs.declared.status.Status.TheVariants.{Done, Usage, BadLine, ReadFault, WriteFault, InputTooLong, Memory}
+use Rattle.provider_cli.specs.declared.status.Status.TheVariants.{Done, Usage, BadLine, ReadFault}
+use Rattle.provider_cli.specs.declared.status.Status.TheVariants.{WriteFault, InputTooLong, Memory}
 use Rattle.provider_cli.specs.Outside.{Outside}
 
 -- the one command is the word `drill`

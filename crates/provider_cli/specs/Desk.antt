@@ -1,5 +1,6 @@
 -- One step of a START's pass over the archive.
-use Rattle.std.specs.Prelude.{ℕ, ◌+◌, ℤ, pos, negsuc, Bool, false, ◌&&◌, ◌||◌, ◌==◌, nat_le, min, if◌then◌else◌, Option, Some, None, option_map}
+use Rattle.std.specs.Prelude.{ℕ, ◌+◌, ℤ, pos, negsuc, Bool, false, ◌&&◌, ◌||◌, ◌==◌, nat_le, min}
+use Rattle.std.specs.Prelude.{if◌then◌else◌, Option, Some, None, option_map}
 use Rattle.std.specs.Option.{option_map_or}
 use Rattle.cds_time.specs.Moment.{moment_of}
 use Rattle.archive_terms.specs.declared.limits.TheConstants.{GREATEST_LOST}
@@ -8,10 +9,12 @@ use Rattle.provider_cli.specs.declared.entry.Entry as script
 use Rattle.provider_cli.specs.declared.entry.Entry.TheVariants as entries
 use Rattle.provider_cli.specs.declared.desk.Picked.{Picked}
 
--- whether a START from `start` to `stop` asks for frames of this quality at this moment, where there is one
+-- whether a START from `start` to `stop` asks for frames of this quality at this moment, where
+-- there is one
 abbrev pub wants : ℕ → ℕ → ℕ → ℕ → Option ℕ → Bool
 wants start stop quality found time =
-    (quality == 2 || found == quality) && option_map_or (λ t. nat_le start t && nat_le t stop) time false
+    (quality == 2 || found == quality) && option_map_or (λ t. nat_le start t && nat_le t stop) time
+    false
 
 -- frames lost since the last one that was handed over, with those before one more
 abbrev pub lost_with : Option ℕ → ℕ → Option ℕ
@@ -42,4 +45,5 @@ gap_after (Some frame) gap entry = Some 0
 
 -- what a picked frame says
 abbrev pub frame_in : Picked → Frame
-frame_in picked = frame_of picked.ert picked.antenna.now picked.continuity picked.quality picked.octets.now
+frame_in picked = frame_of picked.ert picked.antenna.now picked.continuity picked.quality
+    picked.octets.now

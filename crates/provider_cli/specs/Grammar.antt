@@ -1,4 +1,5 @@
--- The lines of a script: which octets are a line, and what the line says. This product's own format.
+-- The lines of a script: which octets are a line, and what the line says. This product's own
+-- format.
 use Rattle.std.specs.Prelude.{ℕ, ◌==◌, if◌then◌else◌, Option, Some, None, List, [], ◌∷◌, codes}
 use Rattle.std.specs.Str.{bytes_eq}
 use Rattle.archive_terms.specs.declared.limits.TheConstants.{GREATEST_LOST, LONGEST_FRAME}
@@ -54,4 +55,5 @@ onto_line octet (line ∷ lines) = (octet ∷ line) ∷ lines
 
 abbrev pub lines_of : List ℕ → List (List ℕ)
 lines_of [] = []
-lines_of (octet ∷ text) = if octet == 10 then [] ∷ lines_of text else onto_line octet (lines_of text)
+lines_of (octet ∷ text) = if octet == 10 then [] ∷ lines_of text
+    else onto_line octet (lines_of text)

@@ -6,14 +6,16 @@ use Rattle.isp1_tml.specs.Stream.{IsStream}
 use Rattle.archive_terms.specs.Archive as terms
 use Rattle.archive_terms.specs.Archive.{is_closed}
 use Rattle.archive_terms.specs.Selection.{picked}
-use Rattle.archive_terms.specs.Delivery.{Item, Terms, offline, started, entries_of, archived_items, end_of_data, is_end_of_data}
+use Rattle.archive_terms.specs.Delivery.{Item, Terms, offline, started, entries_of, archived_items}
+use Rattle.archive_terms.specs.Delivery.{end_of_data, is_end_of_data}
 use Rattle.archive_terms.specs.Rounds.{free_round, outcomes, handed_buffers}
 use Rattle.provider_cli.specs.declared.status.Status.{Status}
 use Rattle.provider_cli.specs.declared.status.Status.TheVariants.{Done, BadLine, WriteFault, Memory}
 use Rattle.provider_cli.specs.Entries.{moment}
 use Rattle.provider_cli.specs.Outside.{Outside}
 use Rattle.provider_cli.specs.Transcript.{selection, sent, transcript, transcript_from}
-use Rattle.provider_cli.specs.Start.{Start, entries_at, archive_at, archive_then, buffers_of, told_by, messages_by, messages_of}
+use Rattle.provider_cli.specs.Start.{Start, entries_at, archive_at, archive_then, buffers_of}
+use Rattle.provider_cli.specs.Start.{told_by, messages_by, messages_of}
 use Rattle.provider_cli.specs.Readable.{AreReadable}
 use Rattle.provider_cli.specs.Script.{GainsAll, GainsSome}
 

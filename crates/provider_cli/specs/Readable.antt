@@ -12,8 +12,8 @@ use Rattle.archive_terms.specs.Archive.{frame}
 use Rattle.archive_terms.specs.Delivery.{Item, archived}
 use Rattle.provider_cli.specs.Transcript.{item_tree, buffer_message}
 
--- an item as a user reads it: a frame with its fields as it was received, and its continuity; or the
--- end of data. An offline delivery has no other.
+-- an item as a user reads it: a frame with its fields as it was received, and its continuity; or
+-- the end of data. An offline delivery has no other.
 abbrev pub item_said : Item × Option ℤ → ItemContent
 item_said (archived place (frame f), Some continuity) =
     plain_item (frame_of f.ert f.antenna continuity f.quality f.octets)

@@ -1,11 +1,13 @@
 -- How a drill ends: by its status what it has written, which call failed, and what its script is.
 -- This product's own rules.
-use Rattle.std.specs.Prelude.{◌≡◌, ◌⊎◌, ℕ, ◌<◌, ◌≤◌, IsTrue, IsFalse, IfSome, List, ◌∷◌, ◌++◌, [], length, codes}
+use Rattle.std.specs.Prelude.{◌≡◌, ◌⊎◌, ℕ, ◌<◌, ◌≤◌, IsTrue, IsFalse, IfSome, List, ◌∷◌, ◌++◌, []}
+use Rattle.std.specs.Prelude.{length, codes}
 use Rattle.octet_core.specs.Fault.{count_up, Rose}
 use Rattle.octet_core.specs.Written.{Gains, GainsFront}
 use Rattle.archive_terms.specs.Archive.{is_storable}
 use Rattle.provider_cli.specs.declared.status.Status.{Status}
-use Rattle.provider_cli.specs.declared.status.Status.TheVariants.{Done, Usage, BadLine, ReadFault, WriteFault, InputTooLong, Memory}
+use Rattle.provider_cli.specs.declared.status.Status.TheVariants.{Done, Usage, BadLine, ReadFault}
+use Rattle.provider_cli.specs.declared.status.Status.TheVariants.{WriteFault, InputTooLong, Memory}
 use Rattle.provider_cli.specs.declared.grammar.ScriptLine.{ScriptLine}
 use Rattle.provider_cli.specs.declared.grammar.ScriptLine.TheVariants.{Offer, Desk}
 use Rattle.provider_cli.specs.declared.drill.TheConstants.{SCRIPT_OCTETS}

@@ -1,5 +1,6 @@
 -- What a drill writes: the transcript of its script. The lines' forms are this product's own.
-use Rattle.std.specs.Prelude.{ℕ, ◌+◌, ℤ, Bool, nat_lt, if◌then◌else◌, Option, Some, None, List, [], ◌∷◌, ◌++◌, map, codes}
+use Rattle.std.specs.Prelude.{ℕ, ◌+◌, ℤ, Bool, nat_lt, if◌then◌else◌, Option, Some, None, List, []}
+use Rattle.std.specs.Prelude.{◌∷◌, ◌++◌, map, codes}
 use Rattle.std.specs.List.{list_all, flat_map}
 use Rattle.std.specs.Option.{option_map_or, is_some}
 use Rattle.std.specs.Fmt.{decimal}
@@ -13,7 +14,8 @@ use Rattle.return_pdu.specs.Items as items
 use Rattle.archive_terms.specs.Archive.{frame, may_follow, is_closed}
 use Rattle.archive_terms.specs.Archive as terms
 use Rattle.archive_terms.specs.Selection.{Selection, by_quality, picked}
-use Rattle.archive_terms.specs.Delivery.{Item, archived, end_of_data, offline, selection_of, offline_buffers}
+use Rattle.archive_terms.specs.Delivery.{Item, archived, end_of_data, offline, selection_of}
+use Rattle.archive_terms.specs.Delivery.{offline_buffers}
 use Rattle.archive_terms.specs.Continuity.{told_buffers}
 use Rattle.provider_cli.specs.declared.entry.Entry.{Entry}
 use Rattle.provider_cli.specs.declared.grammar.ScriptLine.{ScriptLine}

@@ -1,5 +1,6 @@
 -- The words of a text's line, and the values that a word may be. This product's own format.
-use Rattle.std.specs.Prelude.{ℕ, Bool, ◌&&◌, ◌||◌, not, ◌==◌, nat_le, if◌then◌else◌, Option, Some, None, List, [], ◌∷◌, length, slice_index}
+use Rattle.std.specs.Prelude.{ℕ, Bool, ◌&&◌, ◌||◌, not, ◌==◌, nat_le, if◌then◌else◌, Option, Some}
+use Rattle.std.specs.Prelude.{None, List, [], ◌∷◌, length, slice_index}
 use Rattle.std.specs.List.{slice_split, list_all}
 use Rattle.std.specs.Result.{result_ok}
 use Rattle.std.specs.Char.{is_ascii_digit}
@@ -27,12 +28,14 @@ Some x >>= f = f x
 -- a number is decimal digits without sign and without leading zeros
 abbrev pub is_number : List ℕ → Bool
 is_number word =
-    nat_le 1 (length word) && list_all is_ascii_digit word && (length word == 1 || not (slice_index word 0 == 48))
+    nat_le 1 (length word) && list_all is_ascii_digit word
+    && (length word == 1 || not (slice_index word 0 == 48))
 
 -- the number that a word is, up to a greatest one
 abbrev pub number : ℕ → List ℕ → Option ℕ
 number most word =
-    if is_number word && nat_le (digits_value 10 word) most then Some (digits_value 10 word) else None
+    if is_number word && nat_le (digits_value 10 word) most then Some (digits_value 10 word)
+    else None
 
 -- the time that days, milliseconds and microseconds are
 abbrev pub time_of_fields : List (List ℕ) → Option Cds

@@ -1,6 +1,8 @@
 // The archive: a list of entries in memory.
-ghost use Rattle.std.specs.Prelude.{◌≡◌, List, [], ◌∷◌, ◌++◌, IsTrue, IsFalse, IsErrOf, OnOk, OnErr};
-ghost use Rattle.archive_terms.specs.Archive.{is_archive, is_storable, is_from, is_above, may_follow, is_closed};
+ghost use Rattle.std.specs.Prelude.{◌≡◌, List, [], ◌∷◌, ◌++◌, IsTrue, IsFalse, IsErrOf, OnOk};
+ghost use Rattle.std.specs.Prelude.{OnErr};
+ghost use Rattle.archive_terms.specs.Archive.{is_archive, is_storable, is_from, is_above};
+ghost use Rattle.archive_terms.specs.Archive.{may_follow, is_closed};
 ghost use Rattle.provider_cli.specs.Entries.{entry_of, archive_of};
 
 use crate::entry::Entry;
@@ -52,7 +54,8 @@ impl LastTimes {
 
     // Whether they show that no frame up to this moment can come any more.
     fn close(&self, stop: u128) -> bool
-        ensures { result ≡ (option_map_or (λ t. nat_lt stop t) self.now.frame false || option_map_or (λ t. nat_le stop t) self.now.seal false) }
+        ensures { result ≡ (option_map_or (λ t. nat_lt stop t) self.now.frame false
+            || option_map_or (λ t. nat_le stop t) self.now.seal false) }
     {
         self.frame.is_some_and(|t| stop < t) || self.seal.is_some_and(|t| stop <= t)
     }
@@ -118,7 +121,8 @@ impl Archive {
         requires { IsTrue (is_storable (entry_of entry)) }
         ensures ok { OnOk result (self.new ≡ self.old ++ entry ∷ []) }
         ensures follows { OnOk result (IsTrue (may_follow (archive_of self.old) (entry_of entry))) }
-        ensures backward { IsErrOf result OfferFault.Backward → IsFalse (may_follow (archive_of self.old) (entry_of entry)) }
+        ensures backward { IsErrOf result OfferFault.Backward
+            → IsFalse (may_follow (archive_of self.old) (entry_of entry)) }
         ensures err { OnErr result (self.new ≡ self.old) }
     {
         archive_grows();

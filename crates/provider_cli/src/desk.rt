@@ -1,7 +1,8 @@
 // The desk: connection 0, on which an offline instance of RAF with a buffer of two items is bound.
 //
 // A START makes one pass over the archive, and copies each frame once, into its message.
-ghost use Rattle.std.specs.Prelude.{◌≡◌, ◌+◌, ◌<◌, ◌≤◌, ◌^◌, [], ◌∷◌, ◌++◌, IsTrue, IfOk, IfErr, IfSome, length, option_map};
+ghost use Rattle.std.specs.Prelude.{◌≡◌, ◌+◌, ◌<◌, ◌≤◌, ◌^◌, [], ◌∷◌, ◌++◌, IsTrue, IfOk, IfErr};
+ghost use Rattle.std.specs.Prelude.{IfSome, length, option_map};
 ghost use Rattle.std.specs.Option.{ForSome};
 ghost use Rattle.archive_terms.specs.declared.limits.TheConstants.{GREATEST_LOST};
 ghost use Rattle.archive_terms.specs.Archive.{is_storable};
@@ -88,8 +89,10 @@ impl<'a> Picked<'a> {
     fn put(&self, writer: &mut Writer)
         requires fields { IsFrame (frame_in self.now) }
         requires fits { length (canonical (frame (frame_in self.now))) ≤ writer.old.room }
-        ensures octets { writer.new.octets ≡ writer.old.octets ++ canonical (frame (frame_in self.now)) }
-        ensures room { writer.new.room + length (canonical (frame (frame_in self.now))) ≡ writer.old.room }
+        ensures octets { writer.new.octets ≡ writer.old.octets
+            ++ canonical (frame (frame_in self.now)) }
+        ensures room { writer.new.room + length (canonical (frame (frame_in self.now)))
+            ≡ writer.old.room }
     {
         let item = self.item();
         item.encode(writer);
@@ -107,8 +110,11 @@ impl Gap {
     // Goes over an entry, and answers its frame where it is wanted.
     fn pick<'a>(&mut self, wanted: &Wanted, entry: &'a Entry) -> Option<Picked<'a>>
         requires { IsTrue (is_storable (entry_of entry.now)) }
-        ensures picked { option_map frame_in result ≡ picked_of wanted.now.start wanted.now.stop wanted.now.quality self.old.lost entry.now }
-        ensures gap { self.new.lost ≡ gap_after (option_map frame_in result) self.old.lost entry.now }
+        ensures picked { option_map frame_in result
+            ≡ picked_of wanted.now.start wanted.now.stop wanted.now.quality self.old.lost
+            entry.now }
+        ensures gap { self.new.lost ≡ gap_after (option_map frame_in result) self.old.lost
+            entry.now }
         ensures fields { IfSome result (λ picked. IsFrame (frame_in picked)) }
     {
         let Entry::Frame {
@@ -229,7 +235,8 @@ fn send_end<O: Sink>(alloc: Global, output: &mut O) -> Result<(), Stop>
 // The head of a transport message (CCSDS 913.1-B) and of the transfer buffer in it.
 fn begin_message(alloc: Global, content: usize) -> Result<Writer, Stop>
     requires { content < 2 ^ 31 }
-    ensures octets { IfOk result (λ writer. writer.octets ≡ header 1 (length (buffer_start content) + content) ++ buffer_start content) }
+    ensures octets { IfOk result (λ writer. writer.octets
+        ≡ header 1 (length (buffer_start content) + content) ++ buffer_start content) }
     ensures room { IfOk result (λ writer. writer.room ≡ content) }
     ensures small { length (buffer_start content) ≤ 10 }
     ensures memory { IfErr result (λ stop. stop ≡ Stop.Memory) }

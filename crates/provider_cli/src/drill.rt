@@ -1,15 +1,19 @@
 // `drill`: runs a script, and writes what a user would be handed.
-ghost use Rattle.std.specs.Prelude.{◌≡◌, ◌<◌, ◌≤◌, ◌⊎◌, IsTrue, IsFalse, IsErrOf, IfOk, OnOk, IfSome, length};
+ghost use Rattle.std.specs.Prelude.{◌≡◌, ◌<◌, ◌≤◌, ◌⊎◌, IsTrue, IsFalse, IsErrOf, IfOk, OnOk};
+ghost use Rattle.std.specs.Prelude.{IfSome, length};
 ghost use Rattle.octet_core.specs.Fault.{count_up};
 ghost use Rattle.provider_cli.specs.Command.{EndsAs};
 ghost use Rattle.provider_cli.specs.Grammar.{lines_of};
 ghost use Rattle.provider_cli.specs.Output.{Wrote};
 ghost use Rattle.provider_cli.specs.Outside.{showing};
-ghost use Rattle.provider_cli.specs.Script.{IsValidLine, HasText, HasReads, HasWrites, HasScript, Completes, Drilled};
+ghost use Rattle.provider_cli.specs.Script.{IsValidLine, HasText, HasReads, HasWrites, HasScript};
+ghost use Rattle.provider_cli.specs.Script.{Completes, Drilled};
 ghost use Rattle.provider_cli.specs.Start.{EachStart};
-ghost use Rattle.provider_cli.specs.Headline.{IsDelivered, IsSent, IsStreamed, IsReadOf, StaysRight, StaysTold};
+ghost use Rattle.provider_cli.specs.Headline.{IsDelivered, IsSent, IsStreamed, IsReadOf};
+ghost use Rattle.provider_cli.specs.Headline.{StaysRight, StaysTold};
 ghost use Rattle.provider_cli.specs.Laws.{Laws};
-ghost use Rattle.provider_cli.specs.Transcript.{line_text, after_line, bad_line, transcript, is_script};
+ghost use Rattle.provider_cli.specs.Transcript.{line_text, after_line, bad_line, transcript};
+ghost use Rattle.provider_cli.specs.Transcript.{is_script};
 
 use crate::archive::{Archive, OfferFault};
 use crate::desk::answer_start;
@@ -152,12 +156,14 @@ impl From<AllocError> for ScriptFault {
 // Reads the input to its end, in pieces.
 fn read_script<I: Source>(alloc: Global, input: &mut I) -> Result<Vec<u8>, ScriptFault>
     ensures ok { IfOk result (λ script. length script.items ≤ SCRIPT_OCTETS) }
-    ensures octets { IfOk result (λ script. IfSome (I.left input.old) (λ octets. script.items ≡ octets)) }
+    ensures octets { IfOk result (λ script. IfSome (I.left input.old)
+        (λ octets. script.items ≡ octets)) }
     ensures too_long { IsErrOf result ScriptFault.TooLong →
         IfSome (I.left input.old) (λ octets. SCRIPT_OCTETS < length octets) }
     ensures raised { IsErrOf result ScriptFault.ReadFault →
         I.faults input.new ≡ count_up (I.faults input.old) }
-    ensures kept { IsErrOf result ScriptFault.ReadFault ⊎ (I.faults input.new ≡ I.faults input.old) }
+    ensures kept { IsErrOf result ScriptFault.ReadFault
+        ⊎ (I.faults input.new ≡ I.faults input.old) }
 {
     let mut script = Vec::with_capacity(alloc, SCRIPT_OCTETS + PIECE_OCTETS)?;
     let mut piece = [0u8; PIECE_OCTETS];

@@ -5,7 +5,8 @@ ghost use Rattle.provider_cli.specs.Words.{parts, parts_behind};
 
 use memchr::memchr;
 
-/// The first line of a text and what stands behind it. Lines end with an octet 0A; the last may lack it.
+/// The first line of a text and what stands behind it. Lines end with an octet 0A; the last may
+/// lack it.
 pub fn split_line(text: &[u8]) -> (&[u8], &[u8])
     ensures line { result.0.now ≡ before_first (λ octet. octet == 10) text.now }
     ensures rest { result.1.now ≡ after_first (λ octet. octet == 10) text.now }

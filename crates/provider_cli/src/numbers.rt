@@ -33,7 +33,8 @@ fn all_digits(word: &[u8]) -> bool
 #[tactic(auto, using(crate::proofs::Digits::value_grows_past))]
 fn value_of(digits: &[u8], most: u32) -> Option<u32>
     requires { IsTrue (list_all is_ascii_digit digits.now) }
-    ensures exact { result ≡ (if nat_le (digits_value 10 digits.now) most then Some (digits_value 10 digits.now) else None) }
+    ensures exact { result ≡ (if nat_le (digits_value 10 digits.now) most then Some
+        (digits_value 10 digits.now) else None) }
     ensures most { IfSome result (λ value. value ≤ most) }
 {
     let mut value = 0u32;

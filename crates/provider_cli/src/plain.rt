@@ -3,7 +3,8 @@
 // It follows the definition step by step: first it picks the places, then it cuts them into buffers
 // of two, and for each frame it adds up what was lost since the one before, over the whole archive.
 // Octets are copied freely, and its time grows with the square of the archive.
-ghost use Rattle.std.specs.Prelude.{◌≡◌, ℕ, ◌<◌, ◌≤◌, ◌≤ℤ◌, ◌^◌, pos, negsuc, [], ◌∷◌, ◌++◌, Some, IsTrue, IfOk, OnOk, length, map, slice_get};
+ghost use Rattle.std.specs.Prelude.{◌≡◌, ℕ, ◌<◌, ◌≤◌, ◌≤ℤ◌, ◌^◌, pos, negsuc, [], ◌∷◌, ◌++◌, Some};
+ghost use Rattle.std.specs.Prelude.{IsTrue, IfOk, OnOk, length, map, slice_get};
 ghost use Rattle.archive_terms.specs.declared.limits.TheConstants.{GREATEST_LOST};
 ghost use Rattle.archive_terms.specs.Archive.{is_archive, is_storable, is_closed, closes};
 ghost use Rattle.archive_terms.specs.Selection.{admits, picked};
@@ -12,7 +13,8 @@ ghost use Rattle.ber_core.specs.Spelling.{canonical};
 ghost use Rattle.return_pdu.specs.Items.{absent, buffer_start, end_of_data};
 ghost use Rattle.provider_cli.specs.Entries.{entry_of, archive_of};
 ghost use Rattle.provider_cli.specs.Plain.{frame_tree};
-ghost use Rattle.provider_cli.specs.Transcript.{message, sent_line, sent_buffer, selection, start_buffers, start_text};
+ghost use Rattle.provider_cli.specs.Transcript.{message, sent_line, sent_buffer, selection};
+ghost use Rattle.provider_cli.specs.Transcript.{start_buffers, start_text};
 
 use crate::entry::{Entry, moment};
 use archive_terms::GREATEST_LOST;
@@ -50,7 +52,8 @@ fn start_buffers(
     quality: u8,
 ) -> Result<Vec<u8>, AllocError>
     requires { IsTrue (is_archive (archive_of entries.now)) }
-    ensures { IfOk result (λ text. text.items ≡ start_buffers entries.now start.now stop.now quality) }
+    ensures { IfOk result (λ text. text.items
+        ≡ start_buffers entries.now start.now stop.now quality) }
 {
     frames_fill_by_number();
     let places = picked_places(alloc, entries, start, stop, quality)?;
@@ -79,7 +82,8 @@ fn picked_places(
     stop: &Cds,
     quality: u8,
 ) -> Result<Vec<usize>, AllocError>
-    ensures { IfOk result (λ places. places.items ≡ map (λ x. x.0) (picked (archive_of entries.now) (selection start.now stop.now quality))) }
+    ensures { IfOk result (λ places. places.items
+        ≡ map (λ x. x.0) (picked (archive_of entries.now) (selection start.now stop.now quality))) }
 {
     picked_frames();
     let mut places = Vec::new(alloc);
@@ -93,7 +97,8 @@ fn picked_places(
 
 // Whether an entry is a frame that a START asks for, wherever it stands.
 fn is_admitted(entry: &Entry, start: &Cds, stop: &Cds, quality: u8) -> bool
-    ensures { (place : ℕ) → result ≡ admits (selection start.now stop.now quality) place (entry_of entry.now) }
+    ensures { (place : ℕ) → result ≡ admits (selection start.now stop.now quality) place
+        (entry_of entry.now) }
 {
     match entry {
         Entry::Frame {
@@ -221,7 +226,8 @@ fn frame_octets(
     place: usize,
 ) -> Result<Vec<u8>, AllocError>
     requires { IsTrue (is_archive (archive_of entries.now)) }
-    ensures octets { IfOk result (λ octets. octets.items ≡ canonical (frame_tree entries.now before place (slice_get entries.now place))) }
+    ensures octets { IfOk result (λ octets. octets.items
+        ≡ canonical (frame_tree entries.now before place (slice_get entries.now place))) }
     ensures small { IfOk result (λ octets. length octets.items < 2 ^ 20) }
 {
     match entries.get(place) {
@@ -238,7 +244,8 @@ fn entry_octets(
     entry: &Entry,
 ) -> Result<Vec<u8>, AllocError>
     requires { IsTrue (is_storable (entry_of entry.now)) }
-    ensures octets { IfOk result (λ octets. octets.items ≡ canonical (frame_tree entries.now before place (Some entry.now))) }
+    ensures octets { IfOk result (λ octets. octets.items
+        ≡ canonical (frame_tree entries.now before place (Some entry.now))) }
     ensures small { IfOk result (λ octets. length octets.items < 2 ^ 20) }
 {
     let Entry::Frame {
@@ -273,7 +280,8 @@ fn null_octets(alloc: Global) -> Result<Vec<u8>, AllocError>
 // Puts the line of a transfer buffer whose items have these octets behind a text.
 fn put_buffer(alloc: Global, items: &[u8], text: &mut Vec<u8>) -> Result<(), AllocError>
     requires { length items.now < 2 ^ 31 }
-    ensures { OnOk result (text.new.items ≡ text.old.items ++ sent_line (message (buffer_start (length items.now) ++ items.now))) }
+    ensures { OnOk result (text.new.items ≡ text.old.items
+        ++ sent_line (message (buffer_start (length items.now) ++ items.now))) }
 {
     let message = message(alloc, items)?;
     let digits = hex::encode(alloc, message.octets())?;
@@ -285,7 +293,8 @@ fn put_buffer(alloc: Global, items: &[u8], text: &mut Vec<u8>) -> Result<(), All
 
 fn message(alloc: Global, items: &[u8]) -> Result<Writer, AllocError>
     requires { length items.now < 2 ^ 31 }
-    ensures { IfOk result (λ writer. writer.octets ≡ message (buffer_start (length items.now) ++ items.now)) }
+    ensures { IfOk result (λ writer. writer.octets
+        ≡ message (buffer_start (length items.now) ++ items.now)) }
 {
     let length = buffer_length(items.len());
     let mut writer = writer(alloc, 8 + length)?;

@@ -5,7 +5,8 @@ ghost use Rattle.provider_cli.specs.Command.{plan_of, EndsAs, IsUsage, IsUnread}
 ghost use Rattle.provider_cli.specs.Outside.{showing};
 ghost use Rattle.provider_cli.specs.Script.{HasText, HasReads, HasWrites, HasScript, Completes};
 ghost use Rattle.provider_cli.specs.Start.{EachStart};
-ghost use Rattle.provider_cli.specs.Headline.{IsDelivered, IsSent, IsStreamed, IsReadOf, StaysRight, StaysTold};
+ghost use Rattle.provider_cli.specs.Headline.{IsDelivered, IsSent, IsStreamed, IsReadOf};
+ghost use Rattle.provider_cli.specs.Headline.{StaysRight, StaysTold};
 
 use crate::command::plan;
 use crate::drill::drill;

@@ -1,5 +1,5 @@
-// The program over inputs and outputs in memory. The expected messages were spelled by hand (X.690, and
-// CCSDS 911.1-B for the fields of a transfer buffer).
+// The program over inputs and outputs in memory. The expected messages were spelled by hand (X.690,
+// and CCSDS 911.1-B for the fields of a transfer buffer).
 use crate::archive::Archive;
 use crate::desk::answer_start;
 use crate::entry::moment;

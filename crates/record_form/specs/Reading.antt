@@ -1,24 +1,31 @@
--- Reading an entry from its first octet on: the entry with what is left behind it, or the first fault.
-use Rattle.std.specs.Prelude.{◌≡◌, ◌⊎◌, ◌↔◌, ℕ, ◌+◌, ◌<◌, Bool, ◌==◌, ◌&&◌, nat_lt, nat_le, IsTrue, List, ◌++◌, length, take, drop, slice_index, if◌then◌else◌, Option, Some, None, Result, Ok, Err}
+-- Reading an entry from its first octet on: the entry with what is left behind it, or the first
+-- fault.
+use Rattle.std.specs.Prelude.{◌≡◌, ◌⊎◌, ◌↔◌, ℕ, ◌+◌, ◌<◌, Bool, ◌==◌, ◌&&◌, nat_lt, nat_le, IsTrue}
+use Rattle.std.specs.Prelude.{List, ◌++◌, length, take, drop, slice_index, if◌then◌else◌, Option}
+use Rattle.std.specs.Prelude.{Some, None, Result, Ok, Err}
 use Rattle.std.specs.Int.{w32, from_be_bytes}
 use Rattle.cds_time.specs.Moment.{of_micro_octets, of_pico_octets}
 use Rattle.cds_time.specs.declared.cds.Cds.{Cds}
-use Rattle.archive_terms.specs.Archive.{Entry, frame, loss_of_sync, production, seal, is_moment, is_storable}
+use Rattle.archive_terms.specs.Archive.{Entry, frame, loss_of_sync, production, seal, is_moment}
+use Rattle.archive_terms.specs.Archive.{is_storable}
 use Rattle.archive_terms.specs.declared.limits.TheConstants.{GREATEST_LOST, LONGEST_FRAME}
-use Rattle.record_form.specs.declared.kind.TheConstants.{FRAME, LOSS_OF_SYNC, PRODUCTION, SEAL, MICROS, PICOS, LONGEST_ANTENNA}
+use Rattle.record_form.specs.declared.kind.TheConstants.{FRAME, LOSS_OF_SYNC, PRODUCTION, SEAL}
+use Rattle.record_form.specs.declared.kind.TheConstants.{MICROS, PICOS, LONGEST_ANTENNA}
 use Rattle.record_form.specs.declared.fault.EntryFault.{EntryFault}
 use Rattle.record_form.specs.declared.fault.EntryFault.TheVariants.{Cut, BadKind, BadField, Memory}
 use Rattle.record_form.specs.Left.{Left, past, from}
 use Rattle.record_form.specs.Spelling.{entry_octets}
 
 infixl 10 ◌>>=◌
-abbrev pub ◌>>=◌ : {A B : Type 0} → Result A EntryFault → (A → Result B EntryFault) → Result B EntryFault
+abbrev pub ◌>>=◌ : {A B : Type 0} → Result A EntryFault → (A → Result B EntryFault)
+    → Result B EntryFault
 (Ok x) >>= f = f x
 (Err e) >>= f = Err e
 
 -- the next n octets
 abbrev pub octets_at : ℕ → Left → Result (List ℕ × Left) EntryFault
-octets_at n left = if nat_lt (length left.octets) n then Err Cut else Ok (take n left.octets, past n left)
+octets_at n left = if nat_lt (length left.octets) n then Err Cut
+    else Ok (take n left.octets, past n left)
 
 -- what was read, where it is in its range; else the field that begins at the place is at fault
 abbrev pub judged : {A : Type 0} → ℕ → Bool → A → Result A EntryFault
@@ -31,13 +38,17 @@ is_between least greatest n = nat_le least n && nat_le n greatest
 unfoldable pub octet_at : ℕ → ℕ → Left → Result (ℕ × Left) EntryFault
 octet_at least greatest left = do
   field ← octets_at 1 left
-  judged left.place (is_between least greatest (slice_index field.0 0)) (slice_index field.0 0, field.1)
+  judged left.place (is_between least greatest (slice_index field.0 0)) (
+    slice_index field.0 0,
+    field.1,
+  )
 
 -- a number of four octets in this range
 unfoldable pub number_at : ℕ → ℕ → Left → Result (ℕ × Left) EntryFault
 number_at least greatest left = do
   field ← octets_at 4 left
-  judged left.place (is_between least greatest (from_be_bytes w32 field.0)) (from_be_bytes w32 field.0, field.1)
+  judged left.place (is_between least greatest (from_be_bytes w32 field.0))
+      (from_be_bytes w32 field.0, field.1)
 
 -- how many octets the fields of a time of this form have, and the time that they are
 abbrev pub time_size : ℕ → ℕ
@@ -72,7 +83,16 @@ frame_at left = do
   antenna ← antenna_at quality.1
   lost ← number_at 0 GREATEST_LOST antenna.1
   octets ← content_at lost.1
-  Ok (frame (record { ert = ert.0; quality = quality.0; antenna = antenna.0; lost = lost.0; octets = octets.0 }), octets.1)
+  Ok (
+    frame (record {
+      ert = ert.0;
+      quality = quality.0;
+      antenna = antenna.0;
+      lost = lost.0;
+      octets = octets.0;
+    }),
+    octets.1,
+  )
 
 unfoldable pub loss_at : Left → Result (Entry × Left) EntryFault
 loss_at left = do
@@ -80,7 +100,15 @@ loss_at left = do
   carrier ← octet_at 0 3 at.1
   subcarrier ← octet_at 0 3 carrier.1
   symbol ← octet_at 0 3 subcarrier.1
-  Ok (loss_of_sync (record { at = at.0; carrier = carrier.0; subcarrier = subcarrier.0; symbol = symbol.0 }), symbol.1)
+  Ok (
+    loss_of_sync (record {
+      at = at.0;
+      carrier = carrier.0;
+      subcarrier = subcarrier.0;
+      symbol = symbol.0;
+    }),
+    symbol.1,
+  )
 
 unfoldable pub production_at : Left → Result (Entry × Left) EntryFault
 production_at left = do
@@ -122,18 +150,20 @@ abbrev pub time_of : Result (Cds × Left) EntryFault → Option Cds
 time_of (Ok read) = Some read.0
 time_of (Err fault) = None
 
--- the earth receive time of the frame that begins at a place of octets, or none where no frame begins there, or its time is
--- cut or at fault
+-- the earth receive time of the frame that begins at a place of octets, or none where no frame
+-- begins there, or its time is cut or at fault
 unfoldable pub ert_from : ℕ → List ℕ → Option Cds
 ert_from place octets = time_of (ert_at (from place octets))
 
 -- What a call returned, seen by seen, is what reading gives, with what is left then.
-abbrev pub Reads : {X Y : Type 0} → (X → Y) → Left → Result X EntryFault → Result (Y × Left) EntryFault → Type 0
+abbrev pub Reads : {X Y : Type 0} → (X → Y) → Left → Result X EntryFault
+    → Result (Y × Left) EntryFault → Type 0
 Reads seen left (Ok x) reading = reading ≡ Ok (seen x, left)
 Reads seen left (Err fault) reading = reading ≡ Err fault
 
 -- The same for one that takes memory.
-abbrev pub ReadsInto : {X Y : Type 0} → (X → Y) → Left → Result X EntryFault → Result (Y × Left) EntryFault → Type 0
+abbrev pub ReadsInto : {X Y : Type 0} → (X → Y) → Left → Result X EntryFault
+    → Result (Y × Left) EntryFault → Type 0
 ReadsInto seen left (Ok x) reading = reading ≡ Ok (seen x, left)
 ReadsInto seen left (Err fault) reading = (fault ≡ Memory) ⊎ (reading ≡ Err fault)
 

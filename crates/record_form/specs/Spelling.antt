@@ -1,4 +1,5 @@
--- The octets of an entry in a file: one spelling for each. This product's own form; numbers stand with the high octet first.
+-- The octets of an entry in a file: one spelling for each. This product's own form; numbers stand
+-- with the high octet first.
 use Rattle.std.specs.Prelude.{ℕ, List, [], ◌∷◌, ◌++◌, length}
 use Rattle.std.specs.Int.{w32, to_be_bytes}
 use Rattle.cds_time.specs.Moment.{octets_of}
@@ -6,7 +7,8 @@ use Rattle.cds_time.specs.declared.cds.Cds.{Cds}
 use Rattle.cds_time.specs.declared.cds.Rest.{Rest}
 use Rattle.cds_time.specs.declared.cds.Rest.TheVariants.{Micros, Picos}
 use Rattle.archive_terms.specs.Archive.{Entry, Frame, frame, loss_of_sync, production, seal}
-use Rattle.record_form.specs.declared.kind.TheConstants.{FRAME, LOSS_OF_SYNC, PRODUCTION, SEAL, MICROS, PICOS}
+use Rattle.record_form.specs.declared.kind.TheConstants.{FRAME, LOSS_OF_SYNC, PRODUCTION, SEAL}
+use Rattle.record_form.specs.declared.kind.TheConstants.{MICROS, PICOS}
 
 -- the number of a time's form
 abbrev pub form_of : Rest → ℕ
@@ -27,11 +29,13 @@ content_octets octets = to_be_bytes w32 (length octets) ++ octets
 
 abbrev pub frame_octets : Frame → List ℕ
 frame_octets f =
-    time_octets f.ert ++ (f.quality ∷ [] ++ (antenna_octets f.antenna ++ (to_be_bytes w32 f.lost ++ content_octets f.octets)))
+    time_octets f.ert ++ (f.quality ∷ [] ++ (antenna_octets f.antenna
+    ++ (to_be_bytes w32 f.lost ++ content_octets f.octets)))
 
 -- the number of the kind, and the fields
 abbrev pub entry_octets : Entry → List ℕ
 entry_octets (frame f) = FRAME ∷ frame_octets f
-entry_octets (loss_of_sync l) = LOSS_OF_SYNC ∷ (time_octets l.at ++ (l.carrier ∷ [] ++ (l.subcarrier ∷ [] ++ l.symbol ∷ [])))
+entry_octets (loss_of_sync l) =
+    LOSS_OF_SYNC ∷ (time_octets l.at ++ (l.carrier ∷ [] ++ (l.subcarrier ∷ [] ++ l.symbol ∷ [])))
 entry_octets (production status) = PRODUCTION ∷ status ∷ []
 entry_octets (seal at) = SEAL ∷ time_octets at

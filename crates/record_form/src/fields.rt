@@ -1,7 +1,8 @@
 // The fields of an entry, read one after another.
 ghost use Rattle.std.specs.Prelude.{◌≡◌, ◌≤◌, ◌<◌, IfOk, length};
 ghost use Rattle.record_form.specs.Left.{from};
-ghost use Rattle.record_form.specs.Reading.{Reads, octets_at, octet_at, number_at, time_at, antenna_at, content_at};
+ghost use Rattle.record_form.specs.Reading.{Reads, octets_at, octet_at, number_at, time_at};
+ghost use Rattle.record_form.specs.Reading.{antenna_at, content_at};
 
 use crate::EntryFault;
 use crate::kind::{LONGEST_ANTENNA, MICROS, PICOS};

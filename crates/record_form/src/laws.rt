@@ -1,5 +1,5 @@
-// Laws of the octets of entries, each the contract of an empty function: a caller has the law by the
-// call.
+// Laws of the octets of entries, each the contract of an empty function: a caller has the law by
+// the call.
 ghost use Rattle.record_form.specs.Reading.{AreOctets, ReadWhereSpelled, ReadBack};
 
 /// An entry is read exactly where the octets of a storable one stand: each has one spelling.

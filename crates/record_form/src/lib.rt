@@ -1,13 +1,13 @@
-// Entries of the archive: received frames, losses of frame synchronisation, changes of the production
-// status and seals; and their octets in a file.
+// Entries of the archive: received frames, losses of frame synchronisation, changes of the
+// production status and seals; and their octets in a file.
 //
-// Contracts see an entry as `archive_terms` has it (`entry_of`), and a list of entries as the list of
-// these. Each entry that an archive may hold has one spelling, and is read exactly where that stands.
-// `laws` says so, and that what is written is read back whatever follows it.
+// Contracts see an entry as `archive_terms` has it (`entry_of`), and a list of entries as the list
+// of these. Each entry that an archive may hold has one spelling, and is read exactly where that
+// stands. `laws` says so, and that what is written is read back whatever follows it.
 //
 // Reading goes over an entry's octets once and copies an antenna's and a frame's octets once, into
-// the vector that keeps them. Writing copies each octet once. `entry_length` costs the same for each
-// entry.
+// the vector that keeps them. Writing copies each octet once. `entry_length` costs the same for
+// each entry.
 #![tactic(auto)]
 
 mod entries;

@@ -1,7 +1,9 @@
 // Entries from their octets.
 ghost use Rattle.std.specs.Prelude.{◌≡◌, ◌≤◌, IfOk, length};
 ghost use Rattle.record_form.specs.Entry.{entry_of};
-ghost use Rattle.record_form.specs.Reading.{Reads, ReadsInto, Gives, StandsFrom, fields_at, frame_at, loss_at, production_at, seal_at, entry_at, entry_from, ert_at, ert_from};
+ghost use Rattle.record_form.specs.Reading.{Reads, ReadsInto, Gives, StandsFrom, fields_at};
+ghost use Rattle.record_form.specs.Reading.{frame_at, loss_at, production_at, seal_at, entry_at};
+ghost use Rattle.record_form.specs.Reading.{entry_from, ert_at, ert_from};
 
 use crate::fields::Fields;
 use crate::kind::{FRAME, LOSS_OF_SYNC, PRODUCTION, SEAL};

@@ -4,7 +4,8 @@ ghost use Rattle.std.specs.Int.{w32, to_be_bytes};
 ghost use Rattle.archive_terms.specs.Archive.{is_storable};
 ghost use Rattle.archive_terms.specs.declared.limits.TheConstants as limits;
 ghost use Rattle.record_form.specs.Entry.{entry_of};
-ghost use Rattle.record_form.specs.Spelling.{entry_octets, time_octets, antenna_octets, content_octets};
+ghost use Rattle.record_form.specs.Spelling.{entry_octets, time_octets, antenna_octets};
+ghost use Rattle.record_form.specs.Spelling.{content_octets};
 ghost use Rattle.record_form.specs.declared.kind.TheConstants.{LONGEST_ANTENNA};
 ghost use Rattle.record_form.specs.declared.writing.TheConstants.{LONGEST_ENTRY};
 
@@ -14,8 +15,8 @@ use archive_terms::LONGEST_FRAME;
 use cds_time::{Cds, Rest};
 use octet_core::Octets;
 
-/// The most octets that an entry has in a file: a frame's, with the longest antenna's identifier and
-/// picoseconds in its time.
+/// The most octets that an entry has in a file: a frame's, with the longest antenna's identifier
+/// and picoseconds in its time.
 pub const LONGEST_ENTRY: u64 = LONGEST_FRAME as u64 + 38;
 
 /// How many octets an entry has in a file.

@@ -1,11 +1,13 @@
 -- A delivery as contracts see it.
-use Rattle.std.specs.Prelude.{◌≡◌, ℕ, ◌<◌, Bool, true, false, if◌then◌else◌, not, ◌||◌, Option, Some, None, is_some, unwrap_or, List, []}
+use Rattle.std.specs.Prelude.{◌≡◌, ℕ, ◌<◌, Bool, true, false, if◌then◌else◌, not, ◌||◌, Option}
+use Rattle.std.specs.Prelude.{Some, None, is_some, unwrap_or, List, []}
 use Rattle.std.specs.Option.{option_map, option_map_or}
 use Rattle.archive_terms.specs.Selection.{Selection}
 use Rattle.archive_terms.specs.Delivery.{Mode, is_online, Terms}
 use Rattle.archive_terms.specs.Continuity.{last_frame}
 use Rattle.archive_terms.specs.Glimpse.{Want, wants_nothing, Glimpse}
-use Rattle.archive_terms.specs.Placed.{Told, items_of, Placed, placed_at_start, want_of, placed_step, placed_answered}
+use Rattle.archive_terms.specs.Placed.{Told, items_of, Placed, placed_at_start, want_of}
+use Rattle.archive_terms.specs.Placed.{placed_step, placed_answered}
 use Rattle.archive_terms.specs.Rounds.{Answer}
 use Rattle.return_core.specs.Holding.{Holding}
 
@@ -14,8 +16,8 @@ pub record Run : Type 0 where
   pub terms : Terms
   pub placed : Placed
 
--- a delivery's mode, the greatest number of items in its buffers and its latency limit, and the START that runs, if there is
--- one
+-- a delivery's mode, the greatest number of items in its buffers and its latency limit, and the
+-- START that runs, if there is one
 pub record Course : Type 0 where
   pub mode : Mode
   pub size : ℕ
@@ -26,7 +28,12 @@ abbrev pub stopped : Mode → ℕ → ℕ → Course
 stopped mode size latency = record { mode = mode; size = size; latency = latency; run = None }
 
 abbrev pub terms_of : Course → Selection → Terms
-terms_of c selection = record { mode = c.mode; size = c.size; latency = c.latency; selection = selection }
+terms_of c selection = record {
+  mode = c.mode;
+  size = c.size;
+  latency = c.latency;
+  selection = selection;
+}
 
 abbrev pub run_of : Terms → Run
 run_of t = record { terms = t; placed = placed_at_start t }
@@ -69,7 +76,10 @@ with_step c g now = record c { run = option_map (run_stepped g now) c.run }
 -- an answer to the fixed buffer; where none is fixed nothing was offered
 abbrev pub run_answered : Answer → Run → Run
 run_answered answer r =
-    record r { placed = if r.placed.fixed then placed_answered r.terms answer r.placed else r.placed }
+    record r {
+      placed = if r.placed.fixed then placed_answered r.terms answer r.placed
+          else r.placed;
+    }
 
 abbrev pub with_answer : Course → Answer → Course
 with_answer c answer = record c { run = option_map (run_answered answer) c.run }
@@ -86,7 +96,8 @@ placed_of h last owed fixed ended = record {
   ended = ended;
 }
 
-abbrev pub course_of : Mode → Option ℕ → Option Selection → Holding → Option ℕ → Bool → Bool → Bool → Course
+abbrev pub course_of : Mode → Option ℕ → Option Selection → Holding → Option ℕ → Bool → Bool → Bool
+    → Course
 course_of mode latency selection h last owed fixed ended = record {
   mode = mode;
   size = h.size;
@@ -97,8 +108,8 @@ course_of mode latency selection h last owed fixed ended = record {
   }) selection;
 }
 
--- a buffer has room for an item; an online mode has a latency limit; and the last frame that was put is that of what is held,
--- or of what was handed over before
+-- a buffer has room for an item; an online mode has a latency limit; and the last frame that was
+-- put is that of what is held, or of what was handed over before
 pub record IsSound (mode : Mode) (latency : Option ℕ) (h : Holding) (last : Option ℕ) : Type 0 where
   pub some : 0 < h.size
   pub limited : is_online mode ≡ true → is_some latency ≡ true

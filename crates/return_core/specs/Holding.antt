@@ -1,7 +1,9 @@
 -- The items that a delivery holds for its next message.
-use Rattle.std.specs.Prelude.{◌≡◌, ℕ, ◌-◌, Bool, not, ◌&&◌, ◌==◌, if◌then◌else◌, Option, None, List, [], ◌∷◌, ◌++◌, length, take}
+use Rattle.std.specs.Prelude.{◌≡◌, ℕ, ◌-◌, Bool, not, ◌&&◌, ◌==◌, if◌then◌else◌, Option, None, List}
+use Rattle.std.specs.Prelude.{[], ◌∷◌, ◌++◌, length, take}
 use Rattle.std.specs.List.{list_any, sum_by}
-use Rattle.archive_terms.specs.Delivery.{backlog, end_of_data, is_notification, is_notice_item, frame_octets, is_complete, buffer_length, entries_of}
+use Rattle.archive_terms.specs.Delivery.{backlog, end_of_data, is_notification, is_notice_item}
+use Rattle.archive_terms.specs.Delivery.{frame_octets, is_complete, buffer_length, entries_of}
 use Rattle.archive_terms.specs.Continuity.{last_frame}
 use Rattle.archive_terms.specs.Glimpse.{place_behind, Glimpse}
 use Rattle.archive_terms.specs.Placed.{Told, items_of}
@@ -9,8 +11,9 @@ use Rattle.frame_select.specs.Item as select
 use Rattle.frame_select.specs.declared.item.Item.{Item}
 use Rattle.transfer_buffer.specs.Held.{Held}
 
--- for how many items there is room; the held ones as they are told; the place behind the last picked entry that was put; the
--- place of the last frame that was put; and when the first of the held ones was put
+-- for how many items there is room; the held ones as they are told; the place behind the last
+-- picked entry that was put; the place of the last frame that was put; and when the first of the
+-- held ones was put
 pub record Holding : Type 0 where
   pub size : ℕ
   pub told : List Told
@@ -20,7 +23,13 @@ pub record Holding : Type 0 where
 
 abbrev pub holding_of : Held Item → ℕ → Option ℕ → Holding
 holding_of b place frame =
-    record { size = b.size; told = select.items_of b.items; place = place; frame = frame; since = b.since }
+    record {
+      size = b.size;
+      told = select.items_of b.items;
+      place = place;
+      frame = frame;
+      since = b.since;
+    }
 
 -- the buffer's numbers are those of its items
 pub record IsCounted (b : Held Item) : Type 0 where

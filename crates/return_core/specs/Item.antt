@@ -5,8 +5,8 @@ use Rattle.archive_terms.specs.Delivery.{Item, archived, frame_octets}
 use Rattle.archive_terms.specs.Placed.{Told}
 use Rattle.archive_terms.specs.declared.limits.TheConstants.{LONGEST_FRAME}
 
--- whether an item's place has one behind it that a number of 64 bits tells, and its frame has at most 65,536 octets, as in an
--- archive
+-- whether an item's place has one behind it that a number of 64 bits tells, and its frame has at
+-- most 65,536 octets, as in an archive
 abbrev pub is_of_archive : Item → Bool
 is_of_archive (archived place entry) =
     nat_lt place (2 ^ 64 - 1) && nat_le (frame_octets (archived place entry)) LONGEST_FRAME

@@ -1,5 +1,6 @@
 // The delivery.
-ghost use Rattle.std.specs.Prelude.{◌≡◌, ℕ, ◌<◌, ◌≤◌, List, [], ◌∷◌, ◌++◌, length, None, IsTrue, IsNone, IsSome, unwrap_or, IfOk, is_none};
+ghost use Rattle.std.specs.Prelude.{◌≡◌, ℕ, ◌<◌, ◌≤◌, List, [], ◌∷◌, ◌++◌, length, None, IsTrue};
+ghost use Rattle.std.specs.Prelude.{IsNone, IsSome, unwrap_or, IfOk, is_none};
 ghost use Rattle.archive_terms.specs.Archive.{Entry, IsArchive};
 ghost use Rattle.archive_terms.specs.Delivery.{is_online, Terms};
 ghost use Rattle.frame_select.specs.Selection.{selection_of};
@@ -10,7 +11,9 @@ ghost use Rattle.return_core.specs.Mode.{mode_of, answer_of};
 ghost use Rattle.return_core.specs.Item.{are_of_archive};
 ghost use Rattle.archive_terms.specs.Rounds.{whole, stall, Round};
 ghost use Rattle.return_core.specs.Standing.{waiting_round, StandsFor, IsNextLook, Steps, Settles};
-ghost use Rattle.return_core.specs.Course.{stopped, terms_of, with_start, without_start, limit_of_course, want_of_course, is_filling, is_offering, with_step, with_answer, held_of};
+ghost use Rattle.return_core.specs.Course.{stopped, terms_of, with_start, without_start};
+ghost use Rattle.return_core.specs.Course.{limit_of_course, want_of_course, is_filling};
+ghost use Rattle.return_core.specs.Course.{is_offering, with_step, with_answer, held_of};
 
 use crate::held_items::HeldItems;
 use crate::mode::Mode;
@@ -48,7 +51,8 @@ impl Model for Delivery {
     ghost Value = { Course };
 
     ghost view = { λ d.
-        course_of (mode_of d.mode) d.latency (option_map selection_of d.selection) d.held d.last d.owed d.fixed d.ended };
+        course_of (mode_of d.mode) d.latency (option_map selection_of d.selection) d.held d.last
+        d.owed d.fixed d.ended };
 
     ghost invariant = { λ d. IsSound (mode_of d.mode) d.latency d.held d.last };
 }
@@ -64,7 +68,8 @@ impl Delivery {
     ) -> Result<Delivery, Memory>
         requires some { 0 < size }
         requires limited { IsTrue (is_online (mode_of mode)) → IsSome latency }
-        ensures { IfOk result (λ delivery. delivery ≡ stopped (mode_of mode) size (unwrap_or latency 0)) }
+        ensures { IfOk result (λ delivery. delivery
+            ≡ stopped (mode_of mode) size (unwrap_or latency 0)) }
     {
         let held = HeldItems::new(alloc, size)?;
         Ok(Delivery {
@@ -90,7 +95,8 @@ impl Delivery {
     pub fn start(&mut self, selection: Selection)
         requires { IsNone self.old.run }
         ensures after { self.new ≡ with_start self.old (selection_of selection) }
-        ensures stands { (entries : List Entry) → IsArchive entries → selection.first ≤ length entries
+        ensures stands { (entries : List Entry) → IsArchive entries
+            → selection.first ≤ length entries
             → StandsFor self.new (terms_of self.old (selection_of selection)) entries [] }
     {
         self.held.restart(selection.first);

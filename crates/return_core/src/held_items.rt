@@ -1,13 +1,17 @@
 // The items that are held for the next message.
-ghost use Rattle.std.specs.Prelude.{◌≡◌, ◌-◌, ◌≤◌, ◌<◌, ◌==◌, None, [], ◌∷◌, length, IsTrue, IfOk, if◌then◌else◌};
+ghost use Rattle.std.specs.Prelude.{◌≡◌, ◌-◌, ◌≤◌, ◌<◌, ◌==◌, None, [], ◌∷◌, length, IsTrue, IfOk};
+ghost use Rattle.std.specs.Prelude.{if◌then◌else◌};
 ghost use Rattle.std.specs.List.{sum_by, list_any};
-ghost use Rattle.archive_terms.specs.Delivery.{is_due_of, contents, is_archived, is_backlog, is_end_of_data, frame_octets};
+ghost use Rattle.archive_terms.specs.Delivery.{is_due_of, contents, is_archived, is_backlog};
+ghost use Rattle.archive_terms.specs.Delivery.{is_end_of_data, frame_octets};
 ghost use Rattle.archive_terms.specs.Placed.{items_of};
 ghost use Rattle.archive_terms.specs.declared.limits.TheConstants.{FULL_BUFFER};
 ghost use Rattle.frame_select.specs.Item as select;
 ghost use Rattle.frame_select.specs.Glimpse.{glimpse_of};
 ghost use Rattle.return_core.specs.Item.{is_of_archive, are_of_archive};
-ghost use Rattle.return_core.specs.Holding.{empty_holding, takes_more, with_put, fitting, filled_with, headed, ended_with, is_last_of, filled_at, without_held};
+ghost use Rattle.return_core.specs.Holding.{empty_holding, takes_more, with_put, fitting};
+ghost use Rattle.return_core.specs.Holding.{filled_with, headed, ended_with, is_last_of, filled_at};
+ghost use Rattle.return_core.specs.Holding.{without_held};
 
 use crate::parts;
 use archive_terms::FULL_BUFFER;
@@ -110,7 +114,8 @@ impl HeldItems {
 
     /// Whether the held items are due.
     pub fn due(&self, now: u128, latency: Option<u128>, last: bool) -> bool
-        ensures { result ≡ is_due_of self.now.size latency now last (contents self.now.since (items_of self.now.told)) }
+        ensures { result ≡ is_due_of self.now.size latency now last
+            (contents self.now.since (items_of self.now.told)) }
     {
         self.buffer.due(now, latency, last)
     }

@@ -1,7 +1,9 @@
 // What an item is to a transfer buffer.
 ghost use Rattle.std.specs.Prelude.{◌≡◌, [], ◌∷◌, IsTrue};
 ghost use Rattle.std.specs.List.{list_any, list_all};
-ghost use Rattle.archive_terms.specs.Delivery.{is_archived, is_backlog, is_end_of_data, is_notice_item, is_notification, frame_octets, entries_of};
+ghost use Rattle.archive_terms.specs.Delivery.{is_archived, is_backlog, is_end_of_data};
+ghost use Rattle.archive_terms.specs.Delivery.{is_notice_item, is_notification, frame_octets};
+ghost use Rattle.archive_terms.specs.Delivery.{entries_of};
 ghost use Rattle.archive_terms.specs.Continuity.{last_frame};
 ghost use Rattle.archive_terms.specs.Glimpse.{place_behind};
 ghost use Rattle.frame_select.specs.Item.{item_of};
@@ -99,8 +101,8 @@ pub fn any_end_of_data(items: &[Item]) -> bool
     items.iter().any(|item| is_end_of_data(item))
 }
 
-/// Whether items are such as a look at an archive gives: places below the last number of 64 bits, and
-/// frames of at most 65,536 octets. It is the test of what `Delivery::step` requires.
+/// Whether items are such as a look at an archive gives: places below the last number of 64 bits,
+/// and frames of at most 65,536 octets. It is the test of what `Delivery::step` requires.
 pub fn are_of_archive(items: &Items) -> bool
     ensures { result ≡ are_of_archive items.now }
 {

@@ -15,12 +15,15 @@ use Rattle.return_pdu.specs.Plain.{plain_item, FramesArePlain, EndIsPlain}
 made : ℕ → ℕ → Rest → Cds
 made days millis rest = record { days = days; millis = millis; rest = rest }
 
-time_fits : (days millis : ℕ) (rest : Rest) → FieldsFit (record { days = days; millis = millis; rest = rest })
+time_fits : (days millis : ℕ) (rest : Rest)
+    → FieldsFit (record { days = days; millis = millis; rest = rest })
     → common.time.Fits (record { days = days; millis = millis; rest = rest })
 time_fits days millis (Micros n) fit = record { fields = fit; form = refl }
 time_fits days millis (Picos n) fit = record { fields = fit; form = refl }
 
-time_tree : (days millis : ℕ) (rest : Rest) → common.time.tree (record { days = days; millis = millis; rest = rest }) ≡ time (record { days = days; millis = millis; rest = rest })
+time_tree : (days millis : ℕ) (rest : Rest)
+    → common.time.tree (record { days = days; millis = millis; rest = rest })
+    ≡ time (record { days = days; millis = millis; rest = rest })
 unfolding time
 time_tree days millis (Micros n) = refl
 time_tree days millis (Picos n) = refl
@@ -31,7 +34,9 @@ has_bits z low high = record { least = grind (arith, ints); greatest = grind (ar
 -- a frame's tree with this one in the time's place
 with_time : Frame → Tree → Tree
 with_time f t = constructed (0xa0 ∷ [])
-    (tree_and absent (tree_and t (tree_and (primitive (0x81 ∷ []) f.antenna) (tree_and (integer f.continuity) (tree_and (integer (pos f.quality)) (tree_and absent (tree_and (primitive (0x04 ∷ []) f.octets) no_trees)))))))
+    (tree_and absent (tree_and t (tree_and (primitive (0x81 ∷ []) f.antenna)
+    (tree_and (integer f.continuity) (tree_and (integer (pos f.quality))
+    (tree_and absent (tree_and (primitive (0x04 ∷ []) f.octets) no_trees)))))))
 
 pub plain_tree : (f : Frame) → raf_item.tree (plain_item f) ≡ frame f
 unfolding frame_fields with_time
@@ -47,8 +52,15 @@ frames_are_plain f is fit = record {
         (
           record { least_so = is.antenna_some; greatest_so = is.antenna_short },
           (
-            record { bits = has_bits f.continuity is.continuity_least is.continuity_greatest; least_so = is.continuity_least; greatest_so = is.continuity_greatest },
-            (record { least_so = omega arith; greatest_so = is.quality }, (tt, record { least_so = is.octets_some; greatest_so = is.octets_fit })),
+            record {
+              bits = has_bits f.continuity is.continuity_least is.continuity_greatest;
+              least_so = is.continuity_least;
+              greatest_so = is.continuity_greatest;
+            },
+            (
+              record { least_so = omega arith; greatest_so = is.quality },
+              (tt, record { least_so = is.octets_some; greatest_so = is.octets_fit }),
+            ),
           ),
         ),
       ),

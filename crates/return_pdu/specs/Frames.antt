@@ -1,5 +1,6 @@
 -- Frames of a transfer buffer (CCSDS 911.1-B and 911.2-B, annex A).
-use Rattle.std.proofs.Common.{◌≡◌, ℕ, ℤ, pos, negsuc, true, Option, Some, None, is_some, unwrap_or, List, [], ◌∷◌, refl, sym, ap}
+use Rattle.std.proofs.Common.{◌≡◌, ℕ, ℤ, pos, negsuc, true, Option, Some, None, is_some, unwrap_or}
+use Rattle.std.proofs.Common.{List, [], ◌∷◌, refl, sym, ap}
 use Rattle.ber_shape.specs.Content.{integer, octet_string}
 use Rattle.ber_shape.specs.Element.{Element, simple}
 use Rattle.ber_shape.specs.Members.{Members, last, ◌▸◌}
@@ -18,7 +19,8 @@ continuity = simple (0x02 ∷ []) (integer (negsuc 0) (pos 16777215)) refl
 abbrev pub frame_octets : Element (List ℕ)
 frame_octets = simple (0x04 ∷ []) (octet_string 1 65536) refl
 
--- who sends, the earth receive time, the antenna, the continuity, the quality for RAF alone, the annotation, the frame
+-- who sends, the earth receive time, the antenna, the continuity, the quality for RAF alone, the
+-- annotation, the frame
 pub record FrameContent : Type 0 where
   pub credentials : Option (List ℕ)
   pub ert : Cds
@@ -48,7 +50,10 @@ of_raf_parts p = record {
 }
 
 abbrev pub parts_of_raf : FrameContent → RafParts
-parts_of_raf f = (f.credentials, (f.ert, (f.antenna, (f.continuity, (unwrap_or f.quality 0, (f.note, f.octets))))))
+parts_of_raf f = (
+  f.credentials,
+  (f.ert, (f.antenna, (f.continuity, (unwrap_or f.quality 0, (f.note, f.octets))))),
+)
 
 -- the fields are in their ranges, and there is a quality
 pub record FitsRaf (f : FrameContent) : Type 0 where
@@ -59,15 +64,26 @@ some_again : (o : Option ℕ) → is_some o ≡ true → Some (unwrap_or o 0) �
 some_again (Some n) is = refl
 some_again None is = cc
 
-pub raf_there : (f : FrameContent) → FitsRaf f → raf_parts.Fits (parts_of_raf f) × (of_raf_parts (parts_of_raf f) ≡ f)
-raf_there f fits = (fits.fields, ap (λ q. record f { quality = q }) (some_again f.quality fits.has_quality))
+pub raf_there : (f : FrameContent) → FitsRaf f
+    → raf_parts.Fits (parts_of_raf f) × (of_raf_parts (parts_of_raf f) ≡ f)
+raf_there f fits = (
+  fits.fields,
+  ap (λ q. record f { quality = q }) (some_again f.quality fits.has_quality),
+)
 
-pub raf_back : (p : RafParts) → raf_parts.Fits p → FitsRaf (of_raf_parts p) × (parts_of_raf (of_raf_parts p) ≡ p)
+pub raf_back : (p : RafParts) → raf_parts.Fits p
+    → FitsRaf (of_raf_parts p) × (parts_of_raf (of_raf_parts p) ≡ p)
 raf_back p fits = (record { fields = fits; has_quality = refl }, refl)
 
 abbrev pub raf_frame_fields : Members FrameContent
 raf_frame_fields = members_where raf_parts
-    (record { to = of_raf_parts; from = parts_of_raf; Holds = FitsRaf; there = raf_there; back = raf_back })
+    (record {
+      to = of_raf_parts;
+      from = parts_of_raf;
+      Holds = FitsRaf;
+      there = raf_there;
+      back = raf_back;
+    })
 
 -- ---- of RCF
 
@@ -96,12 +112,20 @@ pub record FitsRcf (f : FrameContent) : Type 0 where
   pub fields : rcf_parts.Fits (parts_of_rcf f)
   pub no_quality : f.quality ≡ None
 
-pub rcf_there : (f : FrameContent) → FitsRcf f → rcf_parts.Fits (parts_of_rcf f) × (of_rcf_parts (parts_of_rcf f) ≡ f)
+pub rcf_there : (f : FrameContent) → FitsRcf f
+    → rcf_parts.Fits (parts_of_rcf f) × (of_rcf_parts (parts_of_rcf f) ≡ f)
 rcf_there f fits = (fits.fields, ap (λ q. record f { quality = q }) (sym fits.no_quality))
 
-pub rcf_back : (p : RcfParts) → rcf_parts.Fits p → FitsRcf (of_rcf_parts p) × (parts_of_rcf (of_rcf_parts p) ≡ p)
+pub rcf_back : (p : RcfParts) → rcf_parts.Fits p
+    → FitsRcf (of_rcf_parts p) × (parts_of_rcf (of_rcf_parts p) ≡ p)
 rcf_back p fits = (record { fields = fits; no_quality = refl }, refl)
 
 abbrev pub rcf_frame_fields : Members FrameContent
 rcf_frame_fields = members_where rcf_parts
-    (record { to = of_rcf_parts; from = parts_of_rcf; Holds = FitsRcf; there = rcf_there; back = rcf_back })
+    (record {
+      to = of_rcf_parts;
+      from = parts_of_rcf;
+      Holds = FitsRcf;
+      there = rcf_there;
+      back = rcf_back;
+    })

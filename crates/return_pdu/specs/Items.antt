@@ -1,5 +1,5 @@
--- The trees of what a transfer buffer of RAF holds (CCSDS 911.1-B, annex A), with unused credentials, the local form
--- of the antenna and no annotation.
+-- The trees of what a transfer buffer of RAF holds (CCSDS 911.1-B, annex A), with unused
+-- credentials, the local form of the antenna and no annotation.
 use Rattle.std.specs.Prelude.{◌≡◌, ℕ, ℤ, pos, List, [], ◌∷◌, ◌++◌, length}
 use Rattle.std.specs.List.{flat_map}
 use Rattle.ber_core.specs.Length.{shortest_length}
@@ -36,7 +36,13 @@ pub record Frame : Type 0 where
 
 abbrev pub frame_of : Cds → List ℕ → ℤ → ℕ → List ℕ → Frame
 frame_of ert antenna continuity quality octets =
-    record { ert = ert; antenna = antenna; continuity = continuity; quality = quality; octets = octets }
+    record {
+      ert = ert;
+      antenna = antenna;
+      continuity = continuity;
+      quality = quality;
+      octets = octets;
+    }
 
 -- credentials, earth receive time, antenna, continuity, quality, annotation and the frame itself
 unfoldable pub frame_fields : Frame → List Tree
@@ -73,4 +79,5 @@ items_spelled items = flat_map canonical items
 
 abbrev pub BufferIsHeadAndItems : Type 0
 BufferIsHeadAndItems =
-    (items : List Tree) → canonical (transfer_buffer items) ≡ buffer_start (length (items_spelled items)) ++ items_spelled items
+    (items : List Tree) → canonical (transfer_buffer items)
+    ≡ buffer_start (length (items_spelled items)) ++ items_spelled items

@@ -10,7 +10,8 @@ use Rattle.sle_common.specs.Credentials.{credentials}
 use Rattle.sle_common.specs.Time.{time}
 use Rattle.return_pdu.specs.declared.lock_loss.LockLoss.{LockLoss}
 use Rattle.return_pdu.specs.declared.notification.Notification.{Notification}
-use Rattle.return_pdu.specs.declared.notification.Notification.TheVariants.{Loss, Production, Backlog, EndOfData}
+use Rattle.return_pdu.specs.declared.notification.Notification.TheVariants.{Loss, Production}
+use Rattle.return_pdu.specs.declared.notification.Notification.TheVariants.{Backlog, EndOfData}
 
 -- in lock 0, out of lock 1, not in use 2, not known 3
 abbrev pub lock : Element ℕ
@@ -36,7 +37,12 @@ notice_of (inr (inr (inr loss))) = Loss loss.at loss.carrier loss.subcarrier los
 
 abbrev pub of_notice : Notification → Notices
 of_notice (Loss at carrier subcarrier symbol) =
-    inr (inr (inr (record { at = at; carrier = carrier; subcarrier = subcarrier; symbol = symbol })))
+    inr (inr (inr (record {
+      at = at;
+      carrier = carrier;
+      subcarrier = subcarrier;
+      symbol = symbol;
+    })))
 of_notice (Production status) = inl status
 of_notice Backlog = inr (inl tt)
 of_notice EndOfData = inr (inr (inl tt))
@@ -53,13 +59,14 @@ notice_back (inr (inl backlog)) = refl
 notice_back (inr (inr (inl end))) = refl
 notice_back (inr (inr (inr loss))) = refl
 
--- [0] SEQUENCE the loss of a lock, [1] INTEGER the production status, [2] NULL the backlog was given up, [3] NULL the end
--- of data
+-- [0] SEQUENCE the loss of a lock, [1] INTEGER the production status, [2] NULL the backlog was
+-- given up, [3] NULL the end of data
 abbrev pub notification : Element Notification
 notification = element_as
     (either (0x81 ∷ []) (simple (0x81 ∷ []) any_integer refl)
     (either (0x82 ∷ []) (simple (0x82 ∷ []) null refl)
-    (either (0x83 ∷ []) (simple (0x83 ∷ []) null refl) (structured (0xa0 ∷ []) loss_fields refl) refl refl) refl refl) refl refl)
+    (either (0x83 ∷ []) (simple (0x83 ∷ []) null refl) (structured (0xa0 ∷ []) loss_fields refl)
+    refl refl) refl refl) refl refl)
     (record { to = notice_of; from = of_notice; there = notice_there; back = notice_back })
 
 -- who sends, and what is told

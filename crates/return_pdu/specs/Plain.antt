@@ -1,5 +1,5 @@
--- Items as they are written to a peer without authentication: with unused credentials, the local form of the antenna and no
--- annotation.
+-- Items as they are written to a peer without authentication: with unused credentials, the local
+-- form of the antenna and no annotation.
 use Rattle.std.specs.Prelude.{◌≡◌, ◌+◌, ◌≤◌, Some, None, length}
 use Rattle.ber_core.specs.Spelling.{canonical}
 use Rattle.sle_common.specs.Antenna.{local}

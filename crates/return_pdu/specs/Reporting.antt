@@ -1,4 +1,5 @@
--- The status reports of the return services (CCSDS 911.1-B and 911.2-B, annex A); their numbers are this product's own.
+-- The status reports of the return services (CCSDS 911.1-B and 911.2-B, annex A); their numbers are
+-- this product's own.
 use Rattle.std.proofs.Common.{ℕ, ℤ, Option, List, [], ◌∷◌, refl}
 use Rattle.ber_shape.specs.Element.{Element}
 use Rattle.ber_shape.specs.Members.{Members, structured, last, ◌▸◌}
@@ -18,21 +19,31 @@ pub record RafReportContent : Type 0 where
   pub production : ℤ
 
 abbrev pub raf_report_fields : Members RafReportContent
-raf_report_fields = members_as (credentials ▸ number ▸ number ▸ number ▸ number ▸ number ▸ number ▸ last number) (record {
-  to = λ p. record {
-    credentials = p.0;
-    error_free = p.1.0;
-    delivered = p.1.1.0;
-    frame_sync = p.1.1.1.0;
-    symbol = p.1.1.1.1.0;
-    subcarrier = p.1.1.1.1.1.0;
-    carrier = p.1.1.1.1.1.1.0;
-    production = p.1.1.1.1.1.1.1;
-  };
-  from = λ x. (x.credentials, (x.error_free, (x.delivered, (x.frame_sync, (x.symbol, (x.subcarrier, (x.carrier, x.production)))))));
-  there = λ x. refl;
-  back = λ p. refl;
-})
+raf_report_fields = members_as (credentials ▸ number ▸ number ▸ number ▸ number ▸ number ▸ number ▸
+    last number) (record {
+      to = λ p. record {
+        credentials = p.0;
+        error_free = p.1.0;
+        delivered = p.1.1.0;
+        frame_sync = p.1.1.1.0;
+        symbol = p.1.1.1.1.0;
+        subcarrier = p.1.1.1.1.1.0;
+        carrier = p.1.1.1.1.1.1.0;
+        production = p.1.1.1.1.1.1.1;
+      };
+      from = λ x. (
+        x.credentials,
+        (
+          x.error_free,
+          (
+            x.delivered,
+            (x.frame_sync, (x.symbol, (x.subcarrier, (x.carrier, x.production)))),
+          ),
+        ),
+      );
+      there = λ x. refl;
+      back = λ p. refl;
+    })
 
 -- [9] SEQUENCE
 abbrev pub raf_report : Element RafReportContent
@@ -49,20 +60,30 @@ pub record RcfReportContent : Type 0 where
   pub production : ℤ
 
 abbrev pub rcf_report_fields : Members RcfReportContent
-rcf_report_fields = members_as (credentials ▸ number ▸ number ▸ number ▸ number ▸ number ▸ last number) (record {
-  to = λ p. record {
-    credentials = p.0;
-    delivered = p.1.0;
-    frame_sync = p.1.1.0;
-    symbol = p.1.1.1.0;
-    subcarrier = p.1.1.1.1.0;
-    carrier = p.1.1.1.1.1.0;
-    production = p.1.1.1.1.1.1;
-  };
-  from = λ x. (x.credentials, (x.delivered, (x.frame_sync, (x.symbol, (x.subcarrier, (x.carrier, x.production))))));
-  there = λ x. refl;
-  back = λ p. refl;
-})
+rcf_report_fields = members_as (credentials ▸ number ▸ number ▸ number ▸ number ▸ number ▸ last
+    number) (record {
+      to = λ p. record {
+        credentials = p.0;
+        delivered = p.1.0;
+        frame_sync = p.1.1.0;
+        symbol = p.1.1.1.0;
+        subcarrier = p.1.1.1.1.0;
+        carrier = p.1.1.1.1.1.0;
+        production = p.1.1.1.1.1.1;
+      };
+      from = λ x. (
+        x.credentials,
+        (
+          x.delivered,
+          (
+            x.frame_sync,
+            (x.symbol, (x.subcarrier, (x.carrier, x.production))),
+          ),
+        ),
+      );
+      there = λ x. refl;
+      back = λ p. refl;
+    })
 
 -- [9] SEQUENCE
 abbrev pub rcf_report : Element RcfReportContent

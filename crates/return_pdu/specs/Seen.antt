@@ -78,7 +78,11 @@ schedule_return_of x = record {
 }
 
 abbrev pub get_parameter_of : GetParameter → GetParameterContent
-get_parameter_of x = record { credentials = credentials_of x.credentials; invoke = x.invoke; name = x.name }
+get_parameter_of x = record {
+  credentials = credentials_of x.credentials;
+  invoke = x.invoke;
+  name = x.name;
+}
 
 abbrev pub parameter_return_of : ParameterReturn → ParameterReturnContent
 parameter_return_of x = record {
@@ -139,4 +143,5 @@ item_of (Frame credentials ert antenna continuity quality note octets) = frame (
   note = option_map (λ octets. octets.now) note;
   octets = octets.now;
 })
-item_of (Told credentials notice) = told (record { credentials = credentials_of credentials; notice = notice })
+item_of (Told credentials notice) =
+    told (record { credentials = credentials_of credentials; notice = notice })

@@ -22,18 +22,19 @@ pub record RafStartContent : Type 0 where
   pub quality : ℕ
 
 abbrev pub raf_start_fields : Members RafStartContent
-raf_start_fields = members_as (credentials ▸ invoke_id ▸ conditional_time ▸ conditional_time ▸ last quality) (record {
-  to = λ p. record {
-    credentials = p.0;
-    invoke = p.1.0;
-    start = p.1.1.0;
-    stop = p.1.1.1.0;
-    quality = p.1.1.1.1;
-  };
-  from = λ x. (x.credentials, (x.invoke, (x.start, (x.stop, x.quality))));
-  there = λ x. refl;
-  back = λ p. refl;
-})
+raf_start_fields = members_as (credentials ▸ invoke_id ▸ conditional_time ▸ conditional_time ▸ last
+    quality) (record {
+      to = λ p. record {
+        credentials = p.0;
+        invoke = p.1.0;
+        start = p.1.1.0;
+        stop = p.1.1.1.0;
+        quality = p.1.1.1.1;
+      };
+      from = λ x. (x.credentials, (x.invoke, (x.start, (x.stop, x.quality))));
+      there = λ x. refl;
+      back = λ p. refl;
+    })
 
 -- [0] SEQUENCE
 abbrev pub raf_start : Element RafStartContent
@@ -48,18 +49,19 @@ pub record RcfStartContent : Type 0 where
   pub channel : Gvcid
 
 abbrev pub rcf_start_fields : Members RcfStartContent
-rcf_start_fields = members_as (credentials ▸ invoke_id ▸ conditional_time ▸ conditional_time ▸ last (structured (0x30 ∷ []) gvcid refl)) (record {
-  to = λ p. record {
-    credentials = p.0;
-    invoke = p.1.0;
-    start = p.1.1.0;
-    stop = p.1.1.1.0;
-    channel = p.1.1.1.1;
-  };
-  from = λ x. (x.credentials, (x.invoke, (x.start, (x.stop, x.channel))));
-  there = λ x. refl;
-  back = λ p. refl;
-})
+rcf_start_fields = members_as (credentials ▸ invoke_id ▸ conditional_time ▸ conditional_time ▸ last
+    (structured (0x30 ∷ []) gvcid refl)) (record {
+      to = λ p. record {
+        credentials = p.0;
+        invoke = p.1.0;
+        start = p.1.1.0;
+        stop = p.1.1.1.0;
+        channel = p.1.1.1.1;
+      };
+      from = λ x. (x.credentials, (x.invoke, (x.start, (x.stop, x.channel))));
+      there = λ x. refl;
+      back = λ p. refl;
+    })
 
 -- [0] SEQUENCE
 abbrev pub rcf_start : Element RcfStartContent

@@ -1,5 +1,6 @@
 -- STOP and its return (CCSDS 911.1-B, annex A).
-use Rattle.std.proofs.Common.{◌≡◌, ℕ, ℤ, Option, List, [], ◌∷◌, Result, Ok, Err, ◌⊎◌, inl, inr, refl}
+use Rattle.std.proofs.Common.{◌≡◌, ℕ, ℤ, Option, List, [], ◌∷◌, Result, Ok, Err, ◌⊎◌, inl, inr}
+use Rattle.std.proofs.Common.{refl}
 use Rattle.ber_shape.specs.Content.{null, any_integer}
 use Rattle.ber_shape.specs.Element.{Element, simple}
 use Rattle.ber_shape.specs.Members.{Members, structured, last, ◌▸◌}
@@ -26,8 +27,14 @@ stop_result_back (inr done) = refl
 
 -- [0] NULL, [1] INTEGER a diagnostic that all operations share
 abbrev pub stop_result : Element (Result (Unit {0}) ℤ)
-stop_result = element_as (either (0x81 ∷ []) (simple (0x81 ∷ []) any_integer refl) (simple (0x80 ∷ []) null refl) refl refl)
-    (record { to = stop_result_of; from = of_stop_result; there = stop_result_there; back = stop_result_back })
+stop_result = element_as (either (0x81 ∷ []) (simple (0x81 ∷ []) any_integer refl)
+    (simple (0x80 ∷ []) null refl) refl refl)
+    (record {
+      to = stop_result_of;
+      from = of_stop_result;
+      there = stop_result_there;
+      back = stop_result_back;
+    })
 
 -- who sends, and its number
 pub record StopContent : Type 0 where

@@ -1,5 +1,6 @@
 -- Items of a transfer buffer, and the buffer (CCSDS 911.1-B and 911.2-B, annex A).
-use Rattle.std.proofs.Common.{◌≡◌, ℕ, is_some, if◌then◌else◌, List, [], ◌∷◌, ◌++◌, length, Ok, ◌⊎◌, inl, inr, refl}
+use Rattle.std.proofs.Common.{◌≡◌, ℕ, is_some, if◌then◌else◌, List, [], ◌∷◌, ◌++◌, length, Ok, ◌⊎◌}
+use Rattle.std.proofs.Common.{inl, inr, refl}
 use Rattle.std.specs.List.{flat_map}
 use Rattle.ber_core.specs.Tree.{Tree}
 use Rattle.ber_core.specs.Spelling.{Spells, canonical}
@@ -37,7 +38,8 @@ item_back (inr f) = refl
 
 -- [0] SEQUENCE a frame, [1] SEQUENCE a notification
 abbrev pub item_with : Members FrameContent → Element ItemContent
-item_with fields = element_as (either (0xa1 ∷ []) (structured (0xa1 ∷ []) told_fields refl) (structured (0xa0 ∷ []) fields refl) refl refl)
+item_with fields = element_as (either (0xa1 ∷ []) (structured (0xa1 ∷ []) told_fields refl)
+    (structured (0xa0 ∷ []) fields refl) refl refl)
     (record { to = item_from; from = of_item; there = item_there; back = item_back })
 
 abbrev pub raf_item : Element ItemContent
@@ -85,10 +87,11 @@ BufferIsHeadAndEncoded = (s : Service) (xs : List ItemContent) → (buffer s).Fi
 
 -- ---- read
 
--- Octets are read as a buffer exactly where they spell it and its items fit; octets that spell one are read as its items;
--- they spell one at most.
+-- Octets are read as a buffer exactly where they spell it and its items fit; octets that spell one
+-- are read as its items; they spell one at most.
 pub record BuffersAreExact : Type 0 where
   pub read : (s : Service) → ReadWhereSpelled (buffer s)
-  pub again : (s : Service) (xs : List ItemContent) (octets : List ℕ) → (buffer s).Fits xs → Spells ((buffer s).tree xs) octets
+  pub again : (s : Service) (xs : List ItemContent) (octets : List ℕ) → (buffer s).Fits xs
+      → Spells ((buffer s).tree xs) octets
       → whole (buffer s).read octets ≡ Ok xs
   pub one : (s : Service) → OneValue (buffer s)

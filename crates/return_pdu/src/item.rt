@@ -36,8 +36,10 @@ impl<'a> Item<'a> {
     pub fn write(&self, writer: &mut Writer)
         requires fits { ItemFits (content_of self.now) }
         requires room { length (canonical (item_tree (content_of self.now))) ≤ writer.old.room }
-        ensures octets { writer.new.octets ≡ writer.old.octets ++ canonical (item_tree (content_of self.now)) }
-        ensures room { writer.new.room + length (canonical (item_tree (content_of self.now))) ≡ writer.old.room }
+        ensures octets { writer.new.octets ≡ writer.old.octets
+            ++ canonical (item_tree (content_of self.now)) }
+        ensures room { writer.new.room + length (canonical (item_tree (content_of self.now)))
+            ≡ writer.old.room }
     {
         match self {
             Item::Data(frame) => match frame.quality {

@@ -36,7 +36,8 @@ pub fn buffer_is_head_and_encoded()
     ensures { BufferIsHeadAndEncoded }
 {}
 
-/// Octets are read as a buffer exactly where they spell it and its items fit, and spell one at most.
+/// Octets are read as a buffer exactly where they spell it and its items fit, and spell one at
+/// most.
 #[tactic(auto, using(crate::proofs::Fitting::buffers_exact))]
 pub fn buffers_are_exact()
     ensures { BuffersAreExact }

@@ -1,14 +1,14 @@
-// The PDUs of the return services (CCSDS 911.1-B and 911.2-B, annex A): START of RAF and of RCF, STOP,
-// SCHEDULE-STATUS-REPORT, GET-PARAMETER, their returns and the status reports, each decoded, measured
-// and encoded by its shape; and transfer buffers of both services.
+// The PDUs of the return services (CCSDS 911.1-B and 911.2-B, annex A): START of RAF and of RCF,
+// STOP, SCHEDULE-STATUS-REPORT, GET-PARAMETER, their returns and the status reports, each decoded,
+// measured and encoded by its shape; and transfer buffers of both services.
 //
 // No call takes memory. Reading costs one pass over the octets and lends from them; writing copies
 // each octet once, after the lengths of the elements around it were added up.
 //
-// A transfer buffer is read by `TransferBuffer`, which checks it whole, and then reads each item once
-// more where it stands when it hands it out: its heads and fields, and not a frame's octets. It is
-// written by `buffer_head` and the items behind it. Each call appends to a `Writer` whose room the
-// caller has seen to.
+// A transfer buffer is read by `TransferBuffer`, which checks it whole, and then reads each item
+// once more where it stands when it hands it out: its heads and fields, and not a frame's octets.
+// It is written by `buffer_head` and the items behind it. Each call appends to a `Writer` whose
+// room the caller has seen to.
 #![tactic(auto)]
 
 mod continuity;

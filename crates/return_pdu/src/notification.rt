@@ -104,7 +104,12 @@ fn notice_of(loss: LockLoss) -> Notification
 }
 
 fn lock_loss(at: Cds, carrier: u8, subcarrier: u8, symbol: u8) -> LockLoss
-    ensures { result ≡ record { at = at; carrier = carrier; subcarrier = subcarrier; symbol = symbol } }
+    ensures { result ≡ record {
+      at = at;
+      carrier = carrier;
+      subcarrier = subcarrier;
+      symbol = symbol;
+    } }
 {
     LockLoss {
         at,

@@ -2,9 +2,9 @@ use ber_core::{BerFault, Reader, Writer};
 use ber_shape::{Element, Members, Pdu};
 use sle_common::{Credentials, Number};
 
-/// The status report of return channel frames (CCSDS 911.2-B, annex A): a SEQUENCE under the context
-/// tag 9. Its numbers are INTEGERs of at most 64 bits, signed or unsigned; what they count is this
-/// product's own.
+/// The status report of return channel frames (CCSDS 911.2-B, annex A): a SEQUENCE under the
+/// context tag 9. Its numbers are INTEGERs of at most 64 bits, signed or unsigned; what they count
+/// is this product's own.
 #[derive(Clone, Copy, Debug, PartialEq, Eq)]
 pub struct RcfReport<'a> {
     pub credentials: Credentials<'a>,

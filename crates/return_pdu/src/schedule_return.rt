@@ -2,7 +2,8 @@ use ber_core::{BerFault, Reader, Writer};
 use ber_shape::{Element, Members, Pdu};
 use sle_common::{Confirmation, Credentials, Diagnostic, InvokeId};
 
-/// The return of SCHEDULE-STATUS-REPORT (CCSDS 911.1-B, annex A): a SEQUENCE under the context tag 5.
+/// The return of SCHEDULE-STATUS-REPORT (CCSDS 911.1-B, annex A): a SEQUENCE under the context tag
+/// 5.
 #[derive(Clone, Copy, Debug, PartialEq, Eq)]
 pub struct ScheduleReturn<'a> {
     pub credentials: Credentials<'a>,

@@ -55,7 +55,8 @@ fn both_ways<'a, P: Pdu<'a>>(rt: &impl Abort, alloc: Global, octets: &'a [u8]) -
     Ok(pdu)
 }
 
-// The buffer of RAF that these octets spell gives so many items, which are written as the same octets.
+// The buffer of RAF that these octets spell gives so many items, which are written as the same
+// octets.
 fn rewritten(rt: &impl Abort, alloc: Global, count: usize, octets: &[u8]) -> Result<(), Fail> {
     let mut buffer = TransferBuffer::decode_raf(octets)?;
     let mut items = TransferBuffer::decode_raf(octets)?;

@@ -1,4 +1,5 @@
-ghost use Rattle.std.specs.Prelude.{◌≡◌, ◌+◌, ◌≤◌, ◌<◌, ◌^◌, ◌∷◌, [], ◌++◌, length, MatchOption, IfSome, IsOk, Ok};
+ghost use Rattle.std.specs.Prelude.{◌≡◌, ◌+◌, ◌≤◌, ◌<◌, ◌^◌, ◌∷◌, [], ◌++◌, length, MatchOption};
+ghost use Rattle.std.specs.Prelude.{IfSome, IsOk, Ok};
 ghost use Rattle.ber_core.specs.Reading.{Gives};
 ghost use Rattle.ber_shape.specs.Exact.{whole, IsDecoded};
 ghost use Rattle.return_pdu.specs.declared.service.Service.TheVariants.{Raf, Rcf};
@@ -95,7 +96,8 @@ impl<'a> TransferBuffer<'a> {
     /// of a frame aren't gone over. It fits, so it may be encoded.
     #[tactic(auto, using(crate::proofs::Fitting::first_fits))]
     pub fn next(&mut self) -> Option<TransferItem<'a>>
-        ensures gives { MatchOption result ((self.old ≡ []) × (self.new ≡ [])) (λ item. self.old ≡ item_of item ∷ self.new) }
+        ensures gives { MatchOption result ((self.old ≡ []) × (self.new ≡ []))
+            (λ item. self.old ≡ item_of item ∷ self.new) }
         ensures fits { IfSome result (λ item. ItemFits (item_of item)) }
     {
         laws::slice(self.octets);

@@ -50,12 +50,15 @@ impl<'a> TransferItem<'a> {
         octets: &'a [u8],
     ) -> TransferItem<'a>
         requires { IsFrame (frame_of ert antenna.now continuity quality octets.now) }
-        ensures content { item_of result ≡ plain_item (frame_of ert antenna.now continuity quality octets.now) }
+        ensures content { item_of result ≡ plain_item
+            (frame_of ert antenna.now continuity quality octets.now) }
         ensures fits { ItemFits (item_of result) }
-        ensures tree { item_tree (item_of result) ≡ frame (frame_of ert antenna.now continuity quality octets.now) }
+        ensures tree { item_tree (item_of result)
+            ≡ frame (frame_of ert antenna.now continuity quality octets.now) }
 
         // A bound for callers that add lengths up.
-        ensures small { length (canonical (frame (frame_of ert antenna.now continuity quality octets.now))) ≤ length octets.now + 300 }
+        ensures small { length (canonical (frame
+            (frame_of ert antenna.now continuity quality octets.now))) ≤ length octets.now + 300 }
     {
         TransferItem::Frame {
             credentials: Credentials::Unused,
@@ -95,8 +98,10 @@ impl<'a> TransferItem<'a> {
     pub fn encode(&self, writer: &mut Writer)
         requires fits { ItemFits (item_of self.now) }
         requires room { length (canonical (item_tree (item_of self.now))) ≤ writer.old.room }
-        ensures octets { writer.new.octets ≡ writer.old.octets ++ canonical (item_tree (item_of self.now)) }
-        ensures room { writer.new.room + length (canonical (item_tree (item_of self.now))) ≡ writer.old.room }
+        ensures octets { writer.new.octets ≡ writer.old.octets
+            ++ canonical (item_tree (item_of self.now)) }
+        ensures room { writer.new.room + length (canonical (item_tree (item_of self.now)))
+            ≡ writer.old.room }
     {
         let item = self.parts();
         item.write(writer);

@@ -1,4 +1,5 @@
--- What a return answers (CCSDS 911.1-B, annex A): under [0] that the operation was done, under [1] why not.
+-- What a return answers (CCSDS 911.1-B, annex A): under [0] that the operation was done, under [1]
+-- why not.
 use Rattle.std.proofs.Common.{◌≡◌, ℕ, true, List, [], ◌∷◌, Result, Ok, Err, ◌⊎◌, inl, inr, refl}
 use Rattle.ber_shape.specs.Identifier.{is_apart}
 use Rattle.ber_shape.specs.Content.{null}
@@ -26,7 +27,8 @@ answer_back (inl why) = refl
 answer_back (inr done) = refl
 
 -- this element, or [1] around a diagnostic
-abbrev pub answered : {X : Type 0} (f : Element X) → is_apart (0xa1 ∷ []) f.starts ≡ true → Element (Result X Diagnostic)
+abbrev pub answered : {X : Type 0} (f : Element X) → is_apart (0xa1 ∷ []) f.starts ≡ true
+    → Element (Result X Diagnostic)
 answered f apart = element_as
     (either (0xa1 ∷ []) (structured (0xa1 ∷ []) (last diagnostic) refl) f refl apart)
     (record { to = answer_of; from = of_answer; there = answer_there; back = answer_back })

@@ -30,7 +30,8 @@ antenna_back (inr octets) = refl
 
 -- [0] OBJECT IDENTIFIER, [1] OCTET STRING of 1 to 16 octets
 abbrev pub antenna : Element Antenna
-antenna = element_as (either (0x81 ∷ []) (simple (0x81 ∷ []) (octet_string 1 16) refl) (simple (0x80 ∷ []) object_id refl) refl refl)
+antenna = element_as (either (0x81 ∷ []) (simple (0x81 ∷ []) (octet_string 1 16) refl)
+    (simple (0x80 ∷ []) object_id refl) refl refl)
     (record { to = antenna_from; from = of_antenna; there = antenna_there; back = antenna_back })
 
 -- what contracts see of one that is lent

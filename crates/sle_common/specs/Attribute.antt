@@ -1,7 +1,8 @@
 -- The attributes of a service instance identifier (CCSDS 911.1-B, annex A).
 use Rattle.std.specs.Prelude.{ℕ, List, [], ◌∷◌, ◌++◌, codes}
 use Rattle.sle_common.specs.declared.attribute.Attribute.{Attribute}
-use Rattle.sle_common.specs.declared.attribute.Attribute.TheVariants.{Sagr, Spack, RslFg, FslFg, Raf, Rcf, Rocf, Cltu}
+use Rattle.sle_common.specs.declared.attribute.Attribute.TheVariants.{Sagr, Spack, RslFg, FslFg}
+use Rattle.sle_common.specs.declared.attribute.Attribute.TheVariants.{Raf, Rcf, Rocf, Cltu}
 
 -- its name in a text
 abbrev pub name_of : Attribute → List ℕ

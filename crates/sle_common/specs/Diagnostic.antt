@@ -25,5 +25,11 @@ diagnostic_back (inr z) = refl
 
 -- [0] INTEGER common, [1] INTEGER specific
 abbrev pub diagnostic : Element Diagnostic
-diagnostic = element_as (either (0x81 ∷ []) (simple (0x81 ∷ []) any_integer refl) (simple (0x80 ∷ []) any_integer refl) refl refl)
-    (record { to = diagnostic_of; from = of_diagnostic; there = diagnostic_there; back = diagnostic_back })
+diagnostic = element_as (either (0x81 ∷ []) (simple (0x81 ∷ []) any_integer refl)
+    (simple (0x80 ∷ []) any_integer refl) refl refl)
+    (record {
+      to = diagnostic_of;
+      from = of_diagnostic;
+      there = diagnostic_there;
+      back = diagnostic_back;
+    })

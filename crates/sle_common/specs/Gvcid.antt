@@ -28,14 +28,16 @@ channel_back (inr master) = refl
 
 -- [0] NULL for the master channel, [1] INTEGER 0 to 63 for a virtual one
 abbrev pub channel : Element Channel
-channel = element_as (either (0x81 ∷ []) (natural (0x81 ∷ []) 0 63 refl refl) (simple (0x80 ∷ []) null refl) refl refl)
+channel = element_as (either (0x81 ∷ []) (natural (0x81 ∷ []) 0 63 refl refl)
+    (simple (0x80 ∷ []) null refl) refl refl)
     (record { to = channel_of; from = of_channel; there = channel_there; back = channel_back })
 
 -- spacecraft 0 to 1023, version 0 to 3, channel
 abbrev pub gvcid : Members Gvcid
-gvcid = members_as (natural (0x02 ∷ []) 0 1023 refl refl ▸ natural (0x02 ∷ []) 0 3 refl refl ▸ last channel) (record {
-  to = λ p. record { spacecraft = p.0; version = p.1.0; channel = p.1.1 };
-  from = λ g. (g.spacecraft, (g.version, g.channel));
-  there = λ g. refl;
-  back = λ p. refl;
-})
+gvcid = members_as (natural (0x02 ∷ []) 0 1023 refl refl ▸ natural (0x02 ∷ []) 0 3 refl refl ▸ last
+    channel) (record {
+      to = λ p. record { spacecraft = p.0; version = p.1.0; channel = p.1.1 };
+      from = λ g. (g.spacecraft, (g.version, g.channel));
+      there = λ g. refl;
+      back = λ p. refl;
+    })

@@ -1,4 +1,5 @@
--- The text of a service instance identifier: `attribute=value`, joined by dots. This product's own format.
+-- The text of a service instance identifier: `attribute=value`, joined by dots. This product's own
+-- format.
 use Rattle.std.specs.Prelude.{◌≡◌, ℕ, List, ◌++◌, map}
 use Rattle.std.specs.List.{join_with_byte}
 use Rattle.sle_common.specs.declared.instance_id.InstancePart.{InstancePart}
@@ -29,4 +30,5 @@ Refuses text Memory = Unit {0}
 
 -- An identifier has one text, and no other identifier has it.
 abbrev pub OneIdentifier : Type 0
-OneIdentifier = (parts others : List InstancePart) → IsIdentifier parts → IsIdentifier others → text_of parts ≡ text_of others → parts ≡ others
+OneIdentifier = (parts others : List InstancePart) → IsIdentifier parts → IsIdentifier others
+    → text_of parts ≡ text_of others → parts ≡ others

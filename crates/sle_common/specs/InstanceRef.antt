@@ -11,7 +11,8 @@ use Rattle.sle_common.specs.IdentifierOctets.{part}
 abbrev pub part_of : PartRef → InstancePart
 part_of part = record { attribute = part.attribute; value = part.value.now }
 
--- the attributes and values that stand one after another in these octets; none where these are no parts
+-- the attributes and values that stand one after another in these octets; none where these are no
+-- parts
 abbrev pub parts_in : List ℕ → List InstancePart
 parts_in octets = values (list_of part 8) octets
 

@@ -31,5 +31,7 @@ kind_back (inr (inr now)) = refl
 -- [0] NULL now, [1] INTEGER 0 to 65535 seconds, [2] NULL stop
 abbrev pub report_kind : Element ReportKind
 report_kind = element_as
-    (either (0x81 ∷ []) (natural (0x81 ∷ []) 0 65535 refl refl) (either (0x82 ∷ []) (simple (0x82 ∷ []) null refl) (simple (0x80 ∷ []) null refl) refl refl) refl refl)
+    (either (0x81 ∷ []) (natural (0x81 ∷ []) 0 65535 refl refl)
+    (either (0x82 ∷ []) (simple (0x82 ∷ []) null refl) (simple (0x80 ∷ []) null refl) refl refl)
+    refl refl)
     (record { to = kind_from; from = of_kind; there = kind_there; back = kind_back })

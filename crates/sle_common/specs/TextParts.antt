@@ -1,5 +1,6 @@
 -- What stands at the front of a text: the label of an attribute, a value, and how they are refused.
-use Rattle.std.specs.Prelude.{◌≡◌, ℕ, suc, ◌<◌, ◌≤◌, ◌⊎◌, Bool, false, nat_eq, IsTrue, List, [], ◌∷◌, ◌++◌, length}
+use Rattle.std.specs.Prelude.{◌≡◌, ℕ, suc, ◌<◌, ◌≤◌, ◌⊎◌, Bool, false, nat_eq, IsTrue, List, []}
+use Rattle.std.specs.Prelude.{◌∷◌, ◌++◌, length}
 use Rattle.std.specs.List.{common_prefix_len}
 use Rattle.sle_common.specs.declared.attribute.Attribute.{Attribute}
 use Rattle.sle_common.specs.Attribute.{label_of}
@@ -21,7 +22,8 @@ abbrev pub begins_with_value_octet : List ℕ → Bool
 begins_with_value_octet [] = false
 begins_with_value_octet (octet ∷ octets) = is_value_octet octet
 
--- An attribute and its value stand at the front of the text, and the value doesn't go on behind them.
+-- An attribute and its value stand at the front of the text, and the value doesn't go on behind
+-- them.
 pub record ReadsPart (text : List ℕ) (attribute : Attribute) (value behind : List ℕ) : Type 0 where
   pub is : text ≡ label_of attribute ++ (value ++ behind)
   pub good : IsTrue (is_value value)

@@ -2,8 +2,8 @@ use crate::diagnostic::Diagnostic;
 use ber_core::{BerFault, Reader, Writer, element_length};
 use ber_shape::{Element, read_around, size_around, write_around};
 
-/// What a return answers (CCSDS 911.1-B, annex A): [0] NULL where the operation was done, [1] around
-/// why not.
+/// What a return answers (CCSDS 911.1-B, annex A): [0] NULL where the operation was done, [1]
+/// around why not.
 pub struct Confirmation;
 
 impl<'a> Element<'a> for Confirmation {

@@ -17,7 +17,8 @@ use ber_shape::{
 const MOST_PARTS: usize = 8;
 
 /// The service instance that a PDU names: by the octets of its attributes and values, as they were
-/// decoded, or by an identifier of this side's own. Contracts see the list of attributes and values.
+/// decoded, or by an identifier of this side's own. Contracts see the list of attributes and
+/// values.
 #[derive(Clone, Copy)]
 pub enum InstanceRef<'a> {
     /// SETs of one attribute with its value each, one after another.
@@ -166,8 +167,10 @@ fn size_own(parts: &[InstancePart]) -> usize
 fn write_own(parts: &[InstancePart], writer: &mut Writer)
     requires valid { IsIdentifier parts.now }
     requires room { length (canonical_all (each_tree part.tree parts.now)) ≤ writer.old.room }
-    ensures octets { writer.new.octets ≡ writer.old.octets ++ canonical_all (each_tree part.tree parts.now) }
-    ensures room { writer.new.room + length (canonical_all (each_tree part.tree parts.now)) ≡ writer.old.room }
+    ensures octets { writer.new.octets ≡ writer.old.octets
+        ++ canonical_all (each_tree part.tree parts.now) }
+    ensures room { writer.new.room + length (canonical_all (each_tree part.tree parts.now))
+        ≡ writer.old.room }
 {
     for part in parts {
         PartSet::write(&part.lend(), writer);

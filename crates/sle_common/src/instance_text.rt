@@ -1,5 +1,6 @@
 // Identifiers from their texts: `attribute=value`, joined by dots.
-ghost use Rattle.std.specs.Prelude.{◌≡◌, ◌++◌, ◌+◌, ◌-◌, ◌<◌, ◌≤◌, length, take, IfOk, IfErr, nat_eq, IsTrue};
+ghost use Rattle.std.specs.Prelude.{◌≡◌, ◌++◌, ◌+◌, ◌-◌, ◌<◌, ◌≤◌, length, take, IfOk, IfErr};
+ghost use Rattle.std.specs.Prelude.{nat_eq, IsTrue};
 ghost use Rattle.std.specs.List.{common_prefix_len, prefix_len, take_while};
 ghost use Rattle.sle_common.specs.Attribute.{label_of};
 ghost use Rattle.sle_common.specs.Identifier.{is_value_octet, is_value, IsIdentifier};
@@ -62,8 +63,8 @@ fn first_part(text: &[u8]) -> Result<(Attribute, &[u8], &[u8]), usize>
     Ok((attribute, value, behind))
 }
 
-// The attribute whose label stands at the front and what is behind it, or how many octets at most of
-// some label do.
+// The attribute whose label stands at the front and what is behind it, or how many octets at most
+// of some label do.
 fn first_label(text: &[u8]) -> Result<(Attribute, &[u8]), usize>
     ensures ok { IfOk result (λ found. text.now ≡ label_of found.0 ++ found.1.now) }
     ensures bad { IfErr result (RefusesPart text.now) }

@@ -1,10 +1,10 @@
 // The types that the PDUs of all services share (CCSDS 911.1-B, annex A), each with its shape, and
 // service instance identifiers with their texts.
 //
-// A type of one element is an `Element` of `ber_shape`, what stands in one a `Members`: PDUs are put
-// together of these. A type that only names an element, as `ConditionalTime`, has a plain type of
-// values. Reading lends from the octets and takes no memory, nor does writing. `parse_text` alone
-// takes memory: a list, and each value.
+// A type of one element is an `Element` of `ber_shape`, what stands in one a `Members`: PDUs are
+// put together of these. A type that only names an element, as `ConditionalTime`, has a plain type
+// of values. Reading lends from the octets and takes no memory, nor does writing. `parse_text`
+// alone takes memory: a list, and each value.
 #![tactic(auto)]
 
 mod annotation;

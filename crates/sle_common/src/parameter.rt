@@ -110,7 +110,8 @@ fn read_named<'a, E: Element<'a>>(
     name: u8,
     reader: &mut Reader<'a>,
 ) -> Result<E::Value, BerFault>
-    ensures exact { Gives (λ value. (E.seen value, reader.new)) result (within_at identifier.now (named_at name E.shape.read) reader.old) }
+    ensures exact { Gives (λ value. (E.seen value, reader.new)) result
+        (within_at identifier.now (named_at name E.shape.read) reader.old) }
     ensures octets { reader.new.octets ≡ reader.old.octets }
 {
     let name = i128::from(name);
@@ -126,7 +127,8 @@ fn read_named<'a, E: Element<'a>>(
 fn size_named<'a, E: Element<'a>>(identifier: &[u8], name: u8, value: &E::Value) -> usize
     requires fits { E.shape.Fits (E.seen value.now) }
     requires small { length identifier.now + 35 + E.shape.most < 2 ^ 64 }
-    ensures exact { result ≡ length (canonical (constructed identifier.now (named_trees name (E.shape.tree (E.seen value.now))))) }
+    ensures exact { result ≡ length (canonical
+        (constructed identifier.now (named_trees name (E.shape.tree (E.seen value.now))))) }
     ensures within { result ≤ length identifier.now + 35 + E.shape.most }
 {
     element_length(identifier, name_size(name) + E::size(value))
@@ -135,7 +137,8 @@ fn size_named<'a, E: Element<'a>>(identifier: &[u8], name: u8, value: &E::Value)
 // The number of octets of a name.
 #[tactic(auto, using(ber_core::specs::Parts::lengths))]
 fn name_size(name: u8) -> usize
-    ensures exact { result ≡ length (canonical (primitive (0x02 ∷ []) (integer_octets (pos name)))) }
+    ensures exact { result ≡ length (canonical
+        (primitive (0x02 ∷ []) (integer_octets (pos name)))) }
     ensures few { result ≤ 26 }
 {
     element_length(&[0x02], integer_length(i128::from(name)))
@@ -151,9 +154,14 @@ fn write_named<'a, E: Element<'a>>(
 )
     requires fits { E.shape.Fits (E.seen value.now) }
     requires small { length identifier.now + 35 + E.shape.most < 2 ^ 64 }
-    requires room { length (canonical (constructed identifier.now (named_trees name (E.shape.tree (E.seen value.now))))) ≤ writer.old.room }
-    ensures octets { writer.new.octets ≡ writer.old.octets ++ canonical (constructed identifier.now (named_trees name (E.shape.tree (E.seen value.now)))) }
-    ensures room { writer.new.room + length (canonical (constructed identifier.now (named_trees name (E.shape.tree (E.seen value.now))))) ≡ writer.old.room }
+    requires room { length (canonical (constructed identifier.now
+        (named_trees name (E.shape.tree (E.seen value.now))))) ≤ writer.old.room }
+    ensures octets { writer.new.octets ≡ writer.old.octets
+        ++ canonical (constructed identifier.now
+        (named_trees name (E.shape.tree (E.seen value.now)))) }
+    ensures room { writer.new.room + length (canonical
+        (constructed identifier.now (named_trees name (E.shape.tree (E.seen value.now)))))
+        ≡ writer.old.room }
 {
     writer.head(identifier, name_size(name) + E::size(value));
     write_name(name, writer);
@@ -161,9 +169,12 @@ fn write_named<'a, E: Element<'a>>(
 }
 
 fn write_name(name: u8, writer: &mut Writer)
-    requires { length (canonical (primitive (0x02 ∷ []) (integer_octets (pos name)))) ≤ writer.old.room }
-    ensures octets { writer.new.octets ≡ writer.old.octets ++ canonical (primitive (0x02 ∷ []) (integer_octets (pos name))) }
-    ensures room { writer.new.room + length (canonical (primitive (0x02 ∷ []) (integer_octets (pos name)))) ≡ writer.old.room }
+    requires { length (canonical (primitive (0x02 ∷ []) (integer_octets (pos name))))
+        ≤ writer.old.room }
+    ensures octets { writer.new.octets ≡ writer.old.octets
+        ++ canonical (primitive (0x02 ∷ []) (integer_octets (pos name))) }
+    ensures room { writer.new.room + length (canonical
+        (primitive (0x02 ∷ []) (integer_octets (pos name)))) ≡ writer.old.room }
 {
     writer.integer(&[0x02], i128::from(name));
 }

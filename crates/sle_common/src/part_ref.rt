@@ -122,7 +122,8 @@ impl<'a> Element<'a> for PartSet {
 }
 
 fn read_attribute(reader: &mut Reader) -> Result<Attribute, BerFault>
-    ensures exact { Gives (λ attribute. (attribute, reader.new)) result (primitive_at (meaning_of object_id attribute_meaning) reader.old (0x06 ∷ [])) }
+    ensures exact { Gives (λ attribute. (attribute, reader.new)) result
+        (primitive_at (meaning_of object_id attribute_meaning) reader.old (0x06 ∷ [])) }
     ensures octets { reader.new.octets ≡ reader.old.octets }
 {
     let octets = reader.object_id(&[0x06])?;
@@ -131,7 +132,8 @@ fn read_attribute(reader: &mut Reader) -> Result<Attribute, BerFault>
 }
 
 fn read_value<'a>(reader: &mut Reader<'a>) -> Result<&'a [u8], BerFault>
-    ensures exact { Gives (λ value. (value.now, reader.new)) result (primitive_at (meaning_of (visible_string 1 256) value_meaning) reader.old (0x1a ∷ [])) }
+    ensures exact { Gives (λ value. (value.now, reader.new)) result
+        (primitive_at (meaning_of (visible_string 1 256) value_meaning) reader.old (0x1a ∷ [])) }
     ensures octets { reader.new.octets ≡ reader.old.octets }
 {
     let octets = reader.visible(&[0x1a], 1, 256)?;

@@ -1,8 +1,10 @@
 -- The calls that events name.
 use Rattle.frame_select.specs.Want.{want_of}
 use Rattle.station_book.specs.declared.event.Called.{Called}
-use Rattle.station_book.specs.declared.event.Called.TheVariants.{Publish, Answer, Quit, Take, Done, Interrupted, Uplink, Gone}
-use Rattle.station_book.specs.State.{Call, publish, answer, quit, take, done, interrupted, uplink, gone}
+use Rattle.station_book.specs.declared.event.Called.TheVariants.{Publish, Answer, Quit, Take, Done}
+use Rattle.station_book.specs.declared.event.Called.TheVariants.{Interrupted, Uplink, Gone}
+use Rattle.station_book.specs.State.{Call, publish, answer, quit, take, done, interrupted, uplink}
+use Rattle.station_book.specs.State.{gone}
 
 abbrev pub call_of : Called → Call
 call_of (Publish entries) = publish entries.value

@@ -1,22 +1,32 @@
 -- What one thread gets that makes the calls of a list one after the other: the published entries by
--- what is picked of them, and the forward service's queue by the forward machine (CCSDS 912.1-B). The
--- book itself is this product's own.
-use Rattle.std.specs.Prelude.{◌≡◌, ℕ, Bool, true, false, not, ◌&&◌, ◌||◌, ◌==◌, nat_lt, max, if◌then◌else◌, Option, Some, None, is_some, Result, Ok, Err, List, [], ◌∷◌, ◌++◌, length, take as front, slice_get, slice_set}
+-- what is picked of them, and the forward service's queue by the forward machine (CCSDS 912.1-B).
+-- The book itself is this product's own.
+use Rattle.std.specs.Prelude.{◌≡◌, ℕ, Bool, true, false, not, ◌&&◌, ◌||◌, ◌==◌, nat_lt, max}
+use Rattle.std.specs.Prelude.{if◌then◌else◌, Option, Some, None, is_some, Result, Ok, Err, List, []}
+use Rattle.std.specs.Prelude.{◌∷◌, ◌++◌, length, take as front, slice_get, slice_set}
 use Rattle.std.specs.List.{fold, position, list_all}
 use Rattle.std.specs.Option.{option_map_or}
 use Rattle.archive_terms.specs.Archive.{Entry, is_archive}
 use Rattle.archive_terms.specs.Glimpse.{Want, glimpse}
 use Rattle.frame_select.specs.Glimpse.{as_said}
-use Rattle.cltu_queue.specs.Machine.{Machine, on_start, on_stop, on_transfer, refusal, queued, room_of, on_take, on_done, on_interrupted, on_uplink, on_notice, view_of}
+use Rattle.cltu_queue.specs.Machine.{Machine, on_start, on_stop, on_transfer, refusal, queued}
+use Rattle.cltu_queue.specs.Machine.{room_of, on_take, on_done, on_interrupted, on_uplink}
+use Rattle.cltu_queue.specs.Machine.{on_notice, view_of}
 use Rattle.cltu_queue.specs.declared.ask.Ask.{Ask}
 use Rattle.cltu_queue.specs.declared.ask.Ask.TheVariants as ask
 use Rattle.cltu_queue.specs.declared.book_reply.BookReply.{BookReply}
-use Rattle.cltu_queue.specs.declared.book_reply.BookReply.TheVariants.{Nothing, Bound, AlreadyBound, Unbound, Started, StartRefused, Taken, Rejected, Stopped, Lost}
+use Rattle.cltu_queue.specs.declared.book_reply.BookReply.TheVariants.{Nothing, Bound, AlreadyBound}
+use Rattle.cltu_queue.specs.declared.book_reply.BookReply.TheVariants.{Unbound, Started}
+use Rattle.cltu_queue.specs.declared.book_reply.BookReply.TheVariants.{StartRefused, Taken}
+use Rattle.cltu_queue.specs.declared.book_reply.BookReply.TheVariants.{Rejected, Stopped, Lost}
 use Rattle.cltu_queue.specs.declared.cltu.Cltu.{Cltu}
 use Rattle.cltu_queue.specs.declared.notice.Notice.{Notice}
 use Rattle.station_book.specs.declared.service_kind.ServiceKind.{ServiceKind}
-use Rattle.station_book.specs.declared.service_kind.ServiceKind.TheVariants.{Raf, Rcf, Cltu as Forward}
-use Rattle.station_book.specs.State.{Opening, State, opened, Call, publish, answer, quit, take, done, interrupted, uplink, gone, Answer, Reply, nothing, accepted, foreign, answered, took, Event}
+use Rattle.station_book.specs.declared.service_kind.ServiceKind.TheVariants.{Raf, Rcf}
+use Rattle.station_book.specs.declared.service_kind.ServiceKind.TheVariants.{Cltu as Forward}
+use Rattle.station_book.specs.State.{Opening, State, opened, Call, publish, answer, quit, take}
+use Rattle.station_book.specs.State.{done, interrupted, uplink, gone, Answer, Reply, nothing}
+use Rattle.station_book.specs.State.{accepted, foreign, answered, took, Event}
 
 -- moments -----------------------------------------------------------------------------------------
 
@@ -54,7 +64,8 @@ is_forward _ = false
 -- whether a door has the forward service's instance
 abbrev pub has_forward : State → ℕ → Bool
 has_forward s door =
-    option_map_or (λ place. is_forward (slice_get s.opening.services place)) (instance_of s door) false
+    option_map_or (λ place. is_forward (slice_get s.opening.services place)) (instance_of s door)
+    false
 
 -- whether a door has the forward service's instance, and its run is started
 abbrev pub is_running : State → ℕ → Bool
@@ -97,7 +108,8 @@ transfer_reply (Some diagnostic) m cltu = Rejected diagnostic (room_of m)
 -- what an ask that fits does to the doors and to the queue, and what it is answered
 abbrev pub doors_asked : State → ℕ → Ask → List (Option ℕ)
 doors_asked s door (ask.Bind instance) =
-    if is_taken (slice_get s.doors instance) then s.doors else slice_set s.doors instance (Some door)
+    if is_taken (slice_get s.doors instance) then s.doors
+    else slice_set s.doors instance (Some door)
 doors_asked s door ask.Unbind = freed s door
 doors_asked s door _ = s.doors
 
@@ -113,7 +125,8 @@ reply_asked s door now (ask.Bind instance) =
     if is_taken (slice_get s.doors instance) then AlreadyBound else Bound
 reply_asked s door now ask.Unbind = Unbound
 reply_asked s door now (ask.CltuStart first) = start_reply now (on_start s.queue first).1
-reply_asked s door now (ask.CltuTransfer cltu) = transfer_reply (refusal s.queue cltu now) s.queue cltu
+reply_asked s door now (ask.CltuTransfer cltu) =
+    transfer_reply (refusal s.queue cltu now) s.queue cltu
 reply_asked s door now ask.CltuStop = Stopped
 reply_asked s door now _ = Nothing
 
@@ -188,7 +201,8 @@ answer_to s door now ask want = record {
 -- the reply to a call
 abbrev pub reply_to : State → Call → Reply
 reply_to s (publish entries) = if may_publish s entries then accepted else foreign
-reply_to s (answer door reading ask want) = answered (answer_to s door (moment_at s reading) ask want)
+reply_to s (answer door reading ask want) = answered
+    (answer_to s door (moment_at s reading) ask want)
 reply_to s (take reading) = took (on_take s.queue (moment_at s reading)).1
 reply_to s _ = nothing
 

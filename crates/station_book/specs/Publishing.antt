@@ -1,10 +1,12 @@
 -- What is published, and what a publishing is answered.
-use Rattle.std.specs.Prelude.{ℕ, ◌≤◌, Result, Ok, Err, Option, Some, None, IfSome, unwrap_or, List, [], ◌∷◌}
+use Rattle.std.specs.Prelude.{ℕ, ◌≤◌, Result, Ok, Err, Option, Some, None, IfSome, unwrap_or, List}
+use Rattle.std.specs.Prelude.{[], ◌∷◌}
 use Rattle.std.specs.List.{flat_map}
 use Rattle.archive_terms.specs.Archive.{Entry}
 use Rattle.station_book.specs.declared.publish_fault.PublishFault.{PublishFault}
 use Rattle.station_book.specs.declared.publish_fault.PublishFault.TheVariants.{Foreign, Memory}
-use Rattle.station_book.specs.State.{Call, publish, Reply, nothing, accepted, foreign, answered, Event}
+use Rattle.station_book.specs.State.{Call, publish, Reply, nothing, accepted, foreign, answered}
+use Rattle.station_book.specs.State.{Event}
 
 -- a fact, unless memory was wanted
 abbrev pub UnlessMemory : Result (Unit {0}) (PublishFault × List Entry) → Type 0 → Type 0
@@ -36,4 +38,5 @@ front_of _ = None
 abbrev pub FrontsRise : ℕ → List Event → Type 0
 FrontsRise least [] = Unit {0}
 FrontsRise least (e ∷ h) =
-    IfSome (front_of e.reply) (λ front. least ≤ front) × FrontsRise (unwrap_or (front_of e.reply) least) h
+    IfSome (front_of e.reply) (λ front. least ≤ front)
+    × FrontsRise (unwrap_or (front_of e.reply) least) h

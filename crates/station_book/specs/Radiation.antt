@@ -49,8 +49,8 @@ abbrev pub radiations : List Event → List Radiation
 radiations events = filter_map (λ e. radiation_by e.moment e.reply) events
 
 -- Lawful radiation: of a run's events, the CLTUs accepted have the identifications first, first + 1
--- and so on, and those taken for radiation are the first of them, in order, each once and within its
--- window.
+-- and so on, and those taken for radiation are the first of them, in order, each once and within
+-- its window.
 pub record IsLawful (run first : ℕ) (events : List Event) : Type 0 where
   pub numbered : ids_of (accepted_cltus events) ≡ count_up first (length (accepted_cltus events))
   pub in_order : RadiateInOrder run (accepted_cltus events) (radiations events)

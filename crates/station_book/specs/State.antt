@@ -42,9 +42,10 @@ opened o = record {
   moment = 0;
 }
 
--- a publishing of entries; an answer to a door, at a reading, of what its session asks and wants of a
--- look; the quit of a door; a take, the end of the radiation of a run's CLTU with this identification,
--- its failure, and a change of production and uplink, each at a reading; the end of a worker
+-- a publishing of entries; an answer to a door, at a reading, of what its session asks and wants of
+-- a look; the quit of a door; a take, the end of the radiation of a run's CLTU with this
+-- identification, its failure, and a change of production and uplink, each at a reading; the end of
+-- a worker
 pub data Call : Type 0 where
   publish : List Entry → Call
   answer : ℕ → ℕ → Ask → Want → Call

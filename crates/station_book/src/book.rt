@@ -1,5 +1,6 @@
 // The book.
-ghost use Rattle.std.specs.Prelude.{◌≡◌, ◌<◌, ◌≤◌, IfOk, OnOk, OnErr, IfErr, IsFalse, IsTrue, length, slice_get, slice_set, if◌then◌else◌, Some};
+ghost use Rattle.std.specs.Prelude.{◌≡◌, ◌<◌, ◌≤◌, IfOk, OnOk, OnErr, IfErr, IsFalse, IsTrue};
+ghost use Rattle.std.specs.Prelude.{length, slice_get, slice_set, if◌then◌else◌, Some};
 ghost use Rattle.station_book.specs.History.{is_of, is_forward, is_quiet};
 ghost use Rattle.cds_time.specs.declared.cds.TheConstants.{MOMENT_END};
 ghost use Rattle.archive_terms.specs.Archive.{IsArchive};
@@ -7,7 +8,8 @@ ghost use Rattle.archive_terms.specs.Glimpse.{glimpse};
 ghost use Rattle.record_form.specs.Entry.{entries_of};
 ghost use Rattle.frame_select.specs.Glimpse.{glimpse_of, as_said};
 ghost use Rattle.frame_select.specs.Want.{want_of};
-ghost use Rattle.cltu_queue.specs.Machine.{on_start, on_transfer, refusal, on_notice, on_stop, view_of};
+ghost use Rattle.cltu_queue.specs.Machine.{on_start, on_transfer, refusal, on_notice, on_stop};
+ghost use Rattle.cltu_queue.specs.Machine.{view_of};
 
 use crate::extend::extend;
 use crate::publish_fault::PublishFault;
@@ -20,8 +22,8 @@ use record_form::{Entries, Entry};
 use std::alloc::{AllocError, Global};
 use std::marker::Model;
 
-/// All that a station's workers share: the published entries with their index, the forward service's
-/// queue, which door has which instance, which workers are gone, and the latest moment.
+/// All that a station's workers share: the published entries with their index, the forward
+/// service's queue, which door has which instance, which workers are gone, and the latest moment.
 #[derive(Drop)]
 pub struct Book {
     alloc: Global,
@@ -78,12 +80,17 @@ fn is_quiet(ask: &Ask) -> bool
 }
 
 impl Book {
-    ghost use Rattle.station_book.specs.State.{opened, publish, answer, quit, take, done, interrupted, uplink, gone, took};
-    ghost use Rattle.station_book.specs.History.{moment_at, instance_of, has_forward, is_running, is_taken, freed, without_run, is_lost, start_reply, transfer_reply, with_ask, asked, reply_asked, reply_of, queue_answered, notice_of, all_gone, after, reply_to};
+    ghost use Rattle.station_book.specs.State.{opened, publish, answer, quit, take, done};
+    ghost use Rattle.station_book.specs.State.{interrupted, uplink, gone, took};
+    ghost use Rattle.station_book.specs.History.{moment_at, instance_of, has_forward, is_running};
+    ghost use Rattle.station_book.specs.History.{is_taken, freed, without_run, is_lost};
+    ghost use Rattle.station_book.specs.History.{start_reply, transfer_reply, with_ask, asked};
+    ghost use Rattle.station_book.specs.History.{reply_asked, reply_of, queue_answered, notice_of};
+    ghost use Rattle.station_book.specs.History.{all_gone, after, reply_to};
     ghost use Rattle.station_book.specs.Publishing.{UnlessMemory, published_as};
 
-    /// The book of instances with these services, of which the forward one has so much room, over an
-    /// archive.
+    /// The book of instances with these services, of which the forward one has so much room, over
+    /// an archive.
     pub fn open(
         alloc: Global,
         services: Vec<ServiceKind>,
@@ -139,7 +146,8 @@ impl Book {
     /// What a look at the published entries gives. It goes over the index from the wanted place on,
     /// and shares the octets of what it gives.
     pub fn look(&self, want: &Want) -> Result<Glimpse, Memory>
-        ensures { IfOk result (λ g. glimpse_of g ≡ as_said (glimpse self.now.published (want_of want.now))) }
+        ensures { IfOk result (λ g. glimpse_of g
+            ≡ as_said (glimpse self.now.published (want_of want.now))) }
     {
         self.index.glimpse(self.alloc, &self.entries, want)
     }
@@ -147,7 +155,8 @@ impl Book {
     /// Puts entries behind the published ones. A refusal hands them back and changes nothing.
     pub fn publish(&mut self, entries: Entries) -> Result<(), (PublishFault, Entries)>
         ensures after { UnlessMemory result (self.new ≡ after self.old (publish entries)) }
-        ensures reply { UnlessMemory result (published_as result ≡ reply_to self.old (publish entries)) }
+        ensures reply { UnlessMemory result (published_as result
+            ≡ reply_to self.old (publish entries)) }
         ensures err { IfErr result (λ r. (r.1 ≡ entries) × (self.new ≡ self.old)) }
     {
         let count = self.entries.len();
@@ -170,10 +179,14 @@ impl Book {
         want: &Want,
     ) -> Result<(BookReply, Glimpse, Option<Notice>), Memory>
         requires { reading < MOMENT_END }
-        ensures after { OnOk result (self.new ≡ after self.old (answer door reading ask.now (want_of want.now))) }
-        ensures reply { IfOk result (λ r. r.0 ≡ reply_of self.old door (moment_at self.old reading) ask.now) }
-        ensures glimpse { IfOk result (λ r. glimpse_of r.1 ≡ as_said (glimpse self.old.published (want_of want.now))) }
-        ensures notice { IfOk result (λ r. r.2 ≡ notice_of self.old door (moment_at self.old reading) ask.now) }
+        ensures after { OnOk result (self.new
+            ≡ after self.old (answer door reading ask.now (want_of want.now))) }
+        ensures reply { IfOk result (λ r. r.0
+            ≡ reply_of self.old door (moment_at self.old reading) ask.now) }
+        ensures glimpse { IfOk result (λ r. glimpse_of r.1
+            ≡ as_said (glimpse self.old.published (want_of want.now))) }
+        ensures notice { IfOk result (λ r. r.2
+            ≡ notice_of self.old door (moment_at self.old reading) ask.now) }
         ensures err { OnErr result (self.new ≡ self.old) }
     {
         let now = self.peek(reading);

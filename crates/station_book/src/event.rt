@@ -62,8 +62,8 @@ pub(crate) enum Called {
     },
 }
 
-/// One call of a book, named by what determines it: what the book was before, and what it was asked.
-/// Contracts see it with its moment and its whole reply. It has no octets.
+/// One call of a book, named by what determines it: what the book was before, and what it was
+/// asked. Contracts see it with its moment and its whole reply. It has no octets.
 #[derive(Drop)]
 pub struct Event {
     before: Snapshot<Book>,
@@ -101,7 +101,8 @@ impl StandsFor<Event> for Book {
 pub type Station = Turns<Book, Event>;
 
 impl Event {
-    ghost use Rattle.station_book.specs.State.{publish, answer, quit, take, done, interrupted, uplink, gone};
+    ghost use Rattle.station_book.specs.State.{publish, answer, quit, take, done, interrupted};
+    ghost use Rattle.station_book.specs.State.{uplink, gone};
     ghost use Rattle.station_book.specs.History.{event_at};
     ghost use Rattle.station_book.specs.Called.{call_of};
 

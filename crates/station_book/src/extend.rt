@@ -1,5 +1,6 @@
 // Entries put behind others, with their index.
-ghost use Rattle.std.specs.Prelude.{◌≡◌, ◌++◌, ◌∷◌, [], take, vec_len, OnOk, OnErr, IsTrue, IsFalse};
+ghost use Rattle.std.specs.Prelude.{◌≡◌, ◌++◌, ◌∷◌, [], take, vec_len, OnOk, OnErr, IsTrue};
+ghost use Rattle.std.specs.Prelude.{IsFalse};
 ghost use Rattle.archive_terms.specs.Archive.{is_archive, IsArchive, may_follow};
 ghost use Rattle.archive_index.specs.Kept.{Indexes};
 ghost use Rattle.record_form.specs.Entry.{entry_of, entries_of};
@@ -15,7 +16,8 @@ fn push(index: &mut Index, held: &mut Vec<Entry>, entry: &Entry) -> Result<(), M
     requires follows { IsTrue (may_follow (entries_of held.old.items) (entry_of entry.now)) }
     requires indexed { Indexes index.old (entries_of held.old.items) }
     ensures held { OnOk result (held.new.items ≡ held.old.items ++ entry.now ∷ []) }
-    ensures index { OnOk result (Indexes index.new (entries_of held.old.items ++ entry_of entry.now ∷ [])) }
+    ensures index { OnOk result (Indexes index.new
+        (entries_of held.old.items ++ entry_of entry.now ∷ [])) }
     ensures err { OnErr result ((held.new.items ≡ held.old.items) × (index.new ≡ index.old)) }
 {
     let copy = entry.clone()?;

@@ -1,12 +1,15 @@
 // Laws of histories, each the contract of an empty function: a caller has the law by the call.
-ghost use Rattle.std.specs.Prelude.{◌≡◌, ℕ, ◌<◌, List, [], ◌∷◌, ◌++◌, length, if◌then◌else◌, IsTrue, IsFalse, Some};
+ghost use Rattle.std.specs.Prelude.{◌≡◌, ℕ, ◌<◌, List, [], ◌∷◌, ◌++◌, length, if◌then◌else◌};
+ghost use Rattle.std.specs.Prelude.{IsTrue, IsFalse, Some};
 ghost use Rattle.std.specs.List.{list_any};
 ghost use mathlib.Core.List.{IsPrefix};
 ghost use Rattle.archive_terms.specs.Archive.{Entry, is_archive, IsArchive};
 ghost use Rattle.cltu_queue.specs.Run.{AreInTurn};
 ghost use Rattle.cltu_queue.specs.declared.ask.Ask.{Ask};
-ghost use Rattle.station_book.specs.State.{Opening, State, opened, Event, Call, publish, accepted, foreign};
-ghost use Rattle.station_book.specs.History.{after, instance_of, is_running, is_lost, event_at, replay, IsLegal, StandsAs};
+ghost use Rattle.station_book.specs.State.{Opening, State, opened, Event, Call, publish, accepted};
+ghost use Rattle.station_book.specs.State.{foreign};
+ghost use Rattle.station_book.specs.History.{after, instance_of, is_running, is_lost, event_at};
+ghost use Rattle.station_book.specs.History.{replay, IsLegal, StandsAs};
 ghost use Rattle.station_book.specs.Publishing.{published_in, FrontsRise};
 ghost use Rattle.station_book.specs.Doors.{Has, is_by, HasOneForward};
 ghost use Rattle.station_book.specs.Radiation.{run_begun, are_of_one_run, radiations, IsLawful};
@@ -30,8 +33,8 @@ pub fn the_origin_stays()
     ensures { (s : State) (call : Call) → (after s call).opening ≡ s.opening }
 {}
 
-/// The published entries are those of the origin and those that the events published, in order. They
-/// only grow, stay an archive, and no front of a look is below an earlier one.
+/// The published entries are those of the origin and those that the events published, in order.
+/// They only grow, stay an archive, and no front of a look is below an earlier one.
 pub fn published_entries_grow()
     ensures by_events { (s : State) (h : List Event) → IsLegal s h
         → (replay s h).published ≡ s.published ++ published_in h }
@@ -39,15 +42,17 @@ pub fn published_entries_grow()
         → IsPrefix (replay s h).published (replay s (h ++ k)).published }
     ensures archive { (s : State) (h : List Event) → IsArchive s.published
         → IsArchive (replay s h).published }
-    ensures fronts { (s : State) (h : List Event) → IsLegal s h → FrontsRise (length s.published) h }
+    ensures fronts { (s : State) (h : List Event) → IsLegal s h
+        → FrontsRise (length s.published) h }
 {}
 
-/// A publishing is accepted exactly where the entries of the origin, those that the events before it
-/// published, and its own are an archive. So where one worker publishes, it alone decides.
+/// A publishing is accepted exactly where the entries of the origin, those that the events before
+/// it published, and its own are an archive. So where one worker publishes, it alone decides.
 pub fn a_publishing_is_judged_by_those_before_it()
     ensures { (s : State) (h k : List Event) (e : Event) (entries : List Entry)
         → IsLegal s (h ++ e ∷ k) → e.call ≡ publish entries
-        → e.reply ≡ (if is_archive (s.published ++ published_in h ++ entries) then accepted else foreign) }
+        → e.reply ≡ (if is_archive (s.published ++ published_in h ++ entries) then accepted
+        else foreign) }
 {}
 
 /// In each book of a history a door has at most one instance, and an instance at most one door.
@@ -57,8 +62,9 @@ pub fn a_door_has_one_instance()
     ensures doors { (s : State) (door other i : ℕ) → Has s door i → Has s other i → door ≡ other }
 {}
 
-/// The calls of other doors, and those of no door, leave what a door has bound, and whether its run is
-/// started. So where each door has one worker, whether an ask is lost is decided by that worker alone.
+/// The calls of other doors, and those of no door, leave what a door has bound, and whether its run
+/// is started. So where each door has one worker, whether an ask is lost is decided by that worker
+/// alone.
 pub fn other_doors_leave_a_door()
     ensures instance { (s : State) (h : List Event) (door : ℕ)
         → IsFalse (list_any (λ e. is_by door e.call) h)
@@ -66,14 +72,15 @@ pub fn other_doors_leave_a_door()
     ensures run { (s : State) (h : List Event) (door : ℕ) → HasOneForward s.opening.services
         → IsFalse (list_any (λ e. is_by door e.call) h)
         → is_running (replay s h) door ≡ is_running s door }
-    ensures lost { (s : State) (h : List Event) (door : ℕ) (ask : Ask) → HasOneForward s.opening.services
+    ensures lost { (s : State) (h : List Event) (door : ℕ) (ask : Ask)
+        → HasOneForward s.opening.services
         → IsFalse (list_any (λ e. is_by door e.call) h)
         → is_lost (replay s h) door ask ≡ is_lost s door ask }
 {}
 
 /// Lawful radiation: in each legal history, the CLTUs that are accepted in a run have the
-/// identifications first, first + 1 and so on, and those taken for radiation are the first of them, in
-/// order, each once and within its window.
+/// identifications first, first + 1 and so on, and those taken for radiation are the first of them,
+/// in order, each once and within its window.
 pub fn lawful_radiation()
     ensures { (s : State) (h k : List Event) (e : Event) (first : ℕ) → IsLegal s (h ++ e ∷ k)
         → run_begun e ≡ Some first → IsTrue (are_of_one_run k)

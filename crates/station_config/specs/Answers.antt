@@ -10,7 +10,8 @@ use Rattle.station_config.specs.declared.site.Site.{Site}
 use Rattle.station_config.specs.declared.unfit.Unfit.{Unfit}
 use Rattle.station_config.specs.declared.unfit.Unfit.TheVariants.{Line as BadLineOf, Memory}
 use Rattle.words.specs.declared.line_fault.LineFault.{LineFault}
-use Rattle.words.specs.declared.line_fault.LineFault.TheVariants.{Line as BadWords, Memory as WordMemory}
+use Rattle.words.specs.declared.line_fault.LineFault.TheVariants.{Line as BadWords}
+use Rattle.words.specs.declared.line_fault.LineFault.TheVariants.{Memory as WordMemory}
 
 -- the new draft, or the cause
 abbrev pub Takes : {A : Type 0} → Draft → Result A Unfit → Result Draft Cause → Type 0

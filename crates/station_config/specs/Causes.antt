@@ -1,9 +1,11 @@
 -- Why a line is refused, and the numbers of the causes.
 use Rattle.std.specs.Prelude.{ℕ}
 use Rattle.station_config.specs.declared.cause.Cause.{Cause}
-use Rattle.station_config.specs.declared.cause.Cause.TheVariants.{FirstWord, Count, Word, Repeated, NoOwner, Surplus}
+use Rattle.station_config.specs.declared.cause.Cause.TheVariants.{FirstWord, Count, Word, Repeated}
+use Rattle.station_config.specs.declared.cause.Cause.TheVariants.{NoOwner, Surplus}
 use Rattle.words.specs.declared.cause.Cause.{Cause as OfWords}
-use Rattle.words.specs.declared.cause.Cause.TheVariants.{FirstWord as BadFirst, Count as BadCount, Word as BadWord}
+use Rattle.words.specs.declared.cause.Cause.TheVariants.{FirstWord as BadFirst, Count as BadCount}
+use Rattle.words.specs.declared.cause.Cause.TheVariants.{Word as BadWord}
 
 abbrev pub number_of : Cause → ℕ
 number_of FirstWord = 1

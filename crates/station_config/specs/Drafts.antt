@@ -1,5 +1,7 @@
 -- What the lines of a configuration say together: a fold over its lines.
-use Rattle.std.proofs.Common.{◌≡◌, ℕ, ◌+◌, min, Bool, true, false, not, ◌&&◌, ◌||◌, ◌==◌, if◌then◌else◌, nat_le, List, [], ◌∷◌, ◌++◌, length, Option, Some, None, Result, Ok, Err, unwrap_or}
+use Rattle.std.proofs.Common.{◌≡◌, ℕ, ◌+◌, min, Bool, true, false, not, ◌&&◌, ◌||◌, ◌==◌}
+use Rattle.std.proofs.Common.{if◌then◌else◌, nat_le, List, [], ◌∷◌, ◌++◌, length, Option, Some}
+use Rattle.std.proofs.Common.{None, Result, Ok, Err, unwrap_or}
 use Rattle.std.specs.List.{list_any, position}
 use Rattle.std.specs.Option.{is_some}
 use Rattle.std.specs.Prelude.{codes}
@@ -19,10 +21,14 @@ use Rattle.station_config.specs.declared.instance.Instance.{Instance}
 use Rattle.station_config.specs.declared.instance_line.InstanceLine.{InstanceLine}
 use Rattle.station_config.specs.declared.instance_line.InstanceLine.TheVariants.{Raf, Rcf, Cltu}
 use Rattle.station_config.specs.declared.line.Line.{Line}
-use Rattle.station_config.specs.declared.line.Line.TheVariants.{Provider, Password, Capacity, Beat, Versions, Peer as OfPeer, Instance as OfInstance}
+use Rattle.station_config.specs.declared.line.Line.TheVariants.{Provider, Password, Capacity, Beat}
+use Rattle.station_config.specs.declared.line.Line.TheVariants.{Versions, Peer as OfPeer}
+use Rattle.station_config.specs.declared.line.Line.TheVariants.{Instance as OfInstance}
 use Rattle.station_config.specs.declared.peer.Peer.{Peer}
 use Rattle.station_config.specs.declared.service.Service.{Service}
-use Rattle.station_config.specs.declared.service.Service.TheVariants.{Raf as RafService, Rcf as RcfService, Cltu as CltuService}
+use Rattle.station_config.specs.declared.service.Service.TheVariants.{Raf as RafService}
+use Rattle.station_config.specs.declared.service.Service.TheVariants.{Rcf as RcfService}
+use Rattle.station_config.specs.declared.service.Service.TheVariants.{Cltu as CltuService}
 use Rattle.station_config.specs.declared.site.Site.{Site}
 use Rattle.words.specs.Lines.{reading}
 use Rattle.words.specs.Parts.{parts}
@@ -47,13 +53,22 @@ timeout_of (Cltu id owner room longest timeout) = timeout
 
 abbrev pub service_of : InstanceLine → Service
 service_of (Raf id owner mode size latency timeout) = RafService (mode_number mode) size latency
-service_of (Rcf id owner mode size latency timeout channels) = RcfService (mode_number mode) size latency channels
+service_of (Rcf id owner mode size latency timeout channels) =
+    RcfService (mode_number mode) size latency channels
 service_of (Cltu id owner room longest timeout) = CltuService room longest
 
 -- ---- what the lines so far say
 
 abbrev pub empty : Draft
-empty = record { provider = None; password = None; capacity = None; heartbeat = None; versions = None; peers = []; instances = [] }
+empty = record {
+  provider = None;
+  password = None;
+  capacity = None;
+  heartbeat = None;
+  versions = None;
+  peers = [];
+  instances = [];
+}
 
 -- the place of the peer of this name
 abbrev pub place_of : List ℕ → List Peer → Option ℕ
@@ -96,17 +111,24 @@ is_surplus d (Capacity octets) = false
 is_surplus d (Beat h) = false
 is_surplus d (Versions versions) = false
 is_surplus d (OfPeer peer) = nat_le 32 (length d.peers)
-is_surplus d (OfInstance l) = nat_le 32 (length d.instances) || (is_forward (service_of l) && list_any (λ instance. is_forward instance.service) d.instances)
+is_surplus d (OfInstance l) = nat_le 32 (length d.instances)
+    || (is_forward (service_of l) && list_any (λ instance. is_forward instance.service) d.instances)
 
 -- the first cause why what a line says can't stand behind the lines so far
 abbrev pub cause_in : Draft → Line → Option Cause
 cause_in d l =
     if is_repeated d l then Some Repeated
-    else (if has_no_owner d l then Some NoOwner else (if is_surplus d l then Some Surplus else None))
+    else (if has_no_owner d l then Some NoOwner
+    else (if is_surplus d l then Some Surplus else None))
 
 -- an instance names its owner by the place among the peers
 abbrev pub instance_in : List Peer → InstanceLine → Instance
-instance_in peers l = record { id = id_of l; owner = unwrap_or (place_of (owner_of l) peers) 0; timeout = timeout_of l; service = service_of l }
+instance_in peers l = record {
+  id = id_of l;
+  owner = unwrap_or (place_of (owner_of l) peers) 0;
+  timeout = timeout_of l;
+  service = service_of l;
+}
 
 -- what the lines say with one more
 abbrev pub added : Draft → Line → Draft
@@ -153,7 +175,8 @@ next number = min (number + 1) 4294967295
 -- what these lines say behind others, or the first one that is refused; the first has this number
 abbrev pub told_from : ℕ → Draft → List (List ℕ) → Result Draft Refusal
 told_from number d [] = Ok d
-told_from number d (text ∷ texts) = onward number (told d text) (λ d. told_from (next number) d texts)
+told_from number d (text ∷ texts) = onward number (told d text)
+    (λ d. told_from (next number) d texts)
 
 -- ---- the site
 

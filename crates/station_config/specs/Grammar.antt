@@ -9,7 +9,8 @@ use Rattle.station_config.specs.declared.instance_line.InstanceLine.{InstanceLin
 use Rattle.station_config.specs.declared.instance_line.InstanceLine.TheVariants.{Raf, Rcf, Cltu}
 use Rattle.station_config.specs.declared.level.Level.{Level}
 use Rattle.station_config.specs.declared.line.Line.{Line}
-use Rattle.station_config.specs.declared.line.Line.TheVariants.{Provider, Password, Capacity, Beat, Versions, Peer as OfPeer, Instance}
+use Rattle.station_config.specs.declared.line.Line.TheVariants.{Provider, Password, Capacity, Beat}
+use Rattle.station_config.specs.declared.line.Line.TheVariants.{Versions, Peer as OfPeer, Instance}
 use Rattle.station_config.specs.declared.mode.Mode.{Mode}
 use Rattle.words.specs.Channels.{gvcid}
 use Rattle.words.specs.Choice.{Choice, no_line, line, choice_as}
@@ -33,7 +34,8 @@ both_rise s = nat_le s.0 s.1.0 && nat_le s.1.1.0 s.1.1.1
 
 -- A B C D: intervals from A to B, dead factors from C to D
 abbrev pub heartbeat_row : Row Spans
-heartbeat_row = tested (number 1 3600 ▸ number 1 3600 ▸ number 2 100 ▸ last (number 2 100)) both_rise
+heartbeat_row = tested (number 1 3600 ▸ number 1 3600 ▸ number 2 100 ▸ last (number 2 100))
+    both_rise
 
 abbrev pub versions_row : Row (List ℕ)
 versions_row = many (number 4 9) 1 4
@@ -50,14 +52,16 @@ abbrev pub Delivery : Type 0
 Delivery = Mode × (ℕ × (ℕ × ℕ))
 
 abbrev pub delivery_row : Row Delivery
-delivery_row = tested (mode ▸ number 1 1000 ▸ number 0 3600 ▸ last (number 1 600)) (λ d. is_latency d.0 d.1.1.0)
+delivery_row = tested (mode ▸ number 1 1000 ▸ number 0 3600 ▸ last (number 1 600))
+    (λ d. is_latency d.0 d.1.1.0)
 
 -- MODE SIZE LATENCY TIMEOUT CHANNEL..
 abbrev pub ChannelDelivery : Type 0
 ChannelDelivery = Mode × (ℕ × (ℕ × (ℕ × List Gvcid)))
 
 abbrev pub channel_delivery_row : Row ChannelDelivery
-channel_delivery_row = tested (mode ▸ number 1 1000 ▸ number 0 3600 ▸ number 1 600 ▸ many gvcid 1 8) (λ d. is_latency d.0 d.1.1.0)
+channel_delivery_row = tested (mode ▸ number 1 1000 ▸ number 0 3600 ▸ number 1 600 ▸ many gvcid 1 8)
+    (λ d. is_latency d.0 d.1.1.0)
 
 -- ID OWNER, and what is delivered
 abbrev pub raf_row : Row (List InstancePart × (List ℕ × Delivery))
@@ -71,7 +75,9 @@ abbrev pub cltu_row : Row (List InstancePart × (List ℕ × (ℕ × (ℕ × ℕ
 cltu_row = identifier ▸ owner ▸ number 1 16777216 ▸ number 1 65536 ▸ last (number 1 600)
 
 abbrev pub InstanceParts : Type 0
-InstanceParts = (List InstancePart × (List ℕ × Delivery)) ⊎ ((List InstancePart × (List ℕ × ChannelDelivery)) ⊎ ((List InstancePart × (List ℕ × (ℕ × (ℕ × ℕ)))) ⊎ ⊥))
+InstanceParts = (List InstancePart × (List ℕ × Delivery))
+    ⊎ ((List InstancePart × (List ℕ × ChannelDelivery))
+    ⊎ ((List InstancePart × (List ℕ × (ℕ × (ℕ × ℕ)))) ⊎ ⊥))
 
 abbrev pub instance_of : InstanceParts → InstanceLine
 instance_of (inl p) = Raf p.0 p.1.0 p.1.1.0 p.1.1.1.0 p.1.1.1.1.0 p.1.1.1.1.1
@@ -80,9 +86,12 @@ instance_of (inr (inr (inl p))) = Cltu p.0 p.1.0 p.1.1.0 p.1.1.1.0 p.1.1.1.1
 instance_of (inr (inr (inr x))) = absurd x
 
 abbrev pub of_instance : InstanceLine → InstanceParts
-of_instance (Raf id who how size latency timeout) = inl (id, (who, (how, (size, (latency, timeout)))))
-of_instance (Rcf id who how size latency timeout channels) = inr (inl (id, (who, (how, (size, (latency, (timeout, channels)))))))
-of_instance (Cltu id who room longest timeout) = inr (inr (inl (id, (who, (room, (longest, timeout))))))
+of_instance (Raf id who how size latency timeout) =
+    inl (id, (who, (how, (size, (latency, timeout)))))
+of_instance (Rcf id who how size latency timeout channels) =
+    inr (inl (id, (who, (how, (size, (latency, (timeout, channels)))))))
+of_instance (Cltu id who room longest timeout) =
+    inr (inr (inl (id, (who, (room, (longest, timeout))))))
 
 pub instance_there : (l : InstanceLine) → instance_of (of_instance l) ≡ l
 instance_there (Raf id who how size latency timeout) = refl
@@ -98,7 +107,8 @@ instance_back (inr (inr (inr x))) = absurd x
 -- the lines of service instances
 abbrev pub instance_line : Choice InstanceLine
 instance_line = choice_as
-    (line (codes "raf") raf_row (line (codes "rcf") rcf_row (line (codes "cltu") cltu_row no_line refl) refl) refl)
+    (line (codes "raf") raf_row (line (codes "rcf") rcf_row
+    (line (codes "cltu") cltu_row no_line refl) refl) refl)
     (record { to = instance_of; from = of_instance; there = instance_there; back = instance_back })
 
 -- what stands behind the first words
@@ -109,18 +119,35 @@ abbrev pub line_of : Parts → Line
 line_of (inl name) = Provider name
 line_of (inr (inl pass)) = Password pass
 line_of (inr (inr (inl octets))) = Capacity octets
-line_of (inr (inr (inr (inl s)))) = Beat (record { interval_from = s.0; interval_to = s.1.0; factor_from = s.1.1.0; factor_to = s.1.1.1 })
+line_of (inr (inr (inr (inl s)))) =
+    Beat (record {
+      interval_from = s.0;
+      interval_to = s.1.0;
+      factor_from = s.1.1.0;
+      factor_to = s.1.1.1;
+    })
 line_of (inr (inr (inr (inr (inl versions))))) = Versions versions
-line_of (inr (inr (inr (inr (inr (inl p)))))) = OfPeer (record { name = p.0; level = p.1.0; sha256 = p.1.1.0; delay = p.1.1.1.0; pass = p.1.1.1.1 })
+line_of (inr (inr (inr (inr (inr (inl p)))))) =
+    OfPeer (record {
+      name = p.0;
+      level = p.1.0;
+      sha256 = p.1.1.0;
+      delay = p.1.1.1.0;
+      pass = p.1.1.1.1;
+    })
 line_of (inr (inr (inr (inr (inr (inr l)))))) = Instance l
 
 abbrev pub parts_of : Line → Parts
 parts_of (Provider name) = inl name
 parts_of (Password pass) = inr (inl pass)
 parts_of (Capacity octets) = inr (inr (inl octets))
-parts_of (Beat h) = inr (inr (inr (inl (h.interval_from, (h.interval_to, (h.factor_from, h.factor_to))))))
+parts_of (Beat h) = inr (inr (inr (inl (
+  h.interval_from,
+  (h.interval_to, (h.factor_from, h.factor_to)),
+))))
 parts_of (Versions versions) = inr (inr (inr (inr (inl versions))))
-parts_of (OfPeer p) = inr (inr (inr (inr (inr (inl (p.name, (p.level, (p.sha256, (p.delay, p.pass)))))))))
+parts_of (OfPeer p) = inr (inr
+    (inr (inr (inr (inl (p.name, (p.level, (p.sha256, (p.delay, p.pass)))))))))
 parts_of (Instance l) = inr (inr (inr (inr (inr (inr l)))))
 
 pub line_there : (l : Line) → line_of (parts_of l) ≡ l

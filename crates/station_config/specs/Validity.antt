@@ -1,4 +1,5 @@
--- What a station may have: each field in its range, names and identifiers apart, owners that are peers.
+-- What a station may have: each field in its range, names and identifiers apart, owners that are
+-- peers.
 use Rattle.std.specs.Prelude.{◌≡◌, ℕ, ◌<◌, ◌≤◌, Bool, true, false, List, length, map, count_by}
 use Rattle.std.specs.List.{All, AllPairs}
 use Rattle.sle_common.specs.Identifier.{IsIdentifier}

@@ -6,8 +6,8 @@ use octet_core::Memory;
 use std::alloc::Global;
 use std::marker::Model;
 
-/// Instances in the order of their lines, seen by contracts as their list. An instance is named by its
-/// place, from 0.
+/// Instances in the order of their lines, seen by contracts as their list. An instance is named by
+/// its place, from 0.
 #[derive(Debug, Drop)]
 pub struct Instances {
     held: Vec<Instance>,

@@ -1,8 +1,8 @@
 // The configuration of a station: the text that a person writes, and the site that it says: who may
 // bind, which service instances there are, and the station's limits.
 //
-// `Site::parse` gives the site of a text, or the number of its first bad line and the first cause why
-// that is refused. `specs/Grammar.antt` has the lines, as rows of the words of `words`, and
+// `Site::parse` gives the site of a text, or the number of its first bad line and the first cause
+// why that is refused. `specs/Grammar.antt` has the lines, as rows of the words of `words`, and
 // `specs/Drafts.antt` what they say together. A site that is read is valid (`specs/Validity.antt`):
 // the crates above ask for that and for nothing else.
 //

@@ -85,7 +85,8 @@ fn parse_instance(
     word: &[u8],
     words: Option<&[u8]>,
 ) -> Result<InstanceLine, LineFault>
-    ensures { Judges (λ says. says) result (instance_line.read word.now (parts_behind 32 words.entry)) }
+    ensures { Judges (λ says. says) result (instance_line.read word.now
+        (parts_behind 32 words.entry)) }
 {
     if word == RAF {
         let (id, (owner, (mode, (size, (latency, timeout))))) = read_row::<RafRow>(alloc, words)?;

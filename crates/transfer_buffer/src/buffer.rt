@@ -1,7 +1,8 @@
 // The buffer.
 ghost use Rattle.std.specs.Prelude.{◌≡◌, ◌-◌, ◌≤◌, length, IsTrue, IfOk};
 ghost use Rattle.archive_terms.specs.Delivery.{is_due_of};
-ghost use Rattle.transfer_buffer.specs.Held.{empty_buffer, contents_of, is_full, is_open, with_item, emptied};
+ghost use Rattle.transfer_buffer.specs.Held.{empty_buffer, contents_of, is_full, is_open};
+ghost use Rattle.transfer_buffer.specs.Held.{with_item, emptied};
 
 use crate::memory::Memory;
 use archive_terms::FULL_BUFFER;

@@ -5,8 +5,8 @@
 // and whether it is a notification or closes the buffer. Contracts see it as a record of the held
 // items and these numbers, and judge it by the numbers of `archive_terms`.
 //
-// Only `Buffer::new` takes memory: it reserves room for the greatest number of items. Each other call
-// takes constant time, but for those that empty the buffer, which drop its items.
+// Only `Buffer::new` takes memory: it reserves room for the greatest number of items. Each other
+// call takes constant time, but for those that empty the buffer, which drop its items.
 #![tactic(auto)]
 
 mod buffer;

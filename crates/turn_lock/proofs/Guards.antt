@@ -21,12 +21,31 @@ guard_val = vstruct (vcons token_val vnil)
 
 -- a guard that is used up leaves nothing
 pub Goes-blank : {M : Type 1} {𝓤 : Ura M} (𝓛 : Logic 𝓤) (n : ℕ) (s : Slot n) (k : Kept)
-    → ((κs : Lfts n) (x : (s.row κs).Denot) (f : Last ((s.row κs).exit k) x) → T (blank (left ((s.row κs).exit k) x f))) → Goes 𝓛 n s k (stay_dropped s k)
-Goes-blank {𝓤 = 𝓤} 𝓛 n s k is κs x f vs ok = via 𝓤 _ (had 𝓛 (left ((s.row κs).exit k) x f) (is κs x f)) (𝓛.laws.⇛_intro _)
+    → ((κs : Lfts n) (x : (s.row κs).Denot) (f : Last ((s.row κs).exit k) x)
+    → T (blank (left ((s.row κs).exit k) x f))) → Goes 𝓛 n s k (stay_dropped s k)
+Goes-blank {𝓤 = 𝓤} 𝓛 n s k is κs x f vs ok = via 𝓤 _
+    (had 𝓛 (left ((s.row κs).exit k) x f) (is κs x f)) (𝓛.laws.⇛_intro _)
 
 module _ (W : RattleType) where
-  pub guard_told : (d : (guard.the_row W).Denot) (vs : List Val) → Is (guard.the_row W) d vs → vs ≡ guard_val ∷ []
-  guard_told d vs so = let is = so.0 in let inner = pin_told W is.0.0 is.1.1.0.0 in is.1.0 ∙ ap (λ (ws : List Val). vstruct (of_list (ws ++ [])) ∷ []) inner
+  pub guard_told : (d : (guard.the_row W).Denot) (vs : List Val) → Is (guard.the_row W) d vs
+      → vs ≡ guard_val ∷ []
+  guard_told d vs so = let is = so.0 in let inner = pin_told W is.0.0 is.1.1.0.0 in is.1.0
+      ∙ ap (λ (ws : List Val). vstruct (of_list (ws ++ [])) ∷ []) inner
 
   pub guard_send : IsSend (guard.the_row W)
-  guard_send = record { owned = λ d vs. ((λ vss. (tt, (((λ uss. (tt, ((λ wss. (tt, tt)), tt))), badge_keyless W.coded.code d.badge.table_id d.badge.id d.badge.views), tt))), tt); leaving = λ k x vs. (tt, tt) }
+  guard_send = record {
+    owned = λ d vs. (
+      (λ vss. (
+        tt,
+        (
+          (
+            (λ uss. (tt, ((λ wss. (tt, tt)), tt))),
+            badge_keyless W.coded.code d.badge.table_id d.badge.id d.badge.views,
+          ),
+          tt,
+        ),
+      )),
+      tt,
+    );
+    leaving = λ k x vs. (tt, tt);
+  }

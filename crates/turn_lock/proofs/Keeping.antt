@@ -1,5 +1,8 @@
 -- Each step keeps the rule of the table.
-use Rattle.std.proofs.Common.{◌≡◌, ◌≢◌, ◌⊎◌, ◌==◌, ℕ, zero, suc, ◌+◌, ◌-◌, ◌%◌, ◌^◌, ◌<◌, ◌≤◌, Bool, true, false, List, [], ◌∷◌, ◌++◌, set, get_or, length, length-append, slice_get, Option, Some, None, IsSome, MatchBool, if◌then◌else◌, inl, inr, ⊎_elim, refl, sym, ap, ◌∙◌, subst, arith, eq-eqb, ne_eqb}
+use Rattle.std.proofs.Common.{◌≡◌, ◌≢◌, ◌⊎◌, ◌==◌, ℕ, zero, suc, ◌+◌, ◌-◌, ◌%◌, ◌^◌, ◌<◌, ◌≤◌, Bool}
+use Rattle.std.proofs.Common.{true, false, List, [], ◌∷◌, ◌++◌, set, get_or, length, length-append}
+use Rattle.std.proofs.Common.{slice_get, Option, Some, None, IsSome, MatchBool, if◌then◌else◌, inl}
+use Rattle.std.proofs.Common.{inr, ⊎_elim, refl, sym, ap, ◌∙◌, subst, arith, eq-eqb, ne_eqb}
 use Rattle.std.specs.List.{sum_by}
 use Rattle.std.proofs.lemmas.List.Sums.{sum_by-cons, sum_by-append}
 use mathlib.Core.List.{IsPrefix}
@@ -9,19 +12,23 @@ use mathlib.Core.Option as maybe
 use native.Mathlib.Decide.{ℕ_discrete}
 use lib.ListN.{get_elem?}
 use prog.Atomic.{either}
-use Rattle.atomic_table.specs.Table.{State, Me, opening, step, keeps, takes, gives, rest, put_back, Allows, Splits, Joins}
+use Rattle.atomic_table.specs.Table.{State, Me, opening, step, keeps, takes, gives, rest, put_back}
+use Rattle.atomic_table.specs.Table.{Allows, Splits, Joins}
 use Rattle.atomic_table.proofs.Lists.{at_set, at_snoc, at_longer, set_else}
 use Rattle.turn_lock.specs.declared.view.View.{View}
 use Rattle.turn_lock.specs.Own.{counts, mark, times, total, AllStand, MakeUp}
-use Rattle.turn_lock.specs.Rule.{own_lists, pending, is_ticket, with_added, fresh_view, spent_view, IsOf, Fits, IsHome, IsOut, Kept}
-use Rattle.turn_lock.specs.Steps.{entering, finding, holding, seeing, adding, resting, giving, given, Draws, Takes, Looks, Sees, Adds, Ends, Learns, Closes}
+use Rattle.turn_lock.specs.Rule.{own_lists, pending, is_ticket, with_added, fresh_view, spent_view}
+use Rattle.turn_lock.specs.Rule.{IsOf, Fits, IsHome, IsOut, Kept}
+use Rattle.turn_lock.specs.Steps.{entering, finding, holding, seeing, adding, resting, giving}
+use Rattle.turn_lock.specs.Steps.{given, Draws, Takes, Looks, Sees, Adds, Ends, Learns, Closes}
 use Rattle.turn_lock.proofs.Prefixes.{prefix_self, prefix_trans}
 use Rattle.turn_lock.proofs.Owned.{one_more, all_on, stand_last, times_last, times_few}
 use Rattle.turn_lock.proofs.Sums.{sum_set, one_of, two_of, sum_none, sum_only, here_set}
 
 is_ticket-small : (n : ℕ) (t : Option ℕ) → is_ticket n t ≤ 1
 is_ticket-small n None = omega arith
-is_ticket-small n (Some t) = elim (t == n) as (λ (b : Bool). (if b then 1 else 0) ≤ 1) [ true ↦ omega arith | false ↦ omega arith ]
+is_ticket-small n (Some t) = elim (t == n) as (λ (b : Bool). (if b then 1 else 0) ≤ 1)
+    [ true ↦ omega arith | false ↦ omega arith ]
 
 is_ticket-same : (n : ℕ) (t : Option ℕ) → t ≡ Some n → is_ticket n t ≡ 1
 is_ticket-same n t e = ap (is_ticket n) e ∙ ap (λ (b : Bool). if b then 1 else 0) (eq-eqb n n refl)
@@ -36,7 +43,8 @@ not_both : {A : Type 0} (o : Option A) (a : A) → o ≡ None → ¬ (o ≡ Some
 not_both o a e d = let k : None ≡ Some a = sym e ∙ d in absurd (cc k)
 
 none_not_some : {A : Type 0} (o : Option A) → o ≡ None → ¬ IsSome o
-none_not_some {A = A} o e k = let h : IsSome {T = A} None = subst (λ (x : Option A). IsSome x) e k in absurd (cc h)
+none_not_some {A = A} o e k = let h : IsSome {T = A} None =
+    subst (λ (x : Option A). IsSome x) e k in absurd (cc h)
 
 some_same : {A : Type 0} (o : Option A) (a b : A) → o ≡ Some a → o ≡ Some b → a ≡ b
 some_same o a b e d = cc
@@ -58,12 +66,16 @@ pub on_miss : (found n : ℕ) (P Q : Type 0) → found ≢ n → MatchBool (foun
 on_miss found n P Q other m = subst (λ (z : Bool). MatchBool z P Q) (ne_eqb found n other) m
 
 -- a seat that took the value holds it first
-pub held_first : {T E O : Type 0} (origin : T → O) (stands : T → List E → Type 0) (v : View E O) (m t : Me (Option T) (View E O)) → Takes origin stands v m t → (y : Option T) × (t.1 ≡ (0, y) ∷ rest t.1) × IsSome y
+pub held_first : {T E O : Type 0} (origin : T → O) (stands : T → List E
+    → Type 0) (v : View E O) (m t : Me (Option T) (View E O)) → Takes origin stands v m t
+    → (y : Option T) × (t.1 ≡ (0, y) ∷ rest t.1) × IsSome y
 held_first {T = T} {E = E} {O = O} origin stands v m t takes_it =
-    let slots : t.1 ≡ (0, Some takes_it.0) ∷ m.1 = ap (λ (z : Me (Option T) (View E O)). z.1) takes_it.2 in
+    let slots : t.1 ≡ (0, Some takes_it.0) ∷ m.1 =
+    ap (λ (z : Me (Option T) (View E O)). z.1) takes_it.2 in
     (Some takes_it.0, slots ∙ (λ i. (0, Some takes_it.0) ∷ rest (sym slots i)), refl)
 
-module _ {T E O : Type 0} (origin : T → O) (stands : T → List E → Type 0) (first : O) (turns : ℕ) where
+module _ {T E O : Type 0} (origin : T → O) (stands : T → List E
+    → Type 0) (first : O) (turns : ℕ) where
   abbrev V : Type 0
   V = View E O
 
@@ -76,7 +88,8 @@ module _ {T E O : Type 0} (origin : T → O) (stands : T → List E → Type 0) 
   abbrev Rule : S → Type 0
   Rule = Kept origin stands first turns
 
-  of_same : (v w : V) → w.turns ≡ v.turns → v ≢ spent_view → (o : Option O) → IsOf first turns v o → IsOf first turns w o
+  of_same : (v w : V) → w.turns ≡ v.turns → v ≢ spent_view → (o : Option O) → IsOf first turns v o
+      → IsOf first turns w o
   of_same v w t some_view (Some o) k = (k.0, t ∙ k.1)
   of_same v w t some_view None k = absurd (some_view k)
 
@@ -84,71 +97,149 @@ module _ {T E O : Type 0} (origin : T → O) (stands : T → List E → Type 0) 
   Homes = List (maybe.Option (Option T))
 
   -- the seat `id` goes from v to w, and the words, the history and the slot change
-  moved : (s : S) (r : Rule s) (id : ℕ) (v w : V) (ticket serving : ℕ) (log : List E) (homes : Homes) → get_elem? s.views id ≡ some v → r.ticket ≤ ticket
+  moved : (s : S) (r : Rule s) (id : ℕ) (v w : V) (ticket serving : ℕ) (log : List E)
+      (homes : Homes) → get_elem? s.views id ≡ some v → r.ticket ≤ ticket
       → (serving + counts w.ticket) + r.ticket ≡ (r.serving + counts v.ticket) + ticket
       → ((n : ℕ) → (is_ticket n w.ticket ≤ is_ticket n v.ticket) ⊎ ((r.ticket ≤ n) × (n < ticket)))
-      → w.entered + r.ticket ≡ v.entered + ticket → (length log + pending w) + r.ticket ≤ (length r.log + pending v) + ticket → w.left + ticket ≤ v.left + r.ticket → w.found ≤ ticket
-      → ((k : ℕ) → times k (own_lists w) + counts (slice_get r.log k) ≡ times k (own_lists v) + counts (slice_get log k))
-      → Fits first turns serving log homes w → ((j : ℕ) (u : V) → j ≢ id → get_elem? s.views j ≡ some u → Fits first turns serving log homes u)
+      → w.entered + r.ticket ≡ v.entered + ticket
+      → (length log + pending w) + r.ticket ≤ (length r.log + pending v) + ticket
+      → w.left + ticket ≤ v.left + r.ticket → w.found ≤ ticket
+      → ((k : ℕ) → times k (own_lists w) + counts (slice_get r.log k)
+      ≡ times k (own_lists v) + counts (slice_get log k))
+      → Fits first turns serving log homes w → ((j : ℕ) (u : V) → j ≢ id
+      → get_elem? s.views j ≡ some u → Fits first turns serving log homes u)
       → IsHome origin stands first log homes ⊎ IsOut homes (set s.views id w)
-      → Rule record { words = ticket ∷ serving ∷ length log ∷ []; homes = homes; views = set s.views id w }
-  moved s r id v w ticket serving log homes at more waiting tickets entered few left heard places mine others slot = record {
-    ticket = ticket;
-    serving = serving;
-    log = log;
-    words = refl;
-    waiting = omega (arith, sum_set (λ (u : V). counts u.ticket) s.views id v w at, r.waiting);
-    once = λ n. ⊎_elim (λ (l : is_ticket n w.ticket ≤ is_ticket n v.ticket). omega (arith, sum_set (λ (u : V). is_ticket n u.ticket) s.views id v w at, r.once n))
-        (λ (l : (r.ticket ≤ n) × (n < ticket)). omega (arith, sum_set (λ (u : V). is_ticket n u.ticket) s.views id v w at, r.undrawn n l.0, is_ticket-small n w.ticket)) (tickets n);
-    undrawn = λ n l. ⊎_elim (λ (t : is_ticket n w.ticket ≤ is_ticket n v.ticket). omega (arith, sum_set (λ (u : V). is_ticket n u.ticket) s.views id v w at, r.undrawn n (omega arith)))
-        (λ (t : (r.ticket ≤ n) × (n < ticket)). absurd (omega arith)) (tickets n);
-    entered = omega (arith, sum_set (λ (u : V). u.entered) s.views id v w at, r.entered);
-    heard = λ j u e. ⊎_elim (λ (t : (j ≡ id) × (w ≡ u)). subst (λ (x : V). x.found ≤ ticket) t.1 heard) (λ (t : (j ≢ id) × (get_elem? s.views j ≡ some u)). omega (arith, r.heard j u t.1, more)) (at_set s.views id j w u e);
-    once_each = λ k. omega (arith, sum_set (λ (u : V). times k (own_lists u)) s.views id v w at, r.once_each k, places k);
-    few = omega (arith, sum_set pending s.views id v w at, r.few);
-    bounded = omega (arith, sum_set (λ (u : V). u.left) s.views id v w at, r.bounded);
-    each_view = λ j u e. ⊎_elim (λ (t : (j ≡ id) × (w ≡ u)). subst (Fits first turns serving log homes) t.1 mine) (λ (t : (j ≢ id) × (get_elem? s.views j ≡ some u)). others j u t.0 t.1) (at_set s.views id j w u e);
-    slot = slot;
-  }
+      → Rule record {
+        words = ticket ∷ serving ∷ length log ∷ [];
+        homes = homes;
+        views = set s.views id w;
+      }
+  moved s r id v w ticket serving log homes at more waiting tickets entered few left heard places
+      mine others slot = record {
+        ticket = ticket;
+        serving = serving;
+        log = log;
+        words = refl;
+        waiting = omega (arith, sum_set (λ (u : V). counts u.ticket) s.views id v w at, r.waiting);
+        once = λ n. ⊎_elim (λ (l : is_ticket n w.ticket ≤ is_ticket n v.ticket). omega (
+          arith,
+          sum_set (λ (u : V). is_ticket n u.ticket) s.views id v w at,
+          r.once n,
+        ))
+            (λ (l : (r.ticket ≤ n) × (n < ticket)). omega (
+              arith,
+              sum_set (λ (u : V). is_ticket n u.ticket) s.views id v w at,
+              r.undrawn n l.0,
+              is_ticket-small n w.ticket,
+            )) (tickets n);
+        undrawn = λ n l. ⊎_elim (λ (t : is_ticket n w.ticket ≤ is_ticket n v.ticket). omega (
+          arith,
+          sum_set (λ (u : V). is_ticket n u.ticket) s.views id v w at,
+          r.undrawn n (omega arith),
+        ))
+            (λ (t : (r.ticket ≤ n) × (n < ticket)). absurd (omega arith)) (tickets n);
+        entered = omega (arith, sum_set (λ (u : V). u.entered) s.views id v w at, r.entered);
+        heard = λ j u e. ⊎_elim (λ (t : (j ≡ id) × (w ≡ u)). subst (λ (x : V). x.found ≤ ticket) t.1
+            heard) (λ (t : (j ≢ id) × (get_elem? s.views j ≡ some u)). omega (
+              arith,
+              r.heard j u t.1,
+              more,
+            )) (at_set s.views id j w u e);
+        once_each = λ k. omega (
+          arith,
+          sum_set (λ (u : V). times k (own_lists u)) s.views id v w at,
+          r.once_each k,
+          places k,
+        );
+        few = omega (arith, sum_set pending s.views id v w at, r.few);
+        bounded = omega (arith, sum_set (λ (u : V). u.left) s.views id v w at, r.bounded);
+        each_view = λ j u e. ⊎_elim (λ (t : (j ≡ id) × (w ≡ u)). subst
+            (Fits first turns serving log homes) t.1 mine)
+            (λ (t : (j ≢ id) × (get_elem? s.views j ≡ some u)). others j u t.0 t.1)
+            (at_set s.views id j w u e);
+        slot = slot;
+      }
 
   abbrev HomeOrOut : List E → Homes → List V → Type 0
   HomeOrOut log homes views = IsHome origin stands first log homes ⊎ IsOut homes views
 
-  same_view : (views : List V) (i j : ℕ) (v u : V) → j ≡ i → get_elem? views i ≡ some v → get_elem? views j ≡ some u → u ≡ v
+  same_view : (views : List V) (i j : ℕ) (v u : V) → j ≡ i → get_elem? views i ≡ some v
+      → get_elem? views j ≡ some u → u ≡ v
   same_view views i j v u e at there = some-injective u v (sym there ∙ ap (get_elem? views) e ∙ at)
 
   -- the value is where it was
-  out_stays : (homes : Homes) (views : List V) (id : ℕ) (v w : V) → get_elem? views id ≡ some v → w.kept ≡ v.kept → IsOut homes views → IsOut homes (set views id w)
-  out_stays homes views id v w at still out = let j = out.0 in let u = out.1 in dite (ℕ_discrete j id)
-      (λ (e : j ≡ id). (id, w, out.2, out.3, here_set views id v w at, still ∙ (ap (λ (x : V). x.kept) (sym (same_view views id j v u e at out.4)) ∙ out.5)))
+  out_stays : (homes : Homes) (views : List V) (id : ℕ) (v w : V) → get_elem? views id ≡ some v
+      → w.kept ≡ v.kept → IsOut homes views → IsOut homes (set views id w)
+  out_stays homes views id v w at still out = let j = out.0 in let u = out.1 in
+      dite (ℕ_discrete j id)
+      (λ (e : j ≡ id). (
+        id,
+        w,
+        out.2,
+        out.3,
+        here_set views id v w at,
+        still
+            ∙ (ap (λ (x : V). x.kept) (sym (same_view views id j v u e at out.4)) ∙ out.5),
+      ))
       (λ (other : j ≢ id). (j, u, out.2, out.3, set_else views id j w other ∙ out.4, out.5))
 
-  slot_stays : (log : List E) (homes : Homes) (views : List V) (id : ℕ) (v w : V) → get_elem? views id ≡ some v → w.kept ≡ v.kept → HomeOrOut log homes views → HomeOrOut log homes (set views id w)
+  slot_stays : (log : List E) (homes : Homes) (views : List V) (id : ℕ) (v w : V)
+      → get_elem? views id ≡ some v → w.kept ≡ v.kept → HomeOrOut log homes views
+      → HomeOrOut log homes (set views id w)
   slot_stays log homes views id v w at still (inl home) = inl home
-  slot_stays log homes views id v w at still (inr out) = inr (out_stays homes views id v w at still out)
+  slot_stays log homes views id v w at still (inr out) =
+      inr (out_stays homes views id v w at still out)
 
   -- the history goes on while a seat has the value
-  slot_goes_on : (log more : List E) (homes : Homes) (views : List V) (id : ℕ) (v w : V) → get_elem? views id ≡ some v → w.kept ≡ v.kept → homes ≡ none ∷ [] → HomeOrOut log homes views → HomeOrOut more homes (set views id w)
-  slot_goes_on log more homes views id v w at still empty (inl home) = absurd (some-ne-none (Some home.0) (ap (λ (hs : Homes). get_or hs 0 none) (sym home.1 ∙ empty)))
-  slot_goes_on log more homes views id v w at still empty (inr out) = inr (out_stays homes views id v w at still out)
+  slot_goes_on : (log more : List E) (homes : Homes) (views : List V) (id : ℕ) (v w : V)
+      → get_elem? views id ≡ some v → w.kept ≡ v.kept → homes ≡ none ∷ []
+      → HomeOrOut log homes views → HomeOrOut more homes (set views id w)
+  slot_goes_on log more homes views id v w at still empty (inl home) =
+      absurd (some-ne-none (Some home.0) (ap (λ (hs : Homes). get_or hs 0 none) (sym home.1
+      ∙ empty)))
+  slot_goes_on log more homes views id v w at still empty (inr out) =
+      inr (out_stays homes views id v w at still out)
 
-  longer_views : (log : List E) (homes : Homes) (views : List V) (w : V) → HomeOrOut log homes views → HomeOrOut log homes (views ++ w ∷ [])
+  longer_views : (log : List E) (homes : Homes) (views : List V) (w : V) → HomeOrOut log homes views
+      → HomeOrOut log homes (views ++ w ∷ [])
   longer_views log homes views w (inl home) = inl home
-  longer_views log homes views w (inr out) = inr (out.0, out.1, out.2, out.3, at_longer views (w ∷ []) out.0 out.1 out.4, out.5)
+  longer_views log homes views w (inr out) = inr (
+    out.0,
+    out.1,
+    out.2,
+    out.3,
+    at_longer views (w ∷ []) out.0 out.1 out.4,
+    out.5,
+  )
 
-  one_view : (serving : ℕ) (log : List E) (homes : Homes) (v : V) → Fits first turns serving log homes v → (j : ℕ) (u : V) → get_elem? (v ∷ []) j ≡ some u → Fits first turns serving log homes u
-  one_view serving log homes v fit zero u e = subst (Fits first turns serving log homes) (some-injective v u e) fit
+  one_view : (serving : ℕ) (log : List E) (homes : Homes) (v : V)
+      → Fits first turns serving log homes v → (j : ℕ) (u : V) → get_elem? (v ∷ []) j ≡ some u
+      → Fits first turns serving log homes u
+  one_view serving log homes v fit zero u e =
+      subst (Fits first turns serving log homes) (some-injective v u e) fit
   one_view serving log homes v fit (suc j) u e = absurd (some-ne-none u (sym e))
 
-  one_heard : (v : V) (n : ℕ) → v.found ≤ n → (j : ℕ) (u : V) → get_elem? (v ∷ []) j ≡ some u → u.found ≤ n
+  one_heard : (v : V) (n : ℕ) → v.found ≤ n → (j : ℕ) (u : V) → get_elem? (v ∷ []) j ≡ some u
+      → u.found ≤ n
   one_heard v n few zero u e = subst (λ (x : V). x.found ≤ n) (some-injective v u e) few
   one_heard v n few (suc j) u e = absurd (some-ne-none u (sym e))
 
   -- a new table, whose value stands for no events
-  pub starts : (slots : List (Option T)) (x : T) → slots ≡ Some x ∷ [] → origin x ≡ first → stands x [] → Rule (opening (0 ∷ 0 ∷ 0 ∷ []) slots (fresh_view first turns (turns + 1)))
+  pub starts : (slots : List (Option T)) (x : T) → slots ≡ Some x ∷ [] → origin x ≡ first
+      → stands x [] → Rule (opening (0 ∷ 0 ∷ 0 ∷ []) slots (fresh_view first turns (turns + 1)))
   starts slots x full mine st =
       let v : V = fresh_view first turns (turns + 1) in
-      let fit : Fits {T = T} first turns 0 [] (some (Some x) ∷ []) v = record { of = (refl, refl); counted = omega arith; holding = λ h k. absurd (not_both v.kept h refl k); early = omega arith; prefix = ([], refl); begins = ([], refl); own = (tt, tt); some_own = omega arith } in
+      let fit : Fits {T = T} first turns 0 [] (some (Some x) ∷ []) v =
+      record {
+        of = (refl, refl);
+        counted = omega arith;
+        holding = λ h k. absurd (not_both v.kept h refl k);
+        early = omega arith;
+        prefix = ([], refl);
+        begins = ([], refl);
+        own = (tt, tt);
+        some_own = omega arith;
+      } in
       subst (λ (xs : List (Option T)). Rule (opening (0 ∷ 0 ∷ 0 ∷ []) xs v)) (sym full) (record {
         ticket = 0;
         serving = 0;
@@ -167,15 +258,25 @@ module _ {T E O : Type 0} (origin : T → O) (stands : T → List E → Type 0) 
       })
 
   -- another seat with this ticket is no other seat
-  one_seat : (s : S) (r : Rule s) (i j : ℕ) (v u : V) (n : ℕ) → get_elem? s.views i ≡ some v → get_elem? s.views j ≡ some u → v.ticket ≡ Some n → u.ticket ≡ Some n → j ≡ i
+  one_seat : (s : S) (r : Rule s) (i j : ℕ) (v u : V) (n : ℕ) → get_elem? s.views i ≡ some v
+      → get_elem? s.views j ≡ some u → v.ticket ≡ Some n → u.ticket ≡ Some n → j ≡ i
   one_seat s r i j v u n at there e d = dite (ℕ_discrete j i) (λ (same : j ≡ i). same)
-      (λ (other : j ≢ i). absurd (omega (arith, two_of (λ (x : V). is_ticket n x.ticket) s.views j i u v other there at, is_ticket-same n v.ticket e, is_ticket-same n u.ticket d, r.once n)))
+      (λ (other : j ≢ i). absurd (omega (
+        arith,
+        two_of (λ (x : V). is_ticket n x.ticket) s.views j i u v other there at,
+        is_ticket-same n v.ticket e,
+        is_ticket-same n u.ticket d,
+        r.once n,
+      )))
 
   -- what a view with a ticket that is counts now says of tickets
-  drawn_now : (r t : ℕ) (v : Option ℕ) → (n : ℕ) → t ≡ r → (is_ticket n (Some t) ≤ is_ticket n v) ⊎ ((r ≤ n) × (n < r + 1))
-  drawn_now r t v n e = dite (ℕ_discrete t n) (λ (d : t ≡ n). inr (omega arith, omega arith)) (λ (d : t ≢ n). inl (omega (arith, is_ticket-other n t d)))
+  drawn_now : (r t : ℕ) (v : Option ℕ) → (n : ℕ) → t ≡ r
+      → (is_ticket n (Some t) ≤ is_ticket n v) ⊎ ((r ≤ n) × (n < r + 1))
+  drawn_now r t v n e = dite (ℕ_discrete t n) (λ (d : t ≡ n). inr (omega arith, omega arith))
+      (λ (d : t ≢ n). inl (omega (arith, is_ticket-other n t d)))
 
-  pub draws : (slots id : ℕ) (me : M) → turns ≤ 2 ^ 62 → me.0.ticket ≡ None → me.0.kept ≡ None → 0 < me.0.left
+  pub draws : (slots id : ℕ) (me : M) → turns ≤ 2 ^ 62 → me.0.ticket ≡ None → me.0.kept ≡ None
+      → 0 < me.0.left
       → Allows Rule slots id me 0 (λ n. (n + 1) % 2 ^ 64) (Draws (step slots 0 1 0 none) me)
   draws slots id me small no_ticket no_value some_left s r long at fits =
       let found : ℕ = get_or s.words 0 0 in
@@ -190,9 +291,19 @@ module _ {T E O : Type 0} (origin : T → O) (stands : T → List E → Type 0) 
         w,
         keeps,
         tt,
-        subst (λ (ws : List ℕ). Rule record { words = set ws 0 ((get_or ws 0 0 + 1) % 2 ^ 64); homes = s.homes; views = set s.views id w }) (sym r.words)
-            (subst (λ (n : ℕ). Rule record { words = n ∷ r.serving ∷ length r.log ∷ []; homes = s.homes; views = set s.views id w }) (sym up)
-            (moved s r id v w (r.ticket + 1) r.serving r.log s.homes at (omega arith) (omega arith) (λ n. drawn_now r.ticket found v.ticket n here) (omega arith) (omega arith) (omega arith) (omega (arith, r.heard id v at)) (λ k. refl)
+        subst (λ (ws : List ℕ). Rule record {
+          words = set ws 0 ((get_or ws 0 0 + 1) % 2 ^ 64);
+          homes = s.homes;
+          views = set s.views id w;
+        }) (sym r.words)
+            (subst (λ (n : ℕ). Rule record {
+              words = n ∷ r.serving ∷ length r.log ∷ [];
+              homes = s.homes;
+              views = set s.views id w;
+            }) (sym up)
+            (moved s r id v w (r.ticket + 1) r.serving r.log s.homes at (omega arith) (omega arith)
+            (λ n. drawn_now r.ticket found v.ticket n here) (omega arith) (omega arith)
+            (omega arith) (omega (arith, r.heard id v at)) (λ k. refl)
             (record {
               of = of_same v w refl some_view v.origin fit.of;
               counted = omega arith;
@@ -209,35 +320,77 @@ module _ {T E O : Type 0} (origin : T → O) (stands : T → List E → Type 0) 
       )
 
   -- the slot is empty now
-  emptied : (s : S) (r : Rule s) (u : V) → Fits first turns r.serving r.log s.homes u → Fits {T = T} first turns r.serving r.log (none ∷ []) u
-  emptied s r u f = record { of = f.of; counted = f.counted; holding = λ h k. ((f.holding h k).0, refl, (f.holding h k).2); early = f.early; prefix = f.prefix; begins = f.begins; own = f.own; some_own = f.some_own }
+  emptied : (s : S) (r : Rule s) (u : V) → Fits first turns r.serving r.log s.homes u
+      → Fits {T = T} first turns r.serving r.log (none ∷ []) u
+  emptied s r u f = record {
+    of = f.of;
+    counted = f.counted;
+    holding = λ h k. ((f.holding h k).0, refl, (f.holding h k).2);
+    early = f.early;
+    prefix = f.prefix;
+    begins = f.begins;
+    own = f.own;
+    some_own = f.some_own;
+  }
 
   -- the seat takes the value that is at home, as its ticket is served
-  taken : (s : S) (r : Rule s) (id : ℕ) (v w : V) (ticket : ℕ) → get_elem? s.views id ≡ some v → r.ticket ≤ ticket
+  taken : (s : S) (r : Rule s) (id : ℕ) (v w : V) (ticket : ℕ) → get_elem? s.views id ≡ some v
+      → r.ticket ≤ ticket
       → (r.serving + counts w.ticket) + r.ticket ≡ (r.serving + counts v.ticket) + ticket
       → ((n : ℕ) → (is_ticket n w.ticket ≤ is_ticket n v.ticket) ⊎ ((r.ticket ≤ n) × (n < ticket)))
-      → w.entered + r.ticket ≡ v.entered + ticket → pending w + r.ticket ≤ pending v + ticket → w.left + ticket ≤ v.left + r.ticket → w.found ≤ ticket → own_lists w ≡ own_lists v
-      → IsOf first turns w w.origin → counts w.ticket ≤ w.entered → w.ticket ≡ Some r.serving → w.kept ≡ Some r.log → w.added ≡ None → IsPrefix w.seen r.log → IsPrefix w.beginning w.seen → AllStand r.log (own_lists w) → total (own_lists w) + pending w ≤ w.entered
-      → Rule record { words = ticket ∷ r.serving ∷ length r.log ∷ []; homes = none ∷ []; views = set s.views id w }
-  taken s r id v w ticket at more waiting tickets entered few left heard lists of counted served value nothing prefix begins own some_own =
+      → w.entered + r.ticket ≡ v.entered + ticket → pending w + r.ticket ≤ pending v + ticket
+      → w.left + ticket ≤ v.left + r.ticket → w.found ≤ ticket → own_lists w ≡ own_lists v
+      → IsOf first turns w w.origin → counts w.ticket ≤ w.entered → w.ticket ≡ Some r.serving
+      → w.kept ≡ Some r.log → w.added ≡ None → IsPrefix w.seen r.log → IsPrefix w.beginning w.seen
+      → AllStand r.log (own_lists w) → total (own_lists w) + pending w ≤ w.entered
+      → Rule record {
+        words = ticket ∷ r.serving ∷ length r.log ∷ [];
+        homes = none ∷ [];
+        views = set s.views id w;
+      }
+  taken s r id v w ticket at more waiting tickets entered few left heard lists of counted served
+      value nothing prefix begins own some_own =
       let none_added : counts w.added ≡ 0 = ap counts nothing in
-      moved s r id v w ticket r.serving r.log (none ∷ []) at more waiting tickets entered (omega (arith, few)) left heard (λ k. ap (λ ls. times k ls + counts (slice_get r.log k)) lists)
-      (record { of = of; counted = counted; holding = λ h k. (served, refl, some_same w.kept r.log h value k ∙ ap (with_added h) (sym nothing)); early = omega arith; prefix = prefix; begins = begins; own = own; some_own = some_own })
+      moved s r id v w ticket r.serving r.log (none ∷ []) at more waiting tickets entered
+      (omega (arith, few)) left heard (λ k.
+      ap (λ ls. times k ls + counts (slice_get r.log k)) lists)
+      (record {
+        of = of;
+        counted = counted;
+        holding =
+            λ h k. (
+              served,
+              refl,
+              some_same w.kept r.log h value k
+                  ∙ ap (with_added h) (sym nothing),
+            );
+        early = omega arith;
+        prefix = prefix;
+        begins = begins;
+        own = own;
+        some_own = some_own;
+      })
       (λ j u _ e. emptied s r u (r.each_view j u e))
       (inr (id, w, r.log, refl, here_set s.views id v w at, value))
 
   -- where the seat's ticket is served and it has no value, the value is at home
-  at_home : (s : S) (r : Rule s) (id : ℕ) (v : V) → get_elem? s.views id ≡ some v → v.ticket ≡ Some r.serving → v.kept ≡ None → HomeOrOut r.log s.homes s.views → IsHome origin stands first r.log s.homes
+  at_home : (s : S) (r : Rule s) (id : ℕ) (v : V) → get_elem? s.views id ≡ some v
+      → v.ticket ≡ Some r.serving → v.kept ≡ None → HomeOrOut r.log s.homes s.views
+      → IsHome origin stands first r.log s.homes
   at_home s r id v at served no_value (inl home) = home
   at_home s r id v at served no_value (inr out) = let j = out.0 in let u = out.1 in
-      let same : u ≡ v = same_view s.views id j v u (one_seat s r id j v u r.serving at out.4 served ((r.each_view j u out.4).holding out.2 out.5).0) at out.4 in
+      let same : u ≡ v = same_view s.views id j v u
+      (one_seat s r id j v u r.serving at out.4 served
+      ((r.each_view j u out.4).holding out.2 out.5).0) at out.4 in
       absurd (not_both v.kept out.2 no_value (ap (λ (x : V). x.kept) (sym same) ∙ out.5))
 
-  has_origin : (v : V) (x : O) (o : Option O) → v ≢ spent_view → IsOf first turns v o → x ≡ first → o ≡ Some x
+  has_origin : (v : V) (x : O) (o : Option O) → v ≢ spent_view → IsOf first turns v o → x ≡ first
+      → o ≡ Some x
   has_origin v x (Some o) some_view k e = ap Some (k.0 ∙ sym e)
   has_origin v x None some_view k e = absurd (some_view k)
 
-  pub looks : (slots id : ℕ) (me : M) (n : ℕ) → me.0.ticket ≡ Some n → me.0.kept ≡ None → Allows Rule slots id me 1 (λ k. k) (Looks origin stands (step slots 1 0 0 none) me)
+  pub looks : (slots id : ℕ) (me : M) (n : ℕ) → me.0.ticket ≡ Some n → me.0.kept ≡ None
+      → Allows Rule slots id me 1 (λ k. k) (Looks origin stands (step slots 1 0 0 none) me)
   looks slots id me n ticket no_value s r long at fits =
       let found : ℕ = get_or s.words 1 0 in
       let here : found ≡ r.serving = ap (λ (ws : List ℕ). get_or ws 1 0) r.words in
@@ -245,7 +398,8 @@ module _ {T E O : Type 0} (origin : T → O) (stands : T → List E → Type 0) 
       let fit : Fits first turns r.serving r.log s.homes v = r.each_view id v at in
       let early = fit.early in
       let no_kept : counts v.kept ≡ 0 = ap counts no_value in
-      let some_view : v ≢ spent_view = λ e. let d : Some n ≡ None = sym ticket ∙ ap (λ (u : V). u.ticket) e in absurd (cc d) in
+      let some_view : v ≢ spent_view = λ e. let d : Some n ≡ None = sym ticket
+      ∙ ap (λ (u : V). u.ticket) e in absurd (cc d) in
       dite (ℕ_discrete found n)
       (λ (hit : found ≡ n).
       let served : v.ticket ≡ Some r.serving = ticket ∙ ap Some (sym hit ∙ here) in
@@ -254,27 +408,54 @@ module _ {T E O : Type 0} (origin : T → O) (stands : T → List E → Type 0) 
         w,
         takes 0 (Some home.0),
         ap (λ (hs : Homes). get_elem? hs 0) home.1,
-        subst (λ (ws : List ℕ). Rule record { words = set ws 1 (get_or ws 1 0); homes = set s.homes 0 none; views = set s.views id w }) (sym r.words)
-            (subst (λ (hs : Homes). Rule record { words = r.ticket ∷ r.serving ∷ length r.log ∷ []; homes = set hs 0 none; views = set s.views id w }) (sym home.1)
-            (taken s r id v w r.ticket at (omega arith) (omega arith) (λ k. inl (omega arith)) (omega arith) (omega arith) (omega arith) (r.heard id v at) refl (of_same v w refl some_view v.origin fit.of) fit.counted served refl refl fit.prefix fit.begins fit.own (omega (arith, fit.some_own)))),
-        λ k e. match_true (found == k) _ _ (eq-eqb found k (hit ∙ some_same v.ticket n k ticket e)) (home.0, r.log, refl, has_origin v (origin home.0) v.origin some_view fit.of home.2, home.3, fit.prefix),
+        subst (λ (ws : List ℕ). Rule record {
+          words = set ws 1 (get_or ws 1 0);
+          homes = set s.homes 0 none;
+          views = set s.views id w;
+        }) (sym r.words)
+            (subst (λ (hs : Homes). Rule record {
+              words = r.ticket ∷ r.serving ∷ length r.log ∷ [];
+              homes = set hs 0 none;
+              views = set s.views id w;
+            }) (sym home.1)
+            (taken s r id v w r.ticket at (omega arith) (omega arith) (λ k. inl (omega arith))
+            (omega arith) (omega arith) (omega arith) (r.heard id v at) refl
+            (of_same v w refl some_view v.origin fit.of) fit.counted served refl refl fit.prefix
+            fit.begins fit.own (omega (arith, fit.some_own)))),
+        λ k e. match_true (found == k) _ _ (eq-eqb found k (hit ∙ some_same v.ticket n k ticket e)) (
+          home.0,
+          r.log,
+          refl,
+          has_origin v (origin home.0) v.origin some_view fit.of home.2,
+          home.3,
+          fit.prefix,
+        ),
       ))
       (λ (miss : found ≢ n). (
         v,
         keeps,
         tt,
-        subst (λ (ws : List ℕ). Rule record { words = set ws 1 (get_or ws 1 0); homes = s.homes; views = set s.views id v }) (sym r.words)
-            (moved s r id v v r.ticket r.serving r.log s.homes at (omega arith) (omega arith) (λ k. inl (omega arith)) (omega arith) (omega arith) (omega arith) (omega (arith, r.heard id v at)) (λ k. refl) fit (λ j u _ e. r.each_view j u e)
+        subst (λ (ws : List ℕ). Rule record {
+          words = set ws 1 (get_or ws 1 0);
+          homes = s.homes;
+          views = set s.views id v;
+        }) (sym r.words)
+            (moved s r id v v r.ticket r.serving r.log s.homes at (omega arith) (omega arith)
+            (λ k. inl (omega arith)) (omega arith) (omega arith) (omega arith)
+            (omega (arith, r.heard id v at)) (λ k. refl) fit (λ j u _ e. r.each_view j u e)
             (slot_stays r.log s.homes s.views id v v at refl r.slot)),
-        λ k e. match_false (found == k) _ _ (ne_eqb found k (λ same. miss (same ∙ sym (some_same v.ticket n k ticket e)))) refl,
+        λ k e. match_false (found == k) _ _ (ne_eqb found k
+            (λ same. miss (same ∙ sym (some_same v.ticket n k ticket e)))) refl,
       ))
 
   -- the slot is one place
-  one_place : (log : List E) (homes : Homes) (views : List V) → HomeOrOut log homes views → (x : maybe.Option (Option T)) × (homes ≡ x ∷ [])
+  one_place : (log : List E) (homes : Homes) (views : List V) → HomeOrOut log homes views
+      → (x : maybe.Option (Option T)) × (homes ≡ x ∷ [])
   one_place log homes views (inl home) = (some (Some home.0), home.1)
   one_place log homes views (inr out) = (none, out.3)
 
-  pub ends : (slots id : ℕ) (me : M) (x : T) (h : List E) → turns ≤ 2 ^ 62 → me.1 ≡ (0, Some x) ∷ [] → me.0.kept ≡ Some h → me.0.origin ≡ Some (origin x) → stands x (with_added h me.0.added)
+  pub ends : (slots id : ℕ) (me : M) (x : T) (h : List E) → turns ≤ 2 ^ 62 → me.1 ≡ (0, Some x) ∷ []
+      → me.0.kept ≡ Some h → me.0.origin ≡ Some (origin x) → stands x (with_added h me.0.added)
       → Allows Rule slots id me 1 (λ n. (n + 1) % 2 ^ 64) (Ends (step slots 1 1 0 none) me)
   ends slots id me x h small carries value o st s r long at fits =
       let v : V = me.0 in
@@ -292,19 +473,60 @@ module _ {T E O : Type 0} (origin : T → O) (stands : T → List E → Type 0) 
         w,
         gives,
         tt,
-        subst (λ (ws : List ℕ). Rule record { words = set ws 1 ((get_or ws 1 0 + 1) % 2 ^ 64); homes = put_back s.homes me.1; views = set s.views id w }) (sym r.words)
-            (subst (λ (cs : List (ℕ × Option T)). Rule record { words = r.ticket ∷ ((r.serving + 1) % 2 ^ 64) ∷ length r.log ∷ []; homes = put_back s.homes cs; views = set s.views id w }) (sym carries)
-            (subst (λ (hs : Homes). Rule record { words = r.ticket ∷ ((r.serving + 1) % 2 ^ 64) ∷ length r.log ∷ []; homes = set hs 0 (some (Some x)); views = set s.views id w }) (sym place.1)
-            (subst (λ (n : ℕ). Rule record { words = r.ticket ∷ n ∷ length r.log ∷ []; homes = some (Some x) ∷ []; views = set s.views id w }) (sym up)
-            (moved s r id v w r.ticket (r.serving + 1) r.log (some (Some x) ∷ []) at (omega arith) (omega arith) (λ n. inl (omega arith)) (omega arith) (omega arith) (omega arith) (omega (arith, r.heard id v at)) (λ k. refl)
-            (record { of = of_same v w refl some_view v.origin fit.of; counted = omega arith; holding = λ k e. absurd (not_both w.kept k refl e); early = omega arith; prefix = fit.prefix; begins = fit.begins; own = fit.own; some_own = omega (arith, fit.some_own) })
-            (λ j u other there. let known : Fits first turns r.serving r.log s.homes u = r.each_view j u there in
-            record { of = known.of; counted = known.counted; holding = λ k e. absurd (other (one_seat s r id j v u r.serving at there served (known.holding k e).0)); early = known.early; prefix = known.prefix; begins = known.begins; own = known.own; some_own = known.some_own })
+        subst (λ (ws : List ℕ). Rule record {
+          words = set ws 1 ((get_or ws 1 0 + 1) % 2 ^ 64);
+          homes = put_back s.homes me.1;
+          views = set s.views id w;
+        }) (sym r.words)
+            (subst (λ (cs : List (ℕ × Option T)). Rule record {
+              words =
+                  r.ticket ∷ ((r.serving + 1) % 2 ^ 64) ∷ length r.log ∷ [];
+              homes = put_back s.homes cs;
+              views = set s.views id w;
+            }) (sym carries)
+            (subst (λ (hs : Homes). Rule record {
+              words =
+                  r.ticket ∷ ((r.serving + 1) % 2 ^ 64) ∷ length r.log ∷ [];
+              homes = set hs 0 (some (Some x));
+              views = set s.views id w;
+            }) (sym place.1)
+            (subst (λ (n : ℕ). Rule record {
+              words = r.ticket ∷ n ∷ length r.log ∷ [];
+              homes = some (Some x) ∷ [];
+              views = set s.views id w;
+            }) (sym up)
+            (moved s r id v w r.ticket (r.serving + 1) r.log (some (Some x) ∷ []) at (omega arith)
+            (omega arith) (λ n. inl (omega arith)) (omega arith) (omega arith) (omega arith)
+            (omega (arith, r.heard id v at)) (λ k. refl)
+            (record {
+              of = of_same v w refl some_view v.origin fit.of;
+              counted = omega arith;
+              holding = λ k e. absurd (not_both w.kept k refl e);
+              early = omega arith;
+              prefix = fit.prefix;
+              begins = fit.begins;
+              own = fit.own;
+              some_own = omega (arith, fit.some_own);
+            })
+            (λ j u other there. let known : Fits first turns r.serving r.log s.homes u =
+            r.each_view j u there in
+            record {
+              of = known.of;
+              counted = known.counted;
+              holding = λ k e. absurd (other
+                  (one_seat s r id j v u r.serving at there served (known.holding k e).0));
+              early = known.early;
+              prefix = known.prefix;
+              begins = known.begins;
+              own = known.own;
+              some_own = known.some_own;
+            })
             (inl (x, refl, mine, subst (stands x) (sym hold.2) st)))))),
         refl,
       )
 
-  adds_one : (slots id : ℕ) (me : M) (h : List E) (e : E) → turns ≤ 2 ^ 62 → me.0.kept ≡ Some h → me.0.added ≡ None
+  adds_one : (slots id : ℕ) (me : M) (h : List E) (e : E) → turns ≤ 2 ^ 62 → me.0.kept ≡ Some h
+      → me.0.added ≡ None
       → Allows Rule slots id me 2 (λ n. (n + 1) % 2 ^ 64) (Adds (Some e) (step slots 2 1 0 none) me)
   adds_one slots id me h e small value nothing s r long at fits =
       let v : V = me.0 in
@@ -319,130 +541,283 @@ module _ {T E O : Type 0} (origin : T → O) (stands : T → List E → Type 0) 
       let some_kept : counts v.kept ≡ 1 = counts-some h v.kept value in
       let some_view : v ≢ spent_view = λ d. not_both v.kept h (ap (λ (u : V). u.kept) d) value in
       let here : get_or s.words 2 0 ≡ length r.log = ap (λ (ws : List ℕ). get_or ws 2 0) r.words in
-      let own_one_more : total (own_lists w) ≡ total (own_lists v) + 1 = omega (arith, length-append v.own (mark r.log e ∷ [])) in
-      let own : AllStand log (own_lists w) = (stand_last r.log e 0 v.own (omega arith) fit.own.0, all_on r.log log v.joined (e ∷ [], refl) fit.own.1) in
+      let own_one_more : total (own_lists w) ≡ total (own_lists v) + 1 =
+      omega (arith, length-append v.own (mark r.log e ∷ [])) in
+      let own : AllStand log (own_lists w) = (
+        stand_last r.log e 0 v.own (omega arith) fit.own.0,
+        all_on r.log log v.joined (e ∷ [], refl) fit.own.1,
+      ) in
       let longer : length log ≡ length r.log + 1 = length-append r.log (e ∷ []) in
-      let up : (length r.log + 1) % 2 ^ 64 ≡ length log = omega (arith, r.bounded, r.few, one_of pending s.views id v at) in (
+      let up : (length r.log + 1) % 2 ^ 64 ≡ length log =
+      omega (arith, r.bounded, r.few, one_of pending s.views id v at) in (
         w,
         keeps,
         tt,
-        subst (λ (ws : List ℕ). Rule record { words = set ws 2 ((get_or ws 2 0 + 1) % 2 ^ 64); homes = s.homes; views = set s.views id w }) (sym r.words)
-            (subst (λ (n : ℕ). Rule record { words = r.ticket ∷ r.serving ∷ n ∷ []; homes = s.homes; views = set s.views id w }) (sym up)
-            (moved s r id v w r.ticket r.serving log s.homes at (omega arith) (omega arith) (λ n. inl (omega arith)) (omega arith) (omega arith) (omega arith) (omega (arith, r.heard id v at)) (λ k. omega (arith, one_more r.log e k, times_last k v.own (mark r.log e)))
+        subst (λ (ws : List ℕ). Rule record {
+          words = set ws 2 ((get_or ws 2 0 + 1) % 2 ^ 64);
+          homes = s.homes;
+          views = set s.views id w;
+        }) (sym r.words)
+            (subst (λ (n : ℕ). Rule record {
+              words = r.ticket ∷ r.serving ∷ n ∷ [];
+              homes = s.homes;
+              views = set s.views id w;
+            }) (sym up)
+            (moved s r id v w r.ticket r.serving log s.homes at (omega arith) (omega arith)
+            (λ n. inl (omega arith)) (omega arith) (omega arith) (omega arith)
+            (omega (arith, r.heard id v at))
+            (λ k. omega (arith, one_more r.log e k, times_last k v.own (mark r.log e)))
             (record {
               of = of_same v w refl some_view v.origin fit.of;
               counted = fit.counted;
-              holding = λ k d. (served, hold.1, ap (λ (l : List E). l ++ e ∷ []) (log_is ∙ some_same v.kept h k value d));
+              holding = λ k d. (
+                served,
+                hold.1,
+                ap (λ (l : List E). l ++ e ∷ []) (log_is ∙ some_same v.kept h k value d),
+              );
               early = omega arith;
               prefix = prefix_self log;
-              begins = prefix_trans v.beginning v.seen log fit.begins (prefix_trans v.seen r.log log fit.prefix (e ∷ [], refl));
+              begins = prefix_trans v.beginning v.seen log fit.begins
+                  (prefix_trans v.seen r.log log fit.prefix (e ∷ [], refl));
               own = own;
               some_own = omega (arith, fit.some_own);
             })
-            (λ j u other there. let known : Fits first turns r.serving r.log s.homes u = r.each_view j u there in
-            record { of = known.of; counted = known.counted; holding = λ k d. absurd (other (one_seat s r id j v u r.serving at there served (known.holding k d).0)); early = known.early; prefix = prefix_trans u.seen r.log log known.prefix (e ∷ [], refl); begins = known.begins; own = all_on r.log log (own_lists u) (e ∷ [], refl) known.own; some_own = known.some_own })
+            (λ j u other there. let known : Fits first turns r.serving r.log s.homes u =
+            r.each_view j u there in
+            record {
+              of = known.of;
+              counted = known.counted;
+              holding = λ k d. absurd (other
+                  (one_seat s r id j v u r.serving at there served (known.holding k d).0));
+              early = known.early;
+              prefix =
+                  prefix_trans u.seen r.log log known.prefix (e ∷ [], refl);
+              begins = known.begins;
+              own = all_on r.log log (own_lists u) (e ∷ [], refl) known.own;
+              some_own = known.some_own;
+            })
             (slot_goes_on r.log log s.homes s.views id v w at refl hold.1 r.slot))),
-        λ k d. let same : r.log ≡ k = log_is ∙ some_same v.kept h k value d in (ap (λ (l : List E). (adding v l (Some e), me.1)) same, sym (here ∙ ap length same), subst (λ (l : List E). AllStand (with_added l (Some e)) (own_lists (adding v l (Some e)))) same own),
+        λ k d. let same : r.log ≡ k = log_is ∙ some_same v.kept h k value d in (
+          ap (λ (l : List E). (adding v l (Some e), me.1)) same,
+          sym (here ∙ ap length same),
+          subst (λ (l : List E). AllStand (with_added l (Some e))
+              (own_lists (adding v l (Some e)))) same own,
+        ),
       )
 
-  pub adds : (slots id : ℕ) (me : M) (h : List E) (named : Option E) (e : E) → named ≡ Some e → turns ≤ 2 ^ 62 → me.0.kept ≡ Some h → me.0.added ≡ None
+  pub adds : (slots id : ℕ) (me : M) (h : List E) (named : Option E) (e : E) → named ≡ Some e
+      → turns ≤ 2 ^ 62 → me.0.kept ≡ Some h → me.0.added ≡ None
       → Allows Rule slots id me 2 (λ n. (n + 1) % 2 ^ 64) (Adds named (step slots 2 1 0 none) me)
-  adds slots id me h named e is small value nothing = subst (λ (x : Option E). Allows Rule slots id me 2 (λ n. (n + 1) % 2 ^ 64) (Adds x (step slots 2 1 0 none) me)) (sym is) (adds_one slots id me h e small value nothing)
+  adds slots id me h named e is small value nothing =
+      subst (λ (x : Option E). Allows Rule slots id me 2 (λ n. (n + 1) % 2 ^ 64)
+      (Adds x (step slots 2 1 0 none) me)) (sym is) (adds_one slots id me h e small value nothing)
 
-  pub sees : (slots id : ℕ) (me : M) (o : O) → me.0.origin ≡ Some o → Allows Rule slots id me 2 (λ k. k) (Sees (step slots 2 0 0 none) me)
+  pub sees : (slots id : ℕ) (me : M) (o : O) → me.0.origin ≡ Some o
+      → Allows Rule slots id me 2 (λ k. k) (Sees (step slots 2 0 0 none) me)
   sees slots id me o is s r long at fits =
       let v : V = me.0 in
       let w : V = seeing v r.log in
       let fit : Fits first turns r.serving r.log s.homes v = r.each_view id v at in
       let here : get_or s.words 2 0 ≡ length r.log = ap (λ (ws : List ℕ). get_or ws 2 0) r.words in
-      let some_view : v ≢ spent_view = λ e. let d : Some o ≡ None = sym is ∙ ap (λ (u : V). u.origin) e in absurd (cc d) in (
+      let some_view : v ≢ spent_view = λ e. let d : Some o ≡ None = sym is
+      ∙ ap (λ (u : V). u.origin) e in absurd (cc d) in (
         w,
         keeps,
         tt,
-        subst (λ (ws : List ℕ). Rule record { words = set ws 2 (get_or ws 2 0); homes = s.homes; views = set s.views id w }) (sym r.words)
-            (moved s r id v w r.ticket r.serving r.log s.homes at (omega arith) (omega arith) (λ k. inl (omega arith)) (omega arith) (omega arith) (omega arith) (omega (arith, r.heard id v at)) (λ k. refl)
-            (record { of = of_same v w refl some_view v.origin fit.of; counted = fit.counted; holding = fit.holding; early = fit.early; prefix = prefix_self r.log; begins = prefix_trans v.beginning v.seen r.log fit.begins fit.prefix; own = fit.own; some_own = fit.some_own })
+        subst (λ (ws : List ℕ). Rule record {
+          words = set ws 2 (get_or ws 2 0);
+          homes = s.homes;
+          views = set s.views id w;
+        }) (sym r.words)
+            (moved s r id v w r.ticket r.serving r.log s.homes at (omega arith) (omega arith)
+            (λ k. inl (omega arith)) (omega arith) (omega arith) (omega arith)
+            (omega (arith, r.heard id v at)) (λ k. refl)
+            (record {
+              of = of_same v w refl some_view v.origin fit.of;
+              counted = fit.counted;
+              holding = fit.holding;
+              early = fit.early;
+              prefix = prefix_self r.log;
+              begins = prefix_trans v.beginning v.seen r.log fit.begins fit.prefix;
+              own = fit.own;
+              some_own = fit.some_own;
+            })
             (λ j u _ e. r.each_view j u e)
             (slot_stays r.log s.homes s.views id v w at refl r.slot)),
         (r.log, refl, sym here, fit.prefix, fit.own, λ h k. (fit.holding h k).2),
       )
 
   -- the turns of one view are at most all turns
-  few_turns : (s : S) (r : Rule s) (id : ℕ) (v : V) → get_elem? s.views id ≡ some v → v.left + r.ticket ≤ turns + 1
+  few_turns : (s : S) (r : Rule s) (id : ℕ) (v : V) → get_elem? s.views id ≡ some v
+      → v.left + r.ticket ≤ turns + 1
   few_turns s r id v at = omega (arith, one_of (λ (u : V). u.left) s.views id v at, r.bounded)
 
-  all_turns : (v : V) (n : ℕ) → v ≢ spent_view → (o : Option O) → IsOf first turns v o → n ≤ turns + 1 → n ≤ v.turns + 1
+  all_turns : (v : V) (n : ℕ) → v ≢ spent_view → (o : Option O) → IsOf first turns v o
+      → n ≤ turns + 1 → n ≤ v.turns + 1
   all_turns v n some_view (Some o) k l = omega (arith, k.1)
   all_turns v n some_view None k l = absurd (some_view k)
 
-  pub learns : (slots id : ℕ) (me : M) (o : O) → me.0.origin ≡ Some o → Allows Rule slots id me 0 (λ k. k) (Learns (step slots 0 0 0 none) me)
+  pub learns : (slots id : ℕ) (me : M) (o : O) → me.0.origin ≡ Some o
+      → Allows Rule slots id me 0 (λ k. k) (Learns (step slots 0 0 0 none) me)
   learns slots id me o is s r long at fits =
       let v : V = me.0 in
       let fit : Fits first turns r.serving r.log s.homes v = r.each_view id v at in
-      let some_view : v ≢ spent_view = λ e. let d : Some o ≡ None = sym is ∙ ap (λ (u : V). u.origin) e in absurd (cc d) in (
+      let some_view : v ≢ spent_view = λ e. let d : Some o ≡ None = sym is
+      ∙ ap (λ (u : V). u.origin) e in absurd (cc d) in (
         v,
         keeps,
         tt,
-        subst (λ (ws : List ℕ). Rule record { words = set ws 0 (get_or ws 0 0); homes = s.homes; views = set s.views id v }) (sym r.words)
-            (moved s r id v v r.ticket r.serving r.log s.homes at (omega arith) (omega arith) (λ k. inl (omega arith)) (omega arith) (omega arith) (omega arith) (omega (arith, r.heard id v at)) (λ k. refl) fit (λ j u _ e. r.each_view j u e)
+        subst (λ (ws : List ℕ). Rule record {
+          words = set ws 0 (get_or ws 0 0);
+          homes = s.homes;
+          views = set s.views id v;
+        }) (sym r.words)
+            (moved s r id v v r.ticket r.serving r.log s.homes at (omega arith) (omega arith)
+            (λ k. inl (omega arith)) (omega arith) (omega arith) (omega arith)
+            (omega (arith, r.heard id v at)) (λ k. refl) fit (λ j u _ e. r.each_view j u e)
             (slot_stays r.log s.homes s.views id v v at refl r.slot)),
-        (refl, all_turns v (v.left + v.entered) some_view v.origin fit.of (omega (arith, few_turns s r id v at, one_of (λ (u : V). u.entered) s.views id v at, r.entered)), fit.begins),
+        (
+          refl,
+          all_turns v (v.left + v.entered) some_view v.origin fit.of
+              (omega (
+                arith,
+                few_turns s r id v at,
+                one_of (λ (u : V). u.entered) s.views id v at,
+                r.entered,
+              )),
+          fit.begins,
+        ),
       )
 
   -- the sum over the views of a seat whose view is cut in two
-  split_sum : (f : V → ℕ) (views : List V) (id : ℕ) (v left right : V) → get_elem? views id ≡ some v → sum_by f (set views id left ++ right ∷ []) + f v ≡ sum_by f views + (f left + f right)
-  split_sum f views id v left right at = omega (arith, sum_set f views id v left at, sum_by-append f (set views id left) (right ∷ []), sum_by-cons f right [])
+  split_sum : (f : V → ℕ) (views : List V) (id : ℕ) (v left right : V) → get_elem? views id ≡ some v
+      → sum_by f (set views id left ++ right ∷ []) + f v ≡ sum_by f views + (f left + f right)
+  split_sum f views id v left right at = omega (
+    arith,
+    sum_set f views id v left at,
+    sum_by-append f (set views id left) (right ∷ []),
+    sum_by-cons f right [],
+  )
 
-  pub splits : (id : ℕ) (v : V) (n : ℕ) (o : O) → n ≤ v.left → v.origin ≡ Some o → Splits Rule id v (giving v n) (given v n)
+  pub splits : (id : ℕ) (v : V) (n : ℕ) (o : O) → n ≤ v.left → v.origin ≡ Some o
+      → Splits Rule id v (giving v n) (given v n)
   splits id v n o few is s r at =
       let left : V = giving v n in
       let right : V = given v n in
       let fit : Fits first turns r.serving r.log s.homes v = r.each_view id v at in
-      let some_view : v ≢ spent_view = λ e. let d : Some o ≡ None = sym is ∙ ap (λ (u : V). u.origin) e in absurd (cc d) in
+      let some_view : v ≢ spent_view = λ e. let d : Some o ≡ None = sym is
+      ∙ ap (λ (u : V). u.origin) e in absurd (cc d) in
       record {
         ticket = r.ticket;
         serving = r.serving;
         log = r.log;
         words = r.words;
-        waiting = omega (arith, split_sum (λ (u : V). counts u.ticket) s.views id v left right at, r.waiting);
-        once = λ k. omega (arith, split_sum (λ (u : V). is_ticket k u.ticket) s.views id v left right at, r.once k);
-        undrawn = λ k l. omega (arith, split_sum (λ (u : V). is_ticket k u.ticket) s.views id v left right at, r.undrawn k l);
-        entered = omega (arith, split_sum (λ (u : V). u.entered) s.views id v left right at, r.entered);
+        waiting = omega (
+          arith,
+          split_sum (λ (u : V). counts u.ticket) s.views id v left right at,
+          r.waiting,
+        );
+        once = λ k. omega (
+          arith,
+          split_sum (λ (u : V). is_ticket k u.ticket) s.views id v left
+              right at,
+          r.once k,
+        );
+        undrawn = λ k l. omega (
+          arith,
+          split_sum (λ (u : V). is_ticket k u.ticket) s.views id v left right at,
+          r.undrawn k l,
+        );
+        entered = omega (
+          arith,
+          split_sum (λ (u : V). u.entered) s.views id v left right at,
+          r.entered,
+        );
         heard = λ j u e. ⊎_elim
-            (λ (here : get_elem? (set s.views id left) j ≡ some u). ⊎_elim (λ (t : (j ≡ id) × (left ≡ u)). subst (λ (x : V). x.found ≤ r.ticket) t.1 (r.heard id v at)) (λ (t : (j ≢ id) × (get_elem? s.views j ≡ some u)). r.heard j u t.1) (at_set s.views id j left u here))
-            (λ (new : right ≡ u). subst (λ (x : V). x.found ≤ r.ticket) new (r.heard id v at)) (at_snoc (set s.views id left) right u j e);
-        once_each = λ k. omega (arith, split_sum (λ (u : V). times k (own_lists u)) s.views id v left right at, r.once_each k);
+            (λ (here : get_elem? (set s.views id left) j ≡ some u). ⊎_elim
+            (λ (t : (j ≡ id) × (left ≡ u)). subst (λ (x : V). x.found ≤ r.ticket) t.1
+            (r.heard id v at)) (λ (t : (j ≢ id) × (get_elem? s.views j ≡ some u)). r.heard j u
+            t.1) (at_set s.views id j left u here))
+            (λ (new : right ≡ u). subst (λ (x : V). x.found ≤ r.ticket) new (r.heard id v at))
+            (at_snoc (set s.views id left) right u j e);
+        once_each = λ k. omega (
+          arith,
+          split_sum (λ (u : V). times k (own_lists u)) s.views id v left right at,
+          r.once_each k,
+        );
         few = omega (arith, split_sum pending s.views id v left right at, r.few);
-        bounded = omega (arith, split_sum (λ (u : V). u.left) s.views id v left right at, r.bounded);
+        bounded = omega (
+          arith,
+          split_sum (λ (u : V). u.left) s.views id v left right at,
+          r.bounded,
+        );
         each_view = λ j u e. ⊎_elim
             (λ (here : get_elem? (set s.views id left) j ≡ some u). ⊎_elim
-            (λ (t : (j ≡ id) × (left ≡ u)). subst (Fits first turns r.serving r.log s.homes) t.1 (record { of = of_same v left refl some_view v.origin fit.of; counted = fit.counted; holding = fit.holding; early = fit.early; prefix = fit.prefix; begins = fit.begins; own = fit.own; some_own = fit.some_own }))
-            (λ (t : (j ≢ id) × (get_elem? s.views j ≡ some u)). r.each_view j u t.1) (at_set s.views id j left u here))
-            (λ (new : right ≡ u). subst (Fits first turns r.serving r.log s.homes) new (record { of = of_same v right refl some_view v.origin fit.of; counted = omega arith; holding = λ h k. absurd (not_both right.kept h refl k); early = omega arith; prefix = fit.prefix; begins = fit.begins; own = (tt, tt); some_own = omega arith }))
+            (λ (t : (j ≡ id) × (left ≡ u)). subst (Fits first turns r.serving r.log s.homes) t.1
+            (record {
+              of = of_same v left refl some_view v.origin fit.of;
+              counted = fit.counted;
+              holding = fit.holding;
+              early = fit.early;
+              prefix = fit.prefix;
+              begins = fit.begins;
+              own = fit.own;
+              some_own = fit.some_own;
+            }))
+            (λ (t : (j ≢ id) × (get_elem? s.views j ≡ some u)). r.each_view j u t.1)
+            (at_set s.views id j left u here))
+            (λ (new : right ≡ u). subst (Fits first turns r.serving r.log s.homes) new
+            (record {
+              of = of_same v right refl some_view v.origin fit.of;
+              counted = omega arith;
+              holding = λ h k. absurd (not_both right.kept h refl k);
+              early = omega arith;
+              prefix = fit.prefix;
+              begins = fit.begins;
+              own = (tt, tt);
+              some_own = omega arith;
+            }))
             (at_snoc (set s.views id left) right u j e);
-        slot = longer_views r.log s.homes (set s.views id left) right (slot_stays r.log s.homes s.views id v left at refl r.slot);
+        slot = longer_views r.log s.homes (set s.views id left) right
+            (slot_stays r.log s.homes s.views id v left at refl r.slot);
       }
 
   pub stubs : (id : ℕ) (v : V) (o : O) → v.origin ≡ Some o → Splits Rule id v v (given v 0)
   stubs id v o is =
       let e : v.left - 0 ≡ v.left = omega arith in
-      subst (λ (u : V). Splits Rule id v u (given v 0)) (λ i. record v { left = e i }) (splits id v 0 o (omega arith) is)
+      subst (λ (u : V). Splits Rule id v u (given v 0)) (λ i. record v { left = e i })
+      (splits id v 0 o (omega arith) is)
 
   -- the sum over the views where one seat takes in another
-  join_sum : (f : V → ℕ) (views : List V) (id other : ℕ) (v w both_views : V) → get_elem? views id ≡ some v → get_elem? (set views id both_views) other ≡ some w
-      → (sum_by f (set (set views id both_views) other spent_view) + f v) + f w ≡ (sum_by f views + f both_views) + f spent_view
-  join_sum f views id other v w both_views at there = omega (arith, sum_set f views id v both_views at, sum_set f (set views id both_views) other w spent_view there)
+  join_sum : (f : V → ℕ) (views : List V) (id other : ℕ) (v w both_views : V)
+      → get_elem? views id ≡ some v → get_elem? (set views id both_views) other ≡ some w
+      → (sum_by f (set (set views id both_views) other spent_view) + f v) + f w
+      ≡ (sum_by f views + f both_views) + f spent_view
+  join_sum f views id other v w both_views at there =
+      omega (
+        arith,
+        sum_set f views id v both_views at,
+        sum_set f (set views id both_views) other w spent_view there,
+      )
 
-  pub joins : (id other : ℕ) (v w u : V) (o : O) → v.origin ≡ Some o → v.ticket ≡ None → w.ticket ≡ None → v.kept ≡ None → w.kept ≡ None
-      → u.origin ≡ v.origin → u.turns ≡ v.turns → u.ticket ≡ None → u.kept ≡ None → u.added ≡ v.added → u.left ≡ v.left + w.left → u.entered ≡ v.entered + w.entered → u.found ≡ v.found
+  pub joins : (id other : ℕ) (v w u : V) (o : O) → v.origin ≡ Some o → v.ticket ≡ None
+      → w.ticket ≡ None → v.kept ≡ None → w.kept ≡ None
+      → u.origin ≡ v.origin → u.turns ≡ v.turns → u.ticket ≡ None → u.kept ≡ None
+      → u.added ≡ v.added → u.left ≡ v.left + w.left → u.entered ≡ v.entered + w.entered
+      → u.found ≡ v.found
       → ((l : List E) → IsPrefix v.seen l → IsPrefix w.seen l → IsPrefix u.seen l)
-      → ((l : List E) → IsPrefix v.seen l → IsPrefix w.seen l → IsPrefix v.beginning v.seen → IsPrefix u.beginning u.seen)
-      → ((l : List E) → AllStand l (own_lists v) → AllStand l (own_lists w) → AllStand l (own_lists u))
-      → ((k : ℕ) → times k (own_lists u) ≡ times k (own_lists v) + times k (own_lists w)) → total (own_lists u) ≤ total (own_lists v) + total (own_lists w)
+      → ((l : List E) → IsPrefix v.seen l → IsPrefix w.seen l → IsPrefix v.beginning v.seen
+      → IsPrefix u.beginning u.seen)
+      → ((l : List E) → AllStand l (own_lists v) → AllStand l (own_lists w)
+      → AllStand l (own_lists u))
+      → ((k : ℕ) → times k (own_lists u) ≡ times k (own_lists v) + times k (own_lists w))
+      → total (own_lists u) ≤ total (own_lists v) + total (own_lists w)
       → Joins Rule id v other w u spent_view
-  joins id other v w u o is v_ticket w_ticket v_value w_value u_origin u_turns u_ticket u_value u_added u_left u_entered u_found u_seen u_begins u_own u_times u_total s r at apart there =
+  joins id other v w u o is v_ticket w_ticket v_value w_value u_origin u_turns u_ticket u_value
+      u_added u_left u_entered u_found u_seen u_begins u_own u_times u_total s r at apart there =
       let fit : Fits first turns r.serving r.log s.homes v = r.each_view id v at in
-      let some_view : v ≢ spent_view = λ e. let d : Some o ≡ None = sym is ∙ ap (λ (x : V). x.origin) e in absurd (cc d) in
+      let some_view : v ≢ spent_view = λ e. let d : Some o ≡ None = sym is
+      ∙ ap (λ (x : V). x.origin) e in absurd (cc d) in
       let views : List V = set (set s.views id u) other spent_view in
       let no_v : counts v.ticket ≡ 0 = ap counts v_ticket in
       let no_w : counts w.ticket ≡ 0 = ap counts w_ticket in
@@ -450,92 +825,255 @@ module _ {T E O : Type 0} (origin : T → O) (stands : T → List E → Type 0) 
       let no_kept : counts v.kept ≡ 0 = ap counts v_value in
       let early = fit.early in
       let same_added : counts u.added ≡ counts v.added = ap counts u_added in
-      let other_there = ⊎_elim (λ (t : (other ≡ id) × (u ≡ w)). absurd (apart t.0)) (λ (t : (other ≢ id) × (get_elem? s.views other ≡ some w)). t.1) (at_set s.views id other u w there) in
-      let other_fit : Fits first turns r.serving r.log s.homes w = r.each_view other w other_there in
-      let tickets = λ (k : ℕ). join_sum (λ (x : V). is_ticket k x.ticket) s.views id other v w u at there in
+      let other_there = ⊎_elim (λ (t : (other ≡ id) × (u ≡ w)). absurd (apart t.0))
+      (λ (t : (other ≢ id) × (get_elem? s.views other ≡ some w)). t.1)
+      (at_set s.views id other u w there) in
+      let other_fit : Fits first turns r.serving r.log s.homes w =
+      r.each_view other w other_there in
+      let tickets = λ (k : ℕ). join_sum (λ (x : V). is_ticket k x.ticket) s.views id other v w u at
+      there in
       let none_of = λ (k : ℕ) (x : V) (e : x.ticket ≡ None). ap (is_ticket k) e in
       record {
         ticket = r.ticket;
         serving = r.serving;
         log = r.log;
         words = r.words;
-        waiting = omega (arith, join_sum (λ (x : V). counts x.ticket) s.views id other v w u at there, r.waiting, no_v, no_w, no_u);
-        once = λ k. omega (arith, tickets k, r.once k, none_of k v v_ticket, none_of k w w_ticket, none_of k u u_ticket);
-        undrawn = λ k l. omega (arith, tickets k, r.undrawn k l, none_of k v v_ticket, none_of k w w_ticket, none_of k u u_ticket);
-        entered = omega (arith, join_sum (λ (x : V). x.entered) s.views id other v w u at there, r.entered);
-        heard = λ j x e. ⊎_elim (λ (t : (j ≡ other) × (spent_view ≡ x)). subst (λ (y : V). y.found ≤ r.ticket) t.1 (omega arith))
-            (λ (t : (j ≢ other) × (get_elem? (set s.views id u) j ≡ some x)). ⊎_elim (λ (h : (j ≡ id) × (u ≡ x)). subst (λ (y : V). y.found ≤ r.ticket) h.1 (omega (arith, u_found, r.heard id v at)))
-            (λ (h : (j ≢ id) × (get_elem? s.views j ≡ some x)). r.heard j x h.1) (at_set s.views id j u x t.1))
+        waiting = omega (
+          arith,
+          join_sum (λ (x : V). counts x.ticket) s.views id other v w u at
+              there,
+          r.waiting,
+          no_v,
+          no_w,
+          no_u,
+        );
+        once = λ k. omega (
+          arith,
+          tickets k,
+          r.once k,
+          none_of k v v_ticket,
+          none_of k w w_ticket,
+          none_of k u u_ticket,
+        );
+        undrawn = λ k l. omega (
+          arith,
+          tickets k,
+          r.undrawn k l,
+          none_of k v v_ticket,
+          none_of k w w_ticket,
+          none_of k u u_ticket,
+        );
+        entered = omega (
+          arith,
+          join_sum (λ (x : V). x.entered) s.views id other v w u at there,
+          r.entered,
+        );
+        heard = λ j x e. ⊎_elim (λ (t : (j ≡ other) × (spent_view ≡ x)). subst
+            (λ (y : V). y.found ≤ r.ticket) t.1 (omega arith))
+            (λ (t : (j ≢ other) × (get_elem? (set s.views id u) j ≡ some x)). ⊎_elim
+            (λ (h : (j ≡ id) × (u ≡ x)). subst (λ (y : V). y.found ≤ r.ticket) h.1
+            (omega (arith, u_found, r.heard id v at)))
+            (λ (h : (j ≢ id) × (get_elem? s.views j ≡ some x)). r.heard j x h.1)
+            (at_set s.views id j u x t.1))
             (at_set (set s.views id u) other j spent_view x e);
-        once_each = λ k. omega (arith, join_sum (λ (x : V). times k (own_lists x)) s.views id other v w u at there, r.once_each k, u_times k);
-        few = omega (arith, join_sum pending s.views id other v w u at there, r.few, no_v, no_w, no_u);
-        bounded = omega (arith, join_sum (λ (x : V). x.left) s.views id other v w u at there, r.bounded);
+        once_each = λ k. omega (
+          arith,
+          join_sum (λ (x : V). times k (own_lists x)) s.views id other v w u at there,
+          r.once_each k,
+          u_times k,
+        );
+        few = omega (
+          arith,
+          join_sum pending s.views id other v w u at there,
+          r.few,
+          no_v,
+          no_w,
+          no_u,
+        );
+        bounded = omega (
+          arith,
+          join_sum (λ (x : V). x.left) s.views id other v w u at there,
+          r.bounded,
+        );
         each_view = λ j x e. ⊎_elim
-            (λ (t : (j ≡ other) × (spent_view ≡ x)). subst (Fits first turns r.serving r.log s.homes) t.1 (record { of = refl; counted = omega arith; holding = λ h k. absurd (not_both {A = List E} None h refl k); early = omega arith; prefix = (r.log, refl); begins = ([], refl); own = (tt, tt); some_own = omega arith }))
+            (λ (t : (j ≡ other) × (spent_view ≡ x)). subst
+            (Fits first turns r.serving r.log s.homes) t.1
+            (record {
+              of = refl;
+              counted = omega arith;
+              holding = λ h k. absurd (not_both {A = List E} None h refl k);
+              early = omega arith;
+              prefix = (r.log, refl);
+              begins = ([], refl);
+              own = (tt, tt);
+              some_own = omega arith;
+            }))
             (λ (t : (j ≢ other) × (get_elem? (set s.views id u) j ≡ some x)). ⊎_elim
             (λ (h : (j ≡ id) × (u ≡ x)). subst (Fits first turns r.serving r.log s.homes) h.1
-            (record { of = of_same v u u_turns some_view u.origin (subst (IsOf first turns v) (sym u_origin) fit.of); counted = omega arith; holding = λ k d. absurd (not_both u.kept k u_value d); early = omega arith; prefix = u_seen r.log fit.prefix other_fit.prefix; begins = u_begins r.log fit.prefix other_fit.prefix fit.begins; own = u_own r.log fit.own other_fit.own; some_own = omega (arith, fit.some_own, other_fit.some_own) }))
-            (λ (h : (j ≢ id) × (get_elem? s.views j ≡ some x)). r.each_view j x h.1) (at_set s.views id j u x t.1))
+            (record {
+              of = of_same v u u_turns some_view u.origin
+                  (subst (IsOf first turns v) (sym u_origin) fit.of);
+              counted = omega arith;
+              holding = λ k d. absurd (not_both u.kept k u_value d);
+              early = omega arith;
+              prefix = u_seen r.log fit.prefix other_fit.prefix;
+              begins = u_begins r.log fit.prefix other_fit.prefix fit.begins;
+              own = u_own r.log fit.own other_fit.own;
+              some_own = omega (arith, fit.some_own, other_fit.some_own);
+            }))
+            (λ (h : (j ≢ id) × (get_elem? s.views j ≡ some x)). r.each_view j x h.1)
+            (at_set s.views id j u x t.1))
             (at_set (set s.views id u) other j spent_view x e);
-        slot = slot_stays r.log s.homes (set s.views id u) other w spent_view there (sym w_value) (slot_stays r.log s.homes s.views id v u at (u_value ∙ sym v_value) r.slot);
+        slot = slot_stays r.log s.homes (set s.views id u) other w spent_view there (sym w_value)
+            (slot_stays r.log s.homes s.views id v u at (u_value ∙ sym v_value) r.slot);
       }
 
   -- where all turns were entered by one seat, which has no ticket, no view has one
-  none_drawn : (s : S) (r : Rule s) (id : ℕ) (v : V) → get_elem? s.views id ≡ some v → v.ticket ≡ None → v.entered ≡ r.ticket → (j : ℕ) (u : V) → get_elem? s.views j ≡ some u → counts u.ticket ≡ 0
+  none_drawn : (s : S) (r : Rule s) (id : ℕ) (v : V) → get_elem? s.views id ≡ some v
+      → v.ticket ≡ None → v.entered ≡ r.ticket → (j : ℕ) (u : V) → get_elem? s.views j ≡ some u
+      → counts u.ticket ≡ 0
   none_drawn s r id v at no_ticket all j u there = dite (ℕ_discrete j id)
-      (λ (e : j ≡ id). ap (λ (x : V). counts x.ticket) (same_view s.views id j v u e at there) ∙ ap counts no_ticket)
-      (λ (other : j ≢ id). omega (arith, two_of (λ (x : V). x.entered) s.views j id u v other there at, r.entered, (r.each_view j u there).counted))
+      (λ (e : j ≡ id). ap (λ (x : V). counts x.ticket) (same_view s.views id j v u e at there)
+      ∙ ap counts no_ticket)
+      (λ (other : j ≢ id). omega (
+        arith,
+        two_of (λ (x : V). x.entered) s.views j id u v other there at,
+        r.entered,
+        (r.each_view j u there).counted,
+      ))
 
   -- then the value is at home
-  home_at_end : (s : S) (r : Rule s) → ((j : ℕ) (u : V) → get_elem? s.views j ≡ some u → counts u.ticket ≡ 0) → HomeOrOut r.log s.homes s.views → IsHome origin stands first r.log s.homes
+  home_at_end : (s : S) (r : Rule s) → ((j : ℕ) (u : V) → get_elem? s.views j ≡ some u
+      → counts u.ticket ≡ 0) → HomeOrOut r.log s.homes s.views
+      → IsHome origin stands first r.log s.homes
   home_at_end s r none_of (inl home) = home
-  home_at_end s r none_of (inr out) = absurd (omega (arith, none_of out.0 out.1 out.4, counts-some r.serving out.1.ticket ((r.each_view out.0 out.1 out.4).holding out.2 out.5).0))
+  home_at_end s r none_of (inr out) =
+      absurd (omega (
+        arith,
+        none_of out.0 out.1 out.4,
+        counts-some r.serving out.1.ticket ((r.each_view out.0 out.1 out.4).holding out.2 out.5).0,
+      ))
 
   -- and its own lists make up the history
-  all_mine : (s : S) (r : Rule s) (id : ℕ) (v : V) → get_elem? s.views id ≡ some v → v.entered ≡ r.ticket → MakeUp r.log (own_lists v)
+  all_mine : (s : S) (r : Rule s) (id : ℕ) (v : V) → get_elem? s.views id ≡ some v
+      → v.entered ≡ r.ticket → MakeUp r.log (own_lists v)
   all_mine s r id v at all = record {
     stand = (r.each_view id v at).own;
     once = λ k. sym (sum_only (λ (u : V). times k (own_lists u)) s.views id v at (λ j u other there.
-        omega (arith, two_of (λ (x : V). x.entered) s.views j id u v other there at, r.entered, (r.each_view j u there).some_own, times_few k (own_lists u)))) ∙ r.once_each k;
+        omega (
+          arith,
+          two_of (λ (x : V). x.entered) s.views j id u v other there at,
+          r.entered,
+          (r.each_view j u there).some_own,
+          times_few k (own_lists u),
+        ))) ∙ r.once_each k;
   }
 
-  pub closes : (slots id : ℕ) (me : M) (o : O) (old new : ℕ) → me.0.origin ≡ Some o → me.0.ticket ≡ None → me.0.kept ≡ None → 0 < me.0.left → me.0.entered ≡ old → new ≡ old + 1
-      → Allows Rule slots id me 0 (λ k. either (k == old) new k) (Closes origin stands (step slots 0 old new none) me)
+  pub closes : (slots id : ℕ) (me : M) (o : O) (old new : ℕ) → me.0.origin ≡ Some o
+      → me.0.ticket ≡ None → me.0.kept ≡ None → 0 < me.0.left → me.0.entered ≡ old → new ≡ old + 1
+      → Allows Rule slots id me 0 (λ k. either (k == old) new k)
+      (Closes origin stands (step slots 0 old new none) me)
   closes slots id me o old new is no_ticket no_value some_left all up s r long at fits =
       let found : ℕ = get_or s.words 0 0 in
       let here : found ≡ r.ticket = ap (λ (ws : List ℕ). get_or ws 0 0) r.words in
       let v : V = me.0 in
       let fit : Fits first turns r.serving r.log s.homes v = r.each_view id v at in
-      let some_view : v ≢ spent_view = λ e. let d : Some o ≡ None = sym is ∙ ap (λ (u : V). u.origin) e in absurd (cc d) in
+      let some_view : v ≢ spent_view = λ e. let d : Some o ≡ None = sym is
+      ∙ ap (λ (u : V). u.origin) e in absurd (cc d) in
       let no_drawn : counts v.ticket ≡ 0 = ap counts no_ticket in
       dite (ℕ_discrete found old)
       (λ (hit : found ≡ old).
       let none_of = none_drawn s r id v at no_ticket (all ∙ sym hit ∙ here) in
-      let still : r.serving ≡ r.ticket = omega (arith, r.waiting, sum_none (λ (x : V). counts x.ticket) s.views none_of) in
+      let still : r.serving ≡ r.ticket = omega (
+        arith,
+        r.waiting,
+        sum_none (λ (x : V). counts x.ticket) s.views none_of,
+      ) in
       let home = home_at_end s r none_of r.slot in
       let w : V = holding (entering (finding v found) found) r.log in
-      let next : either (r.ticket == old) new r.ticket ≡ r.ticket + 1 = ap (λ (b : Bool). either b new r.ticket) (eq-eqb r.ticket old (sym here ∙ hit)) ∙ (up ∙ ap (λ (k : ℕ). k + 1) (sym hit ∙ here)) in (
+      let next : either (r.ticket == old) new r.ticket ≡ r.ticket + 1 =
+      ap (λ (b : Bool). either b new r.ticket) (eq-eqb r.ticket old (sym here ∙ hit))
+      ∙ (up ∙ ap (λ (k : ℕ). k + 1) (sym hit ∙ here)) in (
         w,
         takes 0 (Some home.0),
         ap (λ (hs : Homes). get_elem? hs 0) home.1,
-        subst (λ (ws : List ℕ). Rule record { words = set ws 0 (either (get_or ws 0 0 == old) new (get_or ws 0 0)); homes = set s.homes 0 none; views = set s.views id w }) (sym r.words)
-            (subst (λ (hs : Homes). Rule record { words = either (r.ticket == old) new r.ticket ∷ r.serving ∷ length r.log ∷ []; homes = set hs 0 none; views = set s.views id w }) (sym home.1)
-            (subst (λ (k : ℕ). Rule record { words = k ∷ r.serving ∷ length r.log ∷ []; homes = none ∷ []; views = set s.views id w }) (sym next)
-            (taken s r id v w (r.ticket + 1) at (omega arith) (omega arith) (λ n. drawn_now r.ticket found v.ticket n here) (omega arith) (omega arith) (omega arith) (omega (arith, here)) refl (of_same v w refl some_view v.origin fit.of) (omega arith)
-            (ap Some (here ∙ sym still)) refl refl fit.prefix fit.begins fit.own (omega (arith, fit.some_own))))),
-        match_true (found == old) _ _ (eq-eqb found old hit) ((home.0, r.log, refl, has_origin v (origin home.0) v.origin some_view fit.of home.2, home.3, fit.prefix), all_mine s r id v at (all ∙ sym hit ∙ here)),
+        subst (λ (ws : List ℕ). Rule record {
+          words =
+              set ws 0 (either (get_or ws 0 0 == old) new (get_or ws 0 0));
+          homes = set s.homes 0 none;
+          views = set s.views id w;
+        }) (sym r.words)
+            (subst (λ (hs : Homes). Rule record {
+              words =
+                  either (r.ticket == old) new r.ticket ∷ r.serving ∷ length r.log ∷ [];
+              homes = set hs 0 none;
+              views = set s.views id w;
+            }) (sym home.1)
+            (subst (λ (k : ℕ). Rule record {
+              words = k ∷ r.serving ∷ length r.log ∷ [];
+              homes = none ∷ [];
+              views = set s.views id w;
+            }) (sym next)
+            (taken s r id v w (r.ticket + 1) at (omega arith) (omega arith)
+            (λ n. drawn_now r.ticket found v.ticket n here) (omega arith) (omega arith)
+            (omega arith) (omega (arith, here)) refl
+            (of_same v w refl some_view v.origin fit.of) (omega arith)
+            (ap Some (here ∙ sym still)) refl refl fit.prefix fit.begins fit.own
+            (omega (arith, fit.some_own))))),
+        match_true (found == old) _ _ (eq-eqb found old hit) (
+          (
+            home.0,
+            r.log,
+            refl,
+            has_origin v (origin home.0) v.origin some_view fit.of home.2,
+            home.3,
+            fit.prefix,
+          ),
+          all_mine s r id v at (all ∙ sym hit ∙ here),
+        ),
       ))
       (λ (miss : found ≢ old).
-      let next : either (r.ticket == old) new r.ticket ≡ r.ticket = ap (λ (b : Bool). either b new r.ticket) (ne_eqb r.ticket old (λ e. miss (here ∙ e))) in
+      let next : either (r.ticket == old) new r.ticket ≡ r.ticket =
+      ap (λ (b : Bool). either b new r.ticket) (ne_eqb r.ticket old (λ e. miss (here ∙ e))) in
       let w : V = finding v found in
-      let few : v.entered ≤ found = omega (arith, one_of (λ (u : V). u.entered) s.views id v at, r.entered) in (
+      let few : v.entered ≤ found = omega (
+        arith,
+        one_of (λ (u : V). u.entered) s.views id v at,
+        r.entered,
+      ) in (
         w,
         keeps,
         tt,
-        subst (λ (ws : List ℕ). Rule record { words = set ws 0 (either (get_or ws 0 0 == old) new (get_or ws 0 0)); homes = s.homes; views = set s.views id w }) (sym r.words)
-            (subst (λ (k : ℕ). Rule record { words = k ∷ r.serving ∷ length r.log ∷ []; homes = s.homes; views = set s.views id w }) (sym next)
-            (moved s r id v w r.ticket r.serving r.log s.homes at (omega arith) (omega arith) (λ k. inl (omega arith)) (omega arith) (omega arith) (omega arith) (omega (arith, here)) (λ k. refl)
-            (record { of = of_same v w refl some_view v.origin fit.of; counted = fit.counted; holding = fit.holding; early = fit.early; prefix = fit.prefix; begins = fit.begins; own = fit.own; some_own = fit.some_own })
-            (λ j u _ e. r.each_view j u e) (slot_stays r.log s.homes s.views id v w at refl r.slot))),
-        match_false (found == old) _ _ (ne_eqb found old miss) (refl, omega arith, all_turns v (v.left + found) some_view v.origin fit.of (omega (arith, few_turns s r id v at))),
+        subst (λ (ws : List ℕ). Rule record {
+          words =
+              set ws 0 (either (get_or ws 0 0 == old) new (get_or ws 0 0));
+          homes = s.homes;
+          views = set s.views id w;
+        }) (sym r.words)
+            (subst (λ (k : ℕ). Rule record {
+              words = k ∷ r.serving ∷ length r.log ∷ [];
+              homes = s.homes;
+              views = set s.views id w;
+            }) (sym next)
+            (moved s r id v w r.ticket r.serving r.log s.homes at (omega arith) (omega arith)
+            (λ k. inl (omega arith)) (omega arith) (omega arith) (omega arith)
+            (omega (arith, here)) (λ k. refl)
+            (record {
+              of = of_same v w refl some_view v.origin fit.of;
+              counted = fit.counted;
+              holding = fit.holding;
+              early = fit.early;
+              prefix = fit.prefix;
+              begins = fit.begins;
+              own = fit.own;
+              some_own = fit.some_own;
+            })
+            (λ j u _ e. r.each_view j u e) (slot_stays r.log s.homes s.views id v w at refl
+            r.slot))),
+        match_false (found == old) _ _ (ne_eqb found old miss) (
+          refl,
+          omega arith,
+          all_turns v (v.left + found) some_view v.origin fit.of
+              (omega (arith, few_turns s r id v at)),
+        ),
       ))

@@ -14,8 +14,10 @@ pub record Lock (O : Type 0) : Type 0 where
   pub origin : O
   pub turns : ℕ
 
--- the lock of a pass; how many turns it has left, and how many were entered by it and by those joined into it; how many turns had been entered by any pass when `close` looked last, or 0;
--- all that it has seen of the history; the events that it added, each with its place in the history; those of each pass that was joined into it
+-- the lock of a pass; how many turns it has left, and how many were entered by it and by those
+-- joined into it; how many turns had been entered by any pass when `close` looked last, or 0; all
+-- that it has seen of the history; the events that it added, each with its place in the history;
+-- those of each pass that was joined into it
 pub record Known (E O : Type 0) : Type 0 where
   pub lock : Option (Lock O)
   pub standing : Standing
@@ -47,7 +49,16 @@ module _ {E O : Type 0} where
 
   -- what is known of a seat, by its table and its view
   abbrev pub known_of : TableId → View E O → Standing → Known E O
-  known_of table v standing = record { lock = lock_of table v; standing = standing; left = v.left; entered = v.entered; found = v.found; seen = v.seen; own = v.own; joined = v.joined }
+  known_of table v standing = record {
+    lock = lock_of table v;
+    standing = standing;
+    left = v.left;
+    entered = v.entered;
+    found = v.found;
+    seen = v.seen;
+    own = v.own;
+    joined = v.joined;
+  }
 
   -- the own events of a pass, whose seat is in the turn while one is open
   abbrev pub own_of : Standing → View E O → List (Mark E)
@@ -62,7 +73,10 @@ module _ {E O : Type 0} where
 
   -- what is known of a pass whose seat is in a turn, by a seat that was split from it
   abbrev pub stubbed : TableId → View E O → Standing → Known E O
-  stubbed table v standing = record (known_of table v standing) { own = v.noted_own; joined = v.noted_joined }
+  stubbed table v standing = record (known_of table v standing) {
+    own = v.noted_own;
+    joined = v.noted_joined;
+  }
 
   -- the badge is a seat with no open turn, and the numbers are its view's
   pub record IsReady (badge : Badge (View E O)) (left entered : ℕ) : Type 0 where
@@ -73,10 +87,12 @@ module _ {E O : Type 0} where
     pub no_value : (view_of badge.views).kept ≡ None
 
   -- the badge is a seat of the table, which has the turn that closes the lock and has done nothing
-  pub record IsKeeper (badge : Badge (View E O)) (table : TableId) (first : O) (turns : ℕ) : Type 0 where
+  pub record IsKeeper (badge : Badge (View E O)) (table : TableId) (first : O) (turns : ℕ) : Type
+      0 where
     pub same : badge.table_id ≡ table
     pub one : badge.views ≡ view_of badge.views ∷ []
-    pub lock_is : lock_of table (view_of badge.views) ≡ Some (record { table = table; origin = first; turns = turns })
+    pub lock_is : lock_of table (view_of badge.views)
+        ≡ Some (record { table = table; origin = first; turns = turns })
     pub left_is : (view_of badge.views).left ≡ 1
     pub entered_is : (view_of badge.views).entered ≡ 0
     pub no_ticket : (view_of badge.views).ticket ≡ None

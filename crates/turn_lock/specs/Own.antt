@@ -1,6 +1,7 @@
 -- The events of a history that passes have as their own, each with its place. This product's own.
 use Rattle.std.specs.List.{sum_by}
-use Rattle.std.specs.Prelude.{◌≡◌, ◌==◌, ℕ, ◌+◌, ◌≤◌, List, [], ◌∷◌, ◌++◌, length, slice_get, if◌then◌else◌, Option, Some, None}
+use Rattle.std.specs.Prelude.{◌≡◌, ◌==◌, ℕ, ◌+◌, ◌≤◌, List, [], ◌∷◌, ◌++◌, length, slice_get}
+use Rattle.std.specs.Prelude.{if◌then◌else◌, Option, Some, None}
 use Rattle.turn_lock.specs.declared.view.Mark.{Mark}
 
 -- 1 where there is one, else 0
@@ -45,7 +46,8 @@ module _ {E : Type 0} where
   -- the events stand in the history at their places, which rise from n on
   abbrev pub StandFrom : List E → ℕ → List (Mark E) → Type 0
   StandFrom h n [] = Unit {0}
-  StandFrom h n (m ∷ ms) = (n ≤ m.place) × (slice_get h m.place ≡ Some m.event) × StandFrom h (m.place + 1) ms
+  StandFrom h n (m ∷ ms) = (n ≤ m.place) × (slice_get h m.place ≡ Some m.event)
+      × StandFrom h (m.place + 1) ms
 
   -- the events of each list stand in the history, in its order
   abbrev pub AllStand : List E → List (List (Mark E)) → Type 0

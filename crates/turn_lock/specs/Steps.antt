@@ -1,5 +1,6 @@
 -- What each step on the table tells of the seat before and after it.
-use Rattle.std.specs.Prelude.{◌≡◌, ◌==◌, ℕ, ◌+◌, ◌-◌, ◌<◌, ◌≤◌, List, [], ◌∷◌, ◌++◌, length, nat_lt, if◌then◌else◌, Option, Some, None, MatchBool}
+use Rattle.std.specs.Prelude.{◌≡◌, ◌==◌, ℕ, ◌+◌, ◌-◌, ◌<◌, ◌≤◌, List, [], ◌∷◌, ◌++◌, length, nat_lt}
+use Rattle.std.specs.Prelude.{if◌then◌else◌, Option, Some, None, MatchBool}
 use mathlib.Core.List.{IsPrefix}
 use Rattle.atomic_table.specs.Table.{Me, Step, rest}
 use Rattle.turn_lock.specs.declared.view.View.{View}
@@ -55,7 +56,17 @@ module _ {E O : Type 0} where
 
   -- n turns were got, with what the giver has seen
   abbrev pub given : View E O → ℕ → View E O
-  given v n = record v { left = n; entered = 0; ticket = None; kept = None; added = None; own = []; joined = []; noted_own = v.own; noted_joined = v.joined }
+  given v n = record v {
+    left = n;
+    entered = 0;
+    ticket = None;
+    kept = None;
+    added = None;
+    own = [];
+    joined = [];
+    noted_own = v.own;
+    noted_joined = v.joined;
+  }
 
   -- the turns of both
   abbrev pub lent : View E O → View E O → View E O
@@ -63,41 +74,65 @@ module _ {E O : Type 0} where
 
   -- the turns of both, and what both know
   abbrev pub both : View E O → View E O → View E O
-  both v w = record v { left = v.left + w.left; entered = v.entered + w.entered; seen = longer v.seen w.seen; beginning = shorter v.seen w.seen; joined = v.joined ++ w.own ∷ w.joined }
+  both v w = record v {
+    left = v.left + w.left;
+    entered = v.entered + w.entered;
+    seen = longer v.seen w.seen;
+    beginning = shorter v.seen w.seen;
+    joined = v.joined ++ w.own ∷ w.joined;
+  }
 
 module _ {T E O : Type 0} where
   -- a ticket was drawn
   abbrev pub Draws : Step (Option T) → Sat T E O → ℕ → Sat T E O → Type 0
   Draws st m found m' = m' ≡ (entering m.0 found, m.1)
 
-  -- the seat took the value from the slot. It has the origin that the view has, and stands for a list that begins with all that the view has seen
+  -- the seat took the value from the slot. It has the origin that the view has, and stands for a
+  -- list that begins with all that the view has seen
   abbrev pub Takes : (T → O) → (T → List E → Type 0) → View E O → Sat T E O → Sat T E O → Type 0
-  Takes origin stands v m m' = (x : T) × (h : List E) × (m' ≡ (holding v h, (0, Some x) ∷ m.1)) × (m.0.origin ≡ Some (origin x)) × stands x h × IsPrefix m.0.seen h
+  Takes origin stands v m m' = (x : T) × (h : List E) × (m' ≡ (holding v h, (0, Some x) ∷ m.1))
+      × (m.0.origin ≡ Some (origin x)) × stands x h × IsPrefix m.0.seen h
 
   -- a turn was entered, and the value taken out of the slot
   abbrev pub HasTaken : (T → O) → (T → List E → Type 0) → Sat T E O → Sat T E O → T → Type 0
-  HasTaken origin stands m m' x = (n : ℕ) × (h : List E) × (m' ≡ (holding (entering m.0 n) h, (0, None) ∷ m.1)) × (m.0.origin ≡ Some (origin x)) × stands x h × IsPrefix m.0.seen h
+  HasTaken origin stands m m' x = (n : ℕ) × (h : List E)
+      × (m' ≡ (holding (entering m.0 n) h, (0, None) ∷ m.1)) × (m.0.origin ≡ Some (origin x))
+      × stands x h × IsPrefix m.0.seen h
 
   -- the ticket that is served was read, and the value was taken if it is the seat's own
-  abbrev pub Looks : (T → O) → (T → List E → Type 0) → Step (Option T) → Sat T E O → ℕ → Sat T E O → Type 0
-  Looks origin stands st m found m' = (n : ℕ) → m.0.ticket ≡ Some n → MatchBool (found == n) (Takes origin stands m.0 m m') (m' ≡ m)
+  abbrev pub Looks : (T → O) → (T → List E → Type 0) → Step (Option T) → Sat T E O → ℕ → Sat T E O
+      → Type 0
+  Looks origin stands st m found m' = (n : ℕ) → m.0.ticket ≡ Some n
+      → MatchBool (found == n) (Takes origin stands m.0 m m') (m' ≡ m)
 
-  -- the history was seen, as long as the word says. It begins with all that was seen before, and is the list of the value that the seat has
+  -- the history was seen, as long as the word says. It begins with all that was seen before, and is
+  -- the list of the value that the seat has
   abbrev pub Sees : Step (Option T) → Sat T E O → ℕ → Sat T E O → Type 0
-  Sees st m found m' = (l : List E) × (m' ≡ (seeing m.0 l, m.1)) × (length l ≡ found) × IsPrefix m.0.seen l × AllStand l (own_lists m.0) × ((h : List E) → m.0.kept ≡ Some h → l ≡ with_added h m.0.added)
+  Sees st m found m' = (l : List E) × (m' ≡ (seeing m.0 l, m.1)) × (length l ≡ found)
+      × IsPrefix m.0.seen l × AllStand l (own_lists m.0)
+      × ((h : List E) → m.0.kept ≡ Some h → l ≡ with_added h m.0.added)
 
   -- the event was added to the list of the value that the seat has
   abbrev pub Adds : Option E → Step (Option T) → Sat T E O → ℕ → Sat T E O → Type 0
-  Adds e st m found m' = (h : List E) → m.0.kept ≡ Some h → (m' ≡ (adding m.0 h e, m.1)) × (length h ≡ found) × AllStand (with_added h e) (own_lists (adding m.0 h e))
+  Adds e st m found m' = (h : List E) → m.0.kept ≡ Some h
+      → (m' ≡ (adding m.0 h e, m.1)) × (length h ≡ found)
+      × AllStand (with_added h e) (own_lists (adding m.0 h e))
 
   -- the value was put back, and the next ticket is served
   abbrev pub Ends : Step (Option T) → Sat T E O → ℕ → Sat T E O → Type 0
   Ends st m found m' = m' ≡ (resting m.0, rest m.1)
 
-  -- the turns of a view are at most those of the lock, and the one that closes it. What was seen begins with the shorter of the lists that two seats had seen as they were joined
+  -- the turns of a view are at most those of the lock, and the one that closes it. What was seen
+  -- begins with the shorter of the lists that two seats had seen as they were joined
   abbrev pub Learns : Step (Option T) → Sat T E O → ℕ → Sat T E O → Type 0
-  Learns st m found m' = (m' ≡ m) × (m.0.left + m.0.entered ≤ m.0.turns + 1) × IsPrefix m.0.beginning m.0.seen
+  Learns st m found m' = (m' ≡ m) × (m.0.left + m.0.entered ≤ m.0.turns + 1)
+      × IsPrefix m.0.beginning m.0.seen
 
-  -- the ticket word was read, and stays in mind. The last turn was entered and the value taken, as all turns so far were the seat's, so that its own lists make up the history; or there were more
-  abbrev pub Closes : (T → O) → (T → List E → Type 0) → Step (Option T) → Sat T E O → ℕ → Sat T E O → Type 0
-  Closes origin stands st m found m' = MatchBool (found == st.first) (Takes origin stands (entering (finding m.0 found) found) m m' × MakeUp (given_back m'.0) (own_lists m.0)) ((m' ≡ (finding m.0 found, m.1)) × (m.0.entered < found) × (m.0.left + found ≤ m.0.turns + 1))
+  -- the ticket word was read, and stays in mind. The last turn was entered and the value taken, as
+  -- all turns so far were the seat's, so that its own lists make up the history; or there were more
+  abbrev pub Closes : (T → O) → (T → List E → Type 0) → Step (Option T) → Sat T E O → ℕ → Sat T E O
+      → Type 0
+  Closes origin stands st m found m' = MatchBool (found == st.first)
+      (Takes origin stands (entering (finding m.0 found) found) m m'
+      × MakeUp (given_back m'.0) (own_lists m.0)) ((m' ≡ (finding m.0 found, m.1))
+      × (m.0.entered < found) × (m.0.left + found ≤ m.0.turns + 1))

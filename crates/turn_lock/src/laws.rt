@@ -6,13 +6,14 @@ ghost use mathlib.Core.List.{IsPrefix};
 ghost use Rattle.turn_lock.specs.declared.view.Mark.{Mark};
 ghost use Rattle.turn_lock.specs.Own.{mark, times, total, weight_of, StandFrom, AllStand, MakeUp};
 
-/// A list is a front of itself and of each list that goes on from it; a front of a front is one; and
-/// of two fronts of one list the shorter is one of the longer.
+/// A list is a front of itself and of each list that goes on from it; a front of a front is one;
+/// and of two fronts of one list the shorter is one of the longer.
 pub fn fronts_compose<E>()
     ensures itself { (xs : List E) → IsPrefix xs xs }
     ensures goes_on { (xs ys : List E) → IsPrefix xs (xs ++ ys) }
     ensures through { (xs ys zs : List E) → IsPrefix xs ys → IsPrefix ys zs → IsPrefix xs zs }
-    ensures within { (xs ys zs : List E) → IsPrefix xs zs → IsPrefix ys zs → length xs ≤ length ys → IsPrefix xs ys }
+    ensures within { (xs ys zs : List E) → IsPrefix xs zs → IsPrefix ys zs → length xs ≤ length ys
+        → IsPrefix xs ys }
 {}
 
 /// Own events that stand in what was seen stand in each history that begins with it.

@@ -16,8 +16,8 @@
 // sleep again; it makes no call of the system where no further ticket was drawn. A turn with nobody
 // waiting costs three atomic steps to enter and three to end, whatever the value is.
 //
-// No contract says that a thread gets on: `enter` returns once every turn with an earlier ticket has
-// ended, and never where one of these was dropped.
+// No contract says that a thread gets on: `enter` returns once every turn with an earlier ticket
+// has ended, and never where one of these was dropped.
 #![tactic(auto)]
 
 mod event;

@@ -35,9 +35,19 @@ impl<E: HistoryEvent> Model for Pass<E> {
 
     ghost Value = { Known E E.Origin };
 
-    ghost view = { λ p. record { lock = lock_of p.badge.table_id (view_of p.badge.views); standing = p.standing; left = p.left; entered = p.entered; found = (view_of p.badge.views).found; seen = (view_of p.badge.views).seen; own = own_of p.standing (view_of p.badge.views); joined = joined_of p.standing (view_of p.badge.views) } };
+    ghost view = { λ p. record {
+      lock = lock_of p.badge.table_id (view_of p.badge.views);
+      standing = p.standing;
+      left = p.left;
+      entered = p.entered;
+      found = (view_of p.badge.views).found;
+      seen = (view_of p.badge.views).seen;
+      own = own_of p.standing (view_of p.badge.views);
+      joined = joined_of p.standing (view_of p.badge.views);
+    } };
 
-    ghost invariant = { λ p. (p.standing ≡ Ready → IsReady p.badge p.left p.entered) × (p.left + p.entered ≤ 2 ^ 62 + 1) };
+    ghost invariant = { λ p. (p.standing ≡ Ready → IsReady p.badge p.left p.entered)
+        × (p.left + p.entered ≤ 2 ^ 62 + 1) };
 }
 
 impl<E: HistoryEvent> Pass<E> {
@@ -56,8 +66,10 @@ impl<E: HistoryEvent> Pass<E> {
 
     /// A pass over a badge with no open turn.
     pub(crate) fn over(badge: Badge<View<E>>, left: u64, entered: u64) -> Pass<E>
-        requires view { (badge.views ≡ view_of badge.views ∷ []) × ((view_of badge.views).left ≡ left) × ((view_of badge.views).entered ≡ entered) }
-        requires rests { ((view_of badge.views).ticket ≡ None) × ((view_of badge.views).kept ≡ None) }
+        requires view { (badge.views ≡ view_of badge.views ∷ [])
+            × ((view_of badge.views).left ≡ left) × ((view_of badge.views).entered ≡ entered) }
+        requires rests { ((view_of badge.views).ticket ≡ None)
+            × ((view_of badge.views).kept ≡ None) }
         requires small { left + entered ≤ 2 ^ 62 + 1 }
         ensures { result ≡ known_of badge.table_id (view_of badge.views) Ready }
     {
@@ -72,9 +84,17 @@ impl<E: HistoryEvent> Pass<E> {
     /// Gives the badge out.
     pub(crate) fn take(&mut self) -> Badge<View<E>>
         requires { self.old.standing ≡ Ready }
-        ensures view { (result.views ≡ view_of result.views ∷ []) × ((view_of result.views).ticket ≡ None) × ((view_of result.views).kept ≡ None) }
+        ensures view { (result.views ≡ view_of result.views ∷ [])
+            × ((view_of result.views).ticket ≡ None) × ((view_of result.views).kept ≡ None) }
         ensures known { self.old ≡ known_of result.table_id (view_of result.views) Ready }
-        ensures pass { self.new ≡ record self.old { lock = None; standing = InTurn; found = 0; seen = []; own = []; joined = [] } }
+        ensures pass { self.new ≡ record self.old {
+          lock = None;
+          standing = InTurn;
+          found = 0;
+          seen = [];
+          own = [];
+          joined = [];
+        } }
         ensures small { self.old.left + self.old.entered ≤ 2 ^ 62 + 1 }
     {
         self.standing = Standing::InTurn;
@@ -84,7 +104,11 @@ impl<E: HistoryEvent> Pass<E> {
     /// A turn is entered. The stub keeps the lock in mind.
     pub(crate) fn begin(&mut self, stub: Badge<View<E>>)
         requires { (self.old.standing ≡ InTurn) × (0 < self.old.left) }
-        ensures { self.new ≡ record (stubbed stub.table_id (view_of stub.views) InTurn) { left = self.old.left - 1; entered = self.old.entered + 1 } }
+        ensures { self.new ≡ record (stubbed stub.table_id (view_of stub.views) InTurn) {
+          left =
+              self.old.left - 1;
+          entered = self.old.entered + 1;
+        } }
     {
         self.badge = stub;
         self.left -= 1;
@@ -93,9 +117,11 @@ impl<E: HistoryEvent> Pass<E> {
 
     /// Takes the badge back, after the turn.
     pub(crate) fn rest(&mut self, badge: Badge<View<E>>)
-        requires view { (badge.views ≡ view_of badge.views ∷ []) × ((view_of badge.views).ticket ≡ None) × ((view_of badge.views).kept ≡ None) }
+        requires view { (badge.views ≡ view_of badge.views ∷ [])
+            × ((view_of badge.views).ticket ≡ None) × ((view_of badge.views).kept ≡ None) }
         requires pass { self.old.standing ≡ InTurn }
-        requires turns { (self.old.left ≡ (view_of badge.views).left) × (self.old.entered ≡ (view_of badge.views).entered) }
+        requires turns { (self.old.left ≡ (view_of badge.views).left)
+            × (self.old.entered ≡ (view_of badge.views).entered) }
         ensures { self.new ≡ known_of badge.table_id (view_of badge.views) Ready }
     {
         self.badge = badge;
@@ -105,7 +131,11 @@ impl<E: HistoryEvent> Pass<E> {
     /// The lock was closed, and all turns were entered by the pass.
     pub(crate) fn close(&mut self, stub: Badge<View<E>>)
         requires { self.old.standing ≡ InTurn }
-        ensures { self.new ≡ record (stubbed stub.table_id (view_of stub.views) Closed) { left = self.old.left; entered = self.old.entered } }
+        ensures { self.new ≡ record (stubbed stub.table_id (view_of stub.views) Closed) {
+          left =
+              self.old.left;
+          entered = self.old.entered;
+        } }
     {
         self.badge = stub;
         self.standing = Standing::Closed;

@@ -64,7 +64,8 @@ impl<T, E: HistoryEvent> Play<Option<T>, View<E>> for End {
     ghost then = { Ends };
 }
 
-/// Learns that there are not too many turns, and that the shorter of two lists that were joined begins the longer.
+/// Learns that there are not too many turns, and that the shorter of two lists that were joined
+/// begins the longer.
 pub(crate) struct Learn;
 
 impl<T, E: HistoryEvent> Play<Option<T>, View<E>> for Learn {

@@ -1,4 +1,5 @@
-ghost use Rattle.std.specs.Prelude.{◌≡◌, ◌+◌, ◌-◌, ◌<◌, ◌≤◌, ◌∷◌, ◌++◌, OnOk, OnErr, IfOk, Some, map};
+ghost use Rattle.std.specs.Prelude.{◌≡◌, ◌+◌, ◌-◌, ◌<◌, ◌≤◌, ◌∷◌, ◌++◌, OnOk, OnErr, IfOk, Some};
+ghost use Rattle.std.specs.Prelude.{map};
 ghost use Rattle.turn_lock.specs.declared.pass.Standing.TheVariants.{Ready, InTurn};
 ghost use mathlib.Core.List.{[]};
 ghost use Rattle.turn_lock.specs.Own.{mark};
@@ -84,7 +85,11 @@ fn commit_line(lock: &Turns<Log, Line>, pass: &mut Pass<Line>, turn: Turn<Log, L
     requires name { turn.value.name ≡ lock.now.origin }
     requires by { line.by ≡ by }
     requires line { turn.value.lines.items ≡ map (λ l. l.by) (turn.list ++ line ∷ []) }
-    ensures { pass.new ≡ record pass.old { standing = Ready; seen = turn.list ++ line ∷ []; own = pass.old.own ++ mark turn.list line ∷ [] } }
+    ensures { pass.new ≡ record pass.old {
+      standing = Ready;
+      seen = turn.list ++ line ∷ [];
+      own = pass.old.own ++ mark turn.list line ∷ [];
+    } }
 {
     lock.commit(pass, turn);
 }
@@ -98,7 +103,8 @@ fn write_line<R: Wait>(
 ) -> Result<(), AllocError>
     requires lock { pass.old.lock ≡ Some lock.now }
     requires ready { (pass.old.standing ≡ Ready) × (0 < pass.old.left) }
-    ensures { (pass.new.lock ≡ Some lock.now) × (pass.new.standing ≡ Ready) × (pass.new.left + 1 ≡ pass.old.left) }
+    ensures { (pass.new.lock ≡ Some lock.now) × (pass.new.standing ≡ Ready)
+        × (pass.new.left + 1 ≡ pass.old.left) }
 {
     let mut turn = lock.enter(rt, pass);
     match turn.value_mut().push(by) {
@@ -284,7 +290,8 @@ fn moves_to_another_thread_and_joins_in_another_order(rt: HostRuntime) -> Result
     let (log, ()) = join(
         &rt,
         move || -> Result<Option<Log>, AllocError>
-            requires { (pass.lock ≡ Some lock) × (half.lock ≡ Some lock) × (pass.standing ≡ Ready) × (half.standing ≡ Ready) × (2 ≤ pass.left) × (2 ≤ half.left) }
+            requires { (pass.lock ≡ Some lock) × (half.lock ≡ Some lock) × (pass.standing ≡ Ready)
+                × (half.standing ≡ Ready) × (2 ≤ pass.left) × (2 ≤ half.left) }
         { write_by_four(&rt, lock, pass, half) },
         || (),
     );

@@ -26,9 +26,14 @@ impl<T: StandsFor<E>, E: HistoryEvent> Model for Turn<T, E> {
 
     ghost Value = { Held T E E.Origin };
 
-    ghost view = { λ t. record { pass = known_of t.seat.table_id t.seat.me.0 InTurn; list = list_of t.seat.me.0.kept; value = t.value } };
+    ghost view = { λ t. record {
+      pass = known_of t.seat.table_id t.seat.me.0 InTurn;
+      list = list_of t.seat.me.0.kept;
+      value = t.value;
+    } };
 
-    ghost invariant = { λ t. (t.seat.me.1 ≡ (0, None) ∷ []) × IsSome t.seat.me.0.kept × (t.seat.me.0.added ≡ None) };
+    ghost invariant = { λ t. (t.seat.me.1 ≡ (0, None) ∷ []) × IsSome t.seat.me.0.kept
+        × (t.seat.me.0.added ≡ None) };
 }
 
 impl<T: StandsFor<E>, E: HistoryEvent> Turn<T, E> {
@@ -39,7 +44,8 @@ impl<T: StandsFor<E>, E: HistoryEvent> Turn<T, E> {
     }
 
     pub fn value_mut(&mut self) -> &mut T
-        ensures* writes_back { sem 𝓛 (Lends (the_row T.row E.row E.Origin.row T.StandsFor) T.row self.entry result (λ w. record self.old { value = w })) }
+        ensures* writes_back { sem 𝓛 (Lends (the_row T.row E.row E.Origin.row T.StandsFor) T.row
+            self.entry result (λ w. record self.old { value = w })) }
         ensures value { result.now ≡ self.old.value }
     {
         &mut self.value

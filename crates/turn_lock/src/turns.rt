@@ -1,10 +1,13 @@
 // The lock.
-ghost use Rattle.std.specs.Prelude.{◌≡◌, ◌≢◌, ℕ, ◌+◌, ◌-◌, ◌^◌, ◌<◌, ◌≤◌, [], ◌∷◌, ◌++◌, IfOk, IfErr, IsOk, IsOkAnd, MatchResult, IsSome, Some, None};
+ghost use Rattle.std.specs.Prelude.{◌≡◌, ◌≢◌, ℕ, ◌+◌, ◌-◌, ◌^◌, ◌<◌, ◌≤◌, [], ◌∷◌, ◌++◌, IfOk};
+ghost use Rattle.std.specs.Prelude.{IfErr, IsOk, IsOkAnd, MatchResult, IsSome, Some, None};
 ghost use mathlib.Core.List.{IsPrefix};
 ghost use Rattle.turn_lock.specs.Known.{lock_of, known_of};
 ghost use Rattle.turn_lock.specs.Own.{mark, own_with, AllStand, MakeUp};
 ghost use Rattle.turn_lock.specs.Rule.{own_lists, with_added};
-ghost use Rattle.turn_lock.specs.Steps.{entering, finding, Takes, HasTaken, seeing, adding, resting, giving, given, given_back, both, lent, longer, list_of};
+ghost use Rattle.turn_lock.specs.Steps.{entering, finding, Takes, HasTaken, seeing, adding};
+ghost use Rattle.turn_lock.specs.Steps.{resting, giving, given, given_back, both, lent, longer};
+ghost use Rattle.turn_lock.specs.Steps.{list_of};
 ghost use Rattle.turn_lock.specs.declared.pass.Standing.TheVariants.{Ready, InTurn, Closed};
 
 use crate::event::{HistoryEvent, Names, StandsFor};
@@ -52,15 +55,24 @@ impl<T: StandsFor<E>, E: HistoryEvent> Model for Turns<T, E> {
 
     ghost Value = { Lock E.Origin };
 
-    ghost view = { λ l. record { table = l.table.shared.table_id; origin = T.origin l.table.shared.key.value.value; turns = l.table.shared.key.turns } };
+    ghost view = { λ l. record {
+      table = l.table.shared.table_id;
+      origin = T.origin l.table.shared.key.value.value;
+      turns = l.table.shared.key.turns;
+    } };
 
-    ghost invariant = { λ l. (l.table.shared.table_id.words ≡ 3) × (l.table.shared.table_id.slots ≡ 1) × (l.table.shared.key.turns ≤ 2 ^ 62) × IsKeeper l.keeper.badge l.table.shared.table_id (T.origin l.table.shared.key.value.value) l.table.shared.key.turns };
+    ghost invariant = { λ l. (l.table.shared.table_id.words ≡ 3)
+        × (l.table.shared.table_id.slots ≡ 1) × (l.table.shared.key.turns ≤ 2 ^ 62)
+        × IsKeeper l.keeper.badge l.table.shared.table_id (T.origin l.table.shared.key.value.value)
+        l.table.shared.key.turns };
 }
 
 /// Draws a ticket for a turn.
 fn draw<T: StandsFor<E>, E: HistoryEvent>(shared: &Words<T, E>, seat: &mut Place<T, E>) -> u64
-    requires table { (seat.old.table_id ≡ shared.now.table_id) × (shared.now.table_id.words ≡ 3) × (shared.now.key.turns ≤ 2 ^ 62) }
-    requires ready { (seat.old.me.0.ticket ≡ None) × (seat.old.me.0.kept ≡ None) × (0 < seat.old.me.0.left) }
+    requires table { (seat.old.table_id ≡ shared.now.table_id) × (shared.now.table_id.words ≡ 3)
+        × (shared.now.key.turns ≤ 2 ^ 62) }
+    requires ready { (seat.old.me.0.ticket ≡ None) × (seat.old.me.0.kept ≡ None)
+        × (0 < seat.old.me.0.left) }
     ensures seat { (seat.new.table_id ≡ seat.old.table_id) × (seat.new.id ≡ seat.old.id) }
     ensures drawn { seat.new.me ≡ (entering seat.old.me.0 result, seat.old.me.1) }
 {
@@ -89,7 +101,8 @@ fn look<T: StandsFor<E>, E: HistoryEvent>(
     requires table { (seat.old.table_id ≡ shared.now.table_id) × (shared.now.table_id.words ≡ 3) }
     requires waits { (seat.old.me.0.ticket ≡ Some ticket) × (seat.old.me.0.kept ≡ None) }
     ensures seat { (seat.new.table_id ≡ seat.old.table_id) × (seat.new.id ≡ seat.old.id) }
-    ensures takes { result ≡ ticket → Takes T.origin T.stands seat.old.me.0 seat.old.me seat.new.me }
+    ensures takes { result ≡ ticket
+        → Takes T.origin T.stands seat.old.me.0 seat.old.me seat.new.me }
     ensures stays { result ≢ ticket → seat.new.me ≡ seat.old.me }
 {
     shared.load::<Look>(seat, SERVING)
@@ -125,8 +138,10 @@ fn take_turn<T: StandsFor<E>, E: HistoryEvent, R: Wait>(
     shared: &Words<T, E>,
     seat: &mut Place<T, E>,
 ) -> T
-    requires table { (seat.old.table_id ≡ shared.now.table_id) × (shared.now.table_id.words ≡ 3) × (shared.now.key.turns ≤ 2 ^ 62) }
-    requires ready { (seat.old.me.0.ticket ≡ None) × (seat.old.me.0.kept ≡ None) × (0 < seat.old.me.0.left) }
+    requires table { (seat.old.table_id ≡ shared.now.table_id) × (shared.now.table_id.words ≡ 3)
+        × (shared.now.key.turns ≤ 2 ^ 62) }
+    requires ready { (seat.old.me.0.ticket ≡ None) × (seat.old.me.0.kept ≡ None)
+        × (0 < seat.old.me.0.left) }
     ensures seat { (seat.new.table_id ≡ seat.old.table_id) × (seat.new.id ≡ seat.old.id) }
     ensures value { HasTaken T.origin T.stands seat.old.me seat.new.me result }
 {
@@ -144,8 +159,10 @@ fn cut<N: Share, T: StandsFor<E>, E: HistoryEvent>(
     requires table { (seat.old.table_id ≡ shared.now.table_id) × (shared.now.table_id.words ≡ 3) }
     requires ready { IsSome seat.old.me.0.origin }
     requires turns { (turns ≡ N.turns) × (turns ≤ seat.old.me.0.left) }
-    ensures seat { (seat.new.table_id ≡ seat.old.table_id) × (seat.new.id ≡ seat.old.id) × (seat.new.me ≡ (giving seat.old.me.0 turns, seat.old.me.1)) }
-    ensures new { (result.table_id ≡ seat.old.table_id) × (result.me ≡ (given seat.old.me.0 turns, [])) }
+    ensures seat { (seat.new.table_id ≡ seat.old.table_id) × (seat.new.id ≡ seat.old.id)
+        × (seat.new.me ≡ (giving seat.old.me.0 turns, seat.old.me.1)) }
+    ensures new { (result.table_id ≡ seat.old.table_id)
+        × (result.me ≡ (given seat.old.me.0 turns, [])) }
 {
     shared.split_seat::<Give<N>>(seat)
 }
@@ -157,8 +174,10 @@ fn stub<T: StandsFor<E>, E: HistoryEvent>(
 ) -> Badge<View<E>>
     requires table { (seat.old.table_id ≡ shared.now.table_id) × (shared.now.table_id.words ≡ 3) }
     requires ready { IsSome seat.old.me.0.origin }
-    ensures seat { (seat.new.table_id ≡ seat.old.table_id) × (seat.new.id ≡ seat.old.id) × (seat.new.me ≡ seat.old.me) }
-    ensures stub { (result.table_id ≡ seat.old.table_id) × (result.views ≡ given seat.old.me.0 0 ∷ []) }
+    ensures seat { (seat.new.table_id ≡ seat.old.table_id) × (seat.new.id ≡ seat.old.id)
+        × (seat.new.me ≡ seat.old.me) }
+    ensures stub { (result.table_id ≡ seat.old.table_id)
+        × (result.views ≡ given seat.old.me.0 0 ∷ []) }
 {
     shared.split_seat::<Stub>(seat).into_badge()
 }
@@ -169,13 +188,16 @@ fn unite<T: StandsFor<E>, E: HistoryEvent>(
     seat: &mut Place<T, E>,
     other: Place<T, E>,
 )
-    requires table { (seat.old.table_id ≡ shared.now.table_id) × (other.table_id ≡ shared.now.table_id) × (shared.now.table_id.words ≡ 3) }
-    requires ready { (seat.old.me.0.ticket ≡ None) × (seat.old.me.0.kept ≡ None) × IsSome seat.old.me.0.origin }
+    requires table { (seat.old.table_id ≡ shared.now.table_id)
+        × (other.table_id ≡ shared.now.table_id) × (shared.now.table_id.words ≡ 3) }
+    requires ready { (seat.old.me.0.ticket ≡ None) × (seat.old.me.0.kept ≡ None)
+        × IsSome seat.old.me.0.origin }
     requires other { (other.me.0.ticket ≡ None) × (other.me.0.kept ≡ None) × (other.me.1 ≡ []) }
     ensures seat { (seat.new.table_id ≡ seat.old.table_id) × (seat.new.id ≡ seat.old.id) }
     ensures both { seat.new.me ≡ (both seat.old.me.0 other.me.0, seat.old.me.1) }
     ensures few { seat.new.me.0.left + seat.new.me.0.entered ≤ seat.new.me.0.turns + 1 }
-    ensures begins { IsPrefix seat.old.me.0.seen seat.new.me.0.seen × IsPrefix other.me.0.seen seat.new.me.0.seen }
+    ensures begins { IsPrefix seat.old.me.0.seen seat.new.me.0.seen
+        × IsPrefix other.me.0.seen seat.new.me.0.seen }
 {
     shared.join_seat::<Unite>(seat, other);
     shared.load::<Learn>(seat, TICKET);
@@ -187,27 +209,36 @@ fn borrow_last<T: StandsFor<E>, E: HistoryEvent>(
     seat: &mut Place<T, E>,
     keeper: Place<T, E>,
 )
-    requires table { (seat.old.table_id ≡ shared.now.table_id) × (keeper.table_id ≡ shared.now.table_id) × (shared.now.table_id.words ≡ 3) }
-    requires ready { (seat.old.me.0.ticket ≡ None) × (seat.old.me.0.kept ≡ None) × IsSome seat.old.me.0.origin }
-    requires keeper { (keeper.me.0.ticket ≡ None) × (keeper.me.0.kept ≡ None) × (keeper.me.1 ≡ []) × (own_lists keeper.me.0 ≡ [] ∷ []) }
+    requires table { (seat.old.table_id ≡ shared.now.table_id)
+        × (keeper.table_id ≡ shared.now.table_id) × (shared.now.table_id.words ≡ 3) }
+    requires ready { (seat.old.me.0.ticket ≡ None) × (seat.old.me.0.kept ≡ None)
+        × IsSome seat.old.me.0.origin }
+    requires keeper { (keeper.me.0.ticket ≡ None) × (keeper.me.0.kept ≡ None) × (keeper.me.1 ≡ [])
+        × (own_lists keeper.me.0 ≡ [] ∷ []) }
     ensures seat { (seat.new.table_id ≡ seat.old.table_id) × (seat.new.id ≡ seat.old.id) }
     ensures lent { seat.new.me ≡ (lent seat.old.me.0 keeper.me.0, seat.old.me.1) }
 {
     shared.join_seat::<Lend>(seat, keeper);
 }
 
-/// Enters the last turn and takes the value, if all turns so far were entered by the seat. Says how many there were.
+/// Enters the last turn and takes the value, if all turns so far were entered by the seat. Says how
+/// many there were.
 fn take_last<T: StandsFor<E>, E: HistoryEvent>(
     shared: &Words<T, E>,
     seat: &mut Place<T, E>,
     entered: u64,
 ) -> u64
     requires table { (seat.old.table_id ≡ shared.now.table_id) × (shared.now.table_id.words ≡ 3) }
-    requires ready { (seat.old.me.0.ticket ≡ None) × (seat.old.me.0.kept ≡ None) × IsSome seat.old.me.0.origin }
-    requires turns { (0 < seat.old.me.0.left) × (seat.old.me.0.entered ≡ entered) × (entered < 2 ^ 63) }
+    requires ready { (seat.old.me.0.ticket ≡ None) × (seat.old.me.0.kept ≡ None)
+        × IsSome seat.old.me.0.origin }
+    requires turns { (0 < seat.old.me.0.left) × (seat.old.me.0.entered ≡ entered)
+        × (entered < 2 ^ 63) }
     ensures seat { (seat.new.table_id ≡ seat.old.table_id) × (seat.new.id ≡ seat.old.id) }
-    ensures takes { result ≡ entered → Takes T.origin T.stands (entering (finding seat.old.me.0 result) result) seat.old.me seat.new.me × MakeUp (given_back seat.new.me.0) (own_lists seat.old.me.0) }
-    ensures stays { result ≢ entered → (seat.new.me ≡ (finding seat.old.me.0 result, seat.old.me.1)) × (entered < result) × (seat.old.me.0.left + result ≤ seat.old.me.0.turns + 1) }
+    ensures takes { result ≡ entered
+        → Takes T.origin T.stands (entering (finding seat.old.me.0 result) result) seat.old.me
+        seat.new.me × MakeUp (given_back seat.new.me.0) (own_lists seat.old.me.0) }
+    ensures stays { result ≢ entered → (seat.new.me ≡ (finding seat.old.me.0 result, seat.old.me.1))
+        × (entered < result) × (seat.old.me.0.left + result ≤ seat.old.me.0.turns + 1) }
 {
     shared.compare_exchange::<Close>(seat, TICKET, entered, entered + 1)
 }
@@ -226,11 +257,15 @@ fn see<T: StandsFor<E>, E: HistoryEvent>(shared: &Words<T, E>, seat: &mut Place<
 
 /// Adds an event to the history.
 fn add<N: Naming<E>, T: StandsFor<E>, E: HistoryEvent>(shared: &Words<T, E>, seat: &mut Place<T, E>)
-    requires table { (seat.old.table_id ≡ shared.now.table_id) × (shared.now.table_id.words ≡ 3) × (shared.now.key.turns ≤ 2 ^ 62) }
+    requires table { (seat.old.table_id ≡ shared.now.table_id) × (shared.now.table_id.words ≡ 3)
+        × (shared.now.key.turns ≤ 2 ^ 62) }
     requires holds { IsSome seat.old.me.0.kept × (seat.old.me.0.added ≡ None) }
     requires event { IsSome N.event }
     ensures seat { (seat.new.table_id ≡ seat.old.table_id) × (seat.new.id ≡ seat.old.id) }
-    ensures adds { seat.new.me ≡ (adding seat.old.me.0 (list_of seat.old.me.0.kept) N.event, seat.old.me.1) }
+    ensures adds { seat.new.me ≡ (
+      adding seat.old.me.0 (list_of seat.old.me.0.kept) N.event,
+      seat.old.me.1,
+    ) }
     ensures own { AllStand seat.new.me.0.seen (own_lists seat.new.me.0) }
 {
     shared.fetch_add::<Add<N>>(seat, COUNT, 1);
@@ -242,9 +277,11 @@ fn end_turn<T: StandsFor<E>, E: HistoryEvent>(
     seat: &mut Place<T, E>,
     value: T,
 )
-    requires table { (seat.old.table_id ≡ shared.now.table_id) × (shared.now.table_id.words ≡ 3) × (shared.now.key.turns ≤ 2 ^ 62) }
+    requires table { (seat.old.table_id ≡ shared.now.table_id) × (shared.now.table_id.words ≡ 3)
+        × (shared.now.key.turns ≤ 2 ^ 62) }
     requires holds { (seat.old.me.1 ≡ (0, None) ∷ []) × IsSome seat.old.me.0.kept }
-    requires value { (seat.old.me.0.origin ≡ Some (T.origin value)) × T.stands value (given_back seat.old.me.0) }
+    requires value { (seat.old.me.0.origin ≡ Some (T.origin value))
+        × T.stands value (given_back seat.old.me.0) }
     ensures seat { (seat.new.table_id ≡ seat.old.table_id) × (seat.new.id ≡ seat.old.id) }
     ensures rests { seat.new.me ≡ (resting seat.old.me.0, []) }
 {
@@ -262,7 +299,11 @@ impl<T: StandsFor<E>, E: HistoryEvent> Turns<T, E> {
         requires lock { pass.old.lock ≡ Some self.now }
         requires ready { pass.old.standing ≡ Ready }
         requires left { 0 < pass.old.left }
-        ensures pass { pass.new ≡ record pass.old { standing = InTurn; left = pass.old.left - 1; entered = pass.old.entered + 1 } }
+        ensures pass { pass.new ≡ record pass.old {
+          standing = InTurn;
+          left = pass.old.left - 1;
+          entered = pass.old.entered + 1;
+        } }
         ensures turn { result.pass ≡ pass.new }
         ensures origin { T.origin result.value ≡ self.now.origin }
         ensures value { T.stands result.value result.list }
@@ -281,7 +322,11 @@ impl<T: StandsFor<E>, E: HistoryEvent> Turns<T, E> {
         requires turn { turn.pass ≡ pass.old }
         requires origin { T.origin turn.value ≡ self.now.origin }
         requires value { T.stands turn.value (turn.list ++ event ∷ []) }
-        ensures pass { pass.new ≡ record pass.old { standing = Ready; seen = turn.list ++ event ∷ []; own = pass.old.own ++ mark turn.list event ∷ [] } }
+        ensures pass { pass.new ≡ record pass.old {
+          standing = Ready;
+          seen = turn.list ++ event ∷ [];
+          own = pass.old.own ++ mark turn.list event ∷ [];
+        } }
         ensures own { AllStand pass.new.seen (pass.new.own ∷ pass.new.joined) }
     {
         self.commit_named::<Brand>(pass, turn);
@@ -293,7 +338,11 @@ impl<T: StandsFor<E>, E: HistoryEvent> Turns<T, E> {
         requires turn { turn.pass ≡ pass.old }
         requires origin { T.origin turn.value ≡ self.now.origin }
         requires value { T.stands turn.value (turn.list ++ N.named by.now ∷ []) }
-        ensures pass { pass.new ≡ record pass.old { standing = Ready; seen = turn.list ++ N.named by.now ∷ []; own = pass.old.own ++ mark turn.list (N.named by.now) ∷ [] } }
+        ensures pass { pass.new ≡ record pass.old {
+          standing = Ready;
+          seen = turn.list ++ N.named by.now ∷ [];
+          own = pass.old.own ++ mark turn.list (N.named by.now) ∷ [];
+        } }
         ensures own { AllStand pass.new.seen (pass.new.own ∷ pass.new.joined) }
     {
         self.commit_as(pass, turn, by);
@@ -306,7 +355,11 @@ impl<T: StandsFor<E>, E: HistoryEvent> Turns<T, E> {
         requires turn { turn.pass ≡ pass.old }
         requires origin { T.origin turn.value ≡ self.now.origin }
         requires value { T.stands turn.value (turn.list ++ event ∷ []) }
-        ensures pass { pass.new ≡ record pass.old { standing = Ready; seen = turn.list ++ event ∷ []; own = pass.old.own ++ mark turn.list event ∷ [] } }
+        ensures pass { pass.new ≡ record pass.old {
+          standing = Ready;
+          seen = turn.list ++ event ∷ [];
+          own = pass.old.own ++ mark turn.list event ∷ [];
+        } }
         ensures own { AllStand pass.new.seen (pass.new.own ∷ pass.new.joined) }
     {
         self.commit(pass, turn);
@@ -318,7 +371,11 @@ impl<T: StandsFor<E>, E: HistoryEvent> Turns<T, E> {
         requires origin { T.origin turn.value ≡ self.now.origin }
         requires event { IsSome N.event }
         requires value { T.stands turn.value (with_added turn.list N.event) }
-        ensures pass { pass.new ≡ record pass.old { standing = Ready; seen = with_added turn.list N.event; own = own_with pass.old.own turn.list N.event } }
+        ensures pass { pass.new ≡ record pass.old {
+          standing = Ready;
+          seen = with_added turn.list N.event;
+          own = own_with pass.old.own turn.list N.event;
+        } }
         ensures own { AllStand pass.new.seen (pass.new.own ∷ pass.new.joined) }
     {
         let Turn { mut seat, value } = turn;
@@ -348,8 +405,10 @@ impl<T: StandsFor<E>, E: HistoryEvent> Turns<T, E> {
         requires ready { pass.old.standing ≡ Ready }
         requires turns { turns ≤ pass.old.left }
         ensures pass { pass.new ≡ record pass.old { left = pass.old.left - turns } }
-        ensures ok { IsOkAnd result (λ r. (r.lock ≡ Some self.now) × (r.standing ≡ Ready) × (r.left ≡ turns) × (r.entered ≡ 0)) }
-        ensures seen { IsOkAnd result (λ r. (r.seen ≡ pass.old.seen) × (r.found ≡ pass.old.found) × (r.own ≡ []) × (r.joined ≡ [])) }
+        ensures ok { IsOkAnd result (λ r. (r.lock ≡ Some self.now) × (r.standing ≡ Ready)
+            × (r.left ≡ turns) × (r.entered ≡ 0)) }
+        ensures seen { IsOkAnd result (λ r. (r.seen ≡ pass.old.seen) × (r.found ≡ pass.old.found)
+            × (r.own ≡ []) × (r.joined ≡ [])) }
     {
         let mut seat = pass.take().into_seat::<Option<T>>();
         let other = cut::<Brand, T, E>(&self.table.shared, &mut seat, turns);
@@ -361,7 +420,12 @@ impl<T: StandsFor<E>, E: HistoryEvent> Turns<T, E> {
     pub fn join(&self, pass: &mut Pass<E>, mut other: Pass<E>)
         requires lock { (pass.old.lock ≡ Some self.now) × (other.lock ≡ Some self.now) }
         requires ready { (pass.old.standing ≡ Ready) × (other.standing ≡ Ready) }
-        ensures both { pass.new ≡ record pass.old { left = pass.old.left + other.left; entered = pass.old.entered + other.entered; seen = longer pass.old.seen other.seen; joined = pass.old.joined ++ other.own ∷ other.joined } }
+        ensures both { pass.new ≡ record pass.old {
+          left = pass.old.left + other.left;
+          entered = pass.old.entered + other.entered;
+          seen = longer pass.old.seen other.seen;
+          joined = pass.old.joined ++ other.own ∷ other.joined;
+        } }
         ensures begins { IsPrefix pass.old.seen pass.new.seen × IsPrefix other.seen pass.new.seen }
     {
         let mut seat = pass.take().into_seat::<Option<T>>();
@@ -379,8 +443,10 @@ impl<T: StandsFor<E> + Drop, E: HistoryEvent> Turns<T, E> {
         requires turns { (1 ≤ turns) × (turns ≤ 2 ^ 62) }
         requires empty { T.stands value [] }
         ensures lock { IfOk result (λ r. (r.0.origin ≡ T.origin value) × (r.0.turns ≡ turns)) }
-        ensures pass { IfOk result (λ r. (r.1.lock ≡ Some r.0) × (r.1.standing ≡ Ready) × (r.1.left ≡ turns) × (r.1.entered ≡ 0)) }
-        ensures fresh { IfOk result (λ r. (r.1.found ≡ 0) × (r.1.seen ≡ []) × (r.1.own ≡ []) × (r.1.joined ≡ [])) }
+        ensures pass { IfOk result (λ r. (r.1.lock ≡ Some r.0) × (r.1.standing ≡ Ready)
+            × (r.1.left ≡ turns) × (r.1.entered ≡ 0)) }
+        ensures fresh { IfOk result (λ r. (r.1.found ≡ 0) × (r.1.seen ≡ []) × (r.1.own ≡ [])
+            × (r.1.joined ≡ [])) }
     {
         let about = Start {
             value: Snapshot::of(&value),
@@ -397,16 +463,20 @@ impl<T: StandsFor<E> + Drop, E: HistoryEvent> Turns<T, E> {
         Ok((Turns { table, keeper }, pass))
     }
 
-    /// Gives the value out, if all turns were entered by the pass and those joined into it.
-    /// Else another pass that entered a turn is outside: it hands both back, and contracts see in
-    /// `found` how many turns had been entered by any pass. A pass that entered none may be outside.
+    /// Gives the value out, if all turns were entered by the pass and those joined into it. Else
+    /// another pass that entered a turn is outside: it hands both back, and contracts see in
+    /// `found` how many turns had been entered by any pass. A pass that entered none may be
+    /// outside.
     pub fn close(self, mut pass: Pass<E>) -> Result<(T, Pass<E>), (Turns<T, E>, Pass<E>)>
         requires lock { pass.lock ≡ Some self }
         requires ready { pass.standing ≡ Ready }
-        ensures ok { IfOk result (λ r. (r.1 ≡ record pass { standing = Closed; found = pass.entered; seen = r.1.seen }) × (T.origin r.0 ≡ self.origin)) }
+        ensures ok { IfOk result (λ r.
+            (r.1 ≡ record pass { standing = Closed; found = pass.entered; seen = r.1.seen })
+            × (T.origin r.0 ≡ self.origin)) }
         ensures seen { IfOk result (λ r. T.stands r.0 r.1.seen × IsPrefix pass.seen r.1.seen) }
         ensures own { IfOk result (λ r. MakeUp r.1.seen (r.1.own ∷ r.1.joined)) }
-        ensures err { IfErr result (λ r. (r.0 ≡ self) × (r.1 ≡ record pass { found = r.1.found }) × (pass.entered < r.1.found) × (pass.left + r.1.found ≤ self.turns)) }
+        ensures err { IfErr result (λ r. (r.0 ≡ self) × (r.1 ≡ record pass { found = r.1.found })
+            × (pass.entered < r.1.found) × (pass.left + r.1.found ≤ self.turns)) }
         ensures whole { pass.left + pass.entered ≡ self.turns → IsOk result }
     {
         let Turns { table, keeper } = self;

@@ -9,6 +9,8 @@ same_values : (values : List InstancePart) → map (λ value. value) values ≡ 
 same_values [] = refl
 same_values (value ∷ values) = ap (λ others. value ∷ others) (same_values values)
 
-pub read_is_identifier : (words : List (List ℕ)) (values : List InstancePart) → (many part 1 8).read words ≡ Some (map (λ value. value) values) → IsIdentifier values
+pub read_is_identifier : (words : List (List ℕ)) (values : List InstancePart)
+    → (many part 1 8).read words ≡ Some (map (λ value. value) values) → IsIdentifier values
 read_is_identifier words values e =
-    subst IsIdentifier (same_values values) (fits_identifier (map (λ value. value) values) ((many part 1 8).is_spelled words (map (λ value. value) values) e).0)
+    subst IsIdentifier (same_values values) (fits_identifier (map (λ value. value) values)
+    ((many part 1 8).is_spelled words (map (λ value. value) values) e).0)

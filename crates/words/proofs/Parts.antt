@@ -1,5 +1,6 @@
 -- The parts of a text between separators.
-use Rattle.std.proofs.Common.{◌≡◌, ℕ, ◌≤◌, ◌+◌, refl, true, false, ◌==◌, sym, List, [], ◌∷◌, length, Option, Some, None, cond, arith}
+use Rattle.std.proofs.Common.{◌≡◌, ℕ, ◌≤◌, ◌+◌, refl, true, false, ◌==◌, sym, List, [], ◌∷◌, length}
+use Rattle.std.proofs.Common.{Option, Some, None, cond, arith}
 use Rattle.std.proofs.lemmas.Bool.Decides.{nat_tests}
 use Rattle.std.proofs.lemmas.List.Sums.{position_or_len_is, fails_before_first}
 use Rattle.std.proofs.lemmas.List.Splits.{slice_split_none, length-slice_split}
@@ -13,37 +14,52 @@ use Rattle.words.specs.Reading.{parts_behind}
 use denote.Ref.{Bor}
 
 -- the first place of an octet, where it stands at all, else the length
-pub first_place : (octet : ℕ) (text : List ℕ) (found : Option ℕ) → IsFirstByte (is_byte octet) text found → unwrap_or found (length text) ≡ position_or_len (λ x. x == octet) text
+pub first_place : (octet : ℕ) (text : List ℕ) (found : Option ℕ)
+    → IsFirstByte (is_byte octet) text found → unwrap_or found (length text)
+    ≡ position_or_len (λ x. x == octet) text
 first_place octet text None none =
-    sym (position_or_len_is (λ x. x == octet) text (length text) 0 (omega arith) (λ k h. grind (arith, nat_tests, none k (omega arith) h)) (λ h. absurd (omega arith)))
+    sym (position_or_len_is (λ x. x == octet) text (length text) 0 (omega arith)
+    (λ k h. grind (arith, nat_tests, none k (omega arith) h)) (λ h. absurd (omega arith)))
 first_place octet text (Some place) found =
-    sym (position_or_len_is (λ x. x == octet) text place 0 (omega (arith, found.0.high)) (λ k h. grind (arith, nat_tests, found.0.before k (omega arith) h)) (λ h. found.1))
+    sym (position_or_len_is (λ x. x == octet) text place 0 (omega (arith, found.0.high))
+    (λ k h. grind (arith, nat_tests, found.0.before k (omega arith) h)) (λ h. found.1))
 
 -- a text that has no separator is one part
-pub parts_none : (octet : ℕ) (text : List ℕ) → length text ≤ position_or_len (λ x. x == octet) text → parts octet text ≡ text ∷ []
-parts_none octet text h = slice_split_none (λ x. x == octet) text (λ k d h'. fails_before_first (λ x. x == octet) text k d (omega arith))
+pub parts_none : (octet : ℕ) (text : List ℕ) → length text ≤ position_or_len (λ x. x == octet) text
+    → parts octet text ≡ text ∷ []
+parts_none octet text h = slice_split_none (λ x. x == octet) text
+    (λ k d h'. fails_before_first (λ x. x == octet) text k d (omega arith))
 
 -- every text has a first part
-onto_first-some : {A : Type 0} (F : List (List ℕ) → Option A) → ((part : List ℕ) (others : List (List ℕ)) → F (part ∷ others) ≡ None) → (x : ℕ) (found : List (List ℕ)) → F (onto_first x found) ≡ None
+onto_first-some : {A : Type 0} (F : List (List ℕ) → Option A)
+    → ((part : List ℕ) (others : List (List ℕ)) → F (part ∷ others) ≡ None)
+    → (x : ℕ) (found : List (List ℕ)) → F (onto_first x found) ≡ None
 onto_first-some F h x [] = h _ _
 onto_first-some F h x (part ∷ others) = h _ _
 
 -- what is nothing where there is a further part is nothing of a further text
-pub with_part_none : {A : Type 0} (F : List (List ℕ) → Option A) → ((part : List ℕ) (others : List (List ℕ)) → F (part ∷ others) ≡ None) → (octet : ℕ) (text : List ℕ) → F (parts octet text) ≡ None
+pub with_part_none : {A : Type 0} (F : List (List ℕ) → Option A)
+    → ((part : List ℕ) (others : List (List ℕ)) → F (part ∷ others) ≡ None)
+    → (octet : ℕ) (text : List ℕ) → F (parts octet text) ≡ None
 with_part_none F h octet [] = h [] []
 with_part_none F h octet (x ∷ xs) =
-    elim (x == octet) as (λ b. F (cond b ([] ∷ parts octet xs) (onto_first x (parts octet xs))) ≡ None) [
+    elim (x == octet) as (λ b. F (cond b ([] ∷ parts octet xs) (onto_first x (parts octet xs)))
+    ≡ None) [
       | true ↦ h [] _
       | false ↦ onto_first-some F h x (parts octet xs)
     ]
 
 -- a line that has a further word than F takes says nothing
-pub surplus : {A : Type 0} (F : List (List ℕ) → Option A) → ((part : List ℕ) (others : List (List ℕ)) → F (part ∷ others) ≡ None) → (octet : ℕ) (more : Option (Bor (List ℕ))) → is_some more ≡ true → None ≡ F (parts_behind octet more)
+pub surplus : {A : Type 0} (F : List (List ℕ) → Option A)
+    → ((part : List ℕ) (others : List (List ℕ)) → F (part ∷ others) ≡ None)
+    → (octet : ℕ) (more : Option (Bor (List ℕ))) → is_some more ≡ true
+    → None ≡ F (parts_behind octet more)
 surplus F h octet None some = cc
 surplus F h octet (Some text) some = sym (with_part_none F h octet text.now)
 
 -- one part more than separators
-pub count_and_one : (separator : ℕ) (text : List ℕ) → length (parts separator text) ≡ count_by (λ octet. octet == separator) text + 1
+pub count_and_one : (separator : ℕ) (text : List ℕ)
+    → length (parts separator text) ≡ count_by (λ octet. octet == separator) text + 1
 count_and_one separator text = length-slice_split (λ octet. octet == separator) text
 
 -- a text is a further word

@@ -1,5 +1,6 @@
 -- Which octets a word has.
-use Rattle.std.proofs.Common.{◌≡◌, ℕ, Bool, true, false, ◌||◌, ◌==◌, List, [], ◌∷◌, ◌++◌, refl, eq-eqb}
+use Rattle.std.proofs.Common.{◌≡◌, ℕ, Bool, true, false, ◌||◌, ◌==◌, List, [], ◌∷◌, ◌++◌, refl}
+use Rattle.std.proofs.Common.{eq-eqb}
 use Rattle.std.specs.List.{list_all}
 use Rattle.std.proofs.lemmas.Bool.{and_parts}
 use Rattle.words.specs.Steps.{or_left, or_right}
@@ -13,11 +14,13 @@ abbrev pub EachOf : (ℕ → Bool) → List (List ℕ) → Type 0
 EachOf alphabet [] = Unit {0}
 EachOf alphabet (w ∷ ws) = Of alphabet w × EachOf alphabet ws
 
-pub of_more : (h k : ℕ → Bool) → ((c : ℕ) → h c ≡ true → k c ≡ true) → (w : List ℕ) → Of h w → Of k w
+pub of_more : (h k : ℕ → Bool) → ((c : ℕ) → h c ≡ true → k c ≡ true) → (w : List ℕ) → Of h w
+    → Of k w
 of_more h k more [] m = tt
 of_more h k more (c ∷ w) m = (more c m.0, of_more h k more w m.1)
 
-pub each_of_more : (h k : ℕ → Bool) → ((c : ℕ) → h c ≡ true → k c ≡ true) → (ws : List (List ℕ)) → EachOf h ws → EachOf k ws
+pub each_of_more : (h k : ℕ → Bool) → ((c : ℕ) → h c ≡ true → k c ≡ true) → (ws : List (List ℕ))
+    → EachOf h ws → EachOf k ws
 each_of_more h k more [] m = tt
 each_of_more h k more (w ∷ ws) m = (of_more h k more w m.0, each_of_more h k more ws m.1)
 
@@ -31,7 +34,11 @@ among (x ∷ xs) c = (c == x) || among xs c
 
 pub among_itself : (text : List ℕ) → Of (among text) text
 among_itself [] = tt
-among_itself (x ∷ xs) = (or_left (x == x) (among xs x) (eq-eqb x x refl), of_more (among xs) (among (x ∷ xs)) (λ c e. or_right (c == x) (among xs c) e) xs (among_itself xs))
+among_itself (x ∷ xs) = (
+  or_left (x == x) (among xs x) (eq-eqb x x refl),
+  of_more (among xs) (among (x ∷ xs)) (λ c e. or_right (c == x) (among xs c) e) xs
+      (among_itself xs),
+)
 
 -- a word whose octets pass a test has only such
 pub of_all : (h : ℕ → Bool) (w : List ℕ) → list_all h w ≡ true → Of h w

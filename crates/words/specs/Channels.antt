@@ -29,7 +29,8 @@ channel_back (Some n) = refl
 
 -- C, 0 to 63, or * for the master channel
 abbrev pub channel : Kind Channel
-channel = kind_as (word_or (codes "*") (number 0 63) refl) (record { to = channel_of; from = number_of; there = channel_there; back = channel_back })
+channel = kind_as (word_or (codes "*") (number 0 63) refl)
+    (record { to = channel_of; from = number_of; there = channel_there; back = channel_back })
 
 -- S/V/C or S/V/*, with S 0 to 1023 and V 0 to 3
 abbrev pub gvcid : Kind Gvcid

@@ -1,5 +1,6 @@
 -- A fixed word, alone or in place of a value.
-use Rattle.std.proofs.Common.{◌≡◌, ℕ, inl, inr, true, false, ◌||◌, if◌then◌else◌, List, Option, Some, None, refl, sym, ◌∙◌, ap, subst}
+use Rattle.std.proofs.Common.{◌≡◌, ℕ, inl, inr, true, false, ◌||◌, if◌then◌else◌, List, Option}
+use Rattle.std.proofs.Common.{Some, None, refl, sym, ◌∙◌, ap, subst}
 use Rattle.std.proofs.lemmas.Cmp.{nat_list_eq_equiv}
 use Rattle.std.specs.Cmp.Lexicographic.{same_text}
 use Rattle.std.specs.Str.{bytes_eq}
@@ -43,34 +44,45 @@ module _ {X : Type 0} (text : List ℕ) (k : Kind X) (apart : k.read text ≡ No
   abbrev pub read_or : List ℕ → Option (Option X)
   read_or w = if bytes_eq w text then Some None else (k.read w >>= λ x. Some (Some x))
 
-  pub or_spelled : (w : List ℕ) (x : Option X) → read_or w ≡ Some x → or_none k.Fits x × spelled_or text k.Spells x w
+  pub or_spelled : (w : List ℕ) (x : Option X) → read_or w ≡ Some x
+      → or_none k.Fits x × spelled_or text k.Spells x w
   or_spelled w x e =
       elim (chosen (bytes_eq w text) (Some None) (k.read w >>= λ x. Some (Some x)) (Some x) e) [
-        | inl h ↦ subst (λ x. or_none k.Fits x × spelled_or text k.Spells x w) (some_is None x h.1) (tt, same_word w text h.0)
+        | inl h ↦ subst (λ x. or_none k.Fits x × spelled_or text k.Spells x w) (some_is None x h.1)
+            (tt, same_word w text h.0)
         | inr h ↦
             let read = some_bind (k.read w) (λ x. Some (Some x)) x h.1 in
-            subst (λ x. or_none k.Fits x × spelled_or text k.Spells x w) (some_is (Some read.0) x read.2) (k.is_spelled w read.0 read.1)
+            subst (λ x. or_none k.Fits x × spelled_or text k.Spells x w)
+            (some_is (Some read.0) x read.2) (k.is_spelled w read.0 read.1)
       ]
 
-  pub or_read : (w : List ℕ) (x : Option X) → or_none k.Fits x → spelled_or text k.Spells x w → read_or w ≡ Some x
+  pub or_read : (w : List ℕ) (x : Option X) → or_none k.Fits x → spelled_or text k.Spells x w
+      → read_or w ≡ Some x
   or_read w None fits e = rw (is_same w text e) refl
   or_read w (Some x) fits e =
       let found = k.is_read w x fits e in
-      elim (bytes_eq w text) as (λ b. bytes_eq w text ≡ b → (if b then Some None else (k.read w >>= λ x. Some (Some x))) ≡ Some (Some x)) [
-        | true ↦ λ same. absurd (none_some (sym apart ∙ ap k.read (sym (same_word w text same)) ∙ found))
+      elim (bytes_eq w text) as (λ b. bytes_eq w text ≡ b
+      → (if b then Some None else (k.read w >>= λ x. Some (Some x))) ≡ Some (Some x)) [
+        | true ↦ λ same. absurd (none_some (sym apart ∙ ap k.read (sym (same_word w text same))
+            ∙ found))
         | false ↦ λ other. rw found refl
       ] refl
     where
       none_some : None ≡ Some x → ⊥
       none_some e = cc
 
-  pub or_canonical : (x : Option X) → or_none k.Fits x → spelled_or text k.Spells x (written_or text k.write x)
+  pub or_canonical : (x : Option X) → or_none k.Fits x
+      → spelled_or text k.Spells x (written_or text k.write x)
   or_canonical None fits = refl
   or_canonical (Some x) fits = k.canonical x fits
 
-  pub or_clean : (w : List ℕ) (x : Option X) → or_none k.Fits x → spelled_or text k.Spells x w → Of (λ c. among text c || k.alphabet c) w
-  or_clean w None fits e = subst (Of (λ c. among text c || k.alphabet c)) (sym e) (of_more (among text) (λ c. among text c || k.alphabet c) (λ c h. or_left (among text c) (k.alphabet c) h) text (among_itself text))
-  or_clean w (Some x) fits e = of_more k.alphabet (λ c. among text c || k.alphabet c) (λ c h. or_right (among text c) (k.alphabet c) h) w (k.clean w x fits e)
+  pub or_clean : (w : List ℕ) (x : Option X) → or_none k.Fits x → spelled_or text k.Spells x w
+      → Of (λ c. among text c || k.alphabet c) w
+  or_clean w None fits e = subst (Of (λ c. among text c || k.alphabet c)) (sym e)
+      (of_more (among text) (λ c. among text c || k.alphabet c)
+      (λ c h. or_left (among text c) (k.alphabet c) h) text (among_itself text))
+  or_clean w (Some x) fits e = of_more k.alphabet (λ c. among text c || k.alphabet c)
+      (λ c h. or_right (among text c) (k.alphabet c) h) w (k.clean w x fits e)
 
   abbrev pub word_or : Kind (Option X)
   word_or = record {

@@ -1,4 +1,5 @@
--- A kind of word: what is read, how a value is written, which values fit, which words spell a value, and the facts of these.
+-- A kind of word: what is read, how a value is written, which values fit, which words spell a
+-- value, and the facts of these.
 use Rattle.std.proofs.Common.{◌≡◌, ℕ, Bool, List, Option, Some, sym, ◌∙◌, ap, subst}
 use Rattle.words.specs.Alphabet.{Of}
 use Rattle.words.specs.Steps.{◌>>=◌, some_bind, some_is}
@@ -34,7 +35,8 @@ kind_as k s = record {
   alphabet = k.alphabet;
   is_spelled = λ w y e.
       let read = some_bind (k.read w) (λ x. Some (s.to x)) y e in
-      let same : read.0 ≡ s.from y = sym (s.back read.0) ∙ ap s.from (some_is (s.to read.0) y read.2) in
+      let same : read.0 ≡ s.from y = sym (s.back read.0)
+      ∙ ap s.from (some_is (s.to read.0) y read.2) in
       subst (λ x. k.Fits x × k.Spells x w) same (k.is_spelled w read.0 read.1);
   is_read = λ w y fits e. rw (k.is_read w (s.from y) fits e) (ap Some (s.there y));
   canonical = λ y fits. k.canonical (s.from y) fits;

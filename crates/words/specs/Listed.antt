@@ -1,5 +1,6 @@
 -- A word that is one of a list, for values that have a word each.
-use Rattle.std.proofs.Common.{◌≡◌, ℕ, inl, inr, Bool, false, ◌||◌, if◌then◌else◌, List, [], ◌∷◌, Option, Some, None, refl, sym, ◌∙◌, ap, subst}
+use Rattle.std.proofs.Common.{◌≡◌, ℕ, inl, inr, Bool, false, ◌||◌, if◌then◌else◌, List, [], ◌∷◌}
+use Rattle.std.proofs.Common.{Option, Some, None, refl, sym, ◌∙◌, ap, subst}
 use Rattle.std.specs.Str.{bytes_eq}
 use Rattle.words.specs.Alphabet.{Of, of_more, among, among_itself}
 use Rattle.words.specs.Fixed.{same_word}
@@ -19,7 +20,8 @@ among_words word (x ∷ xs) c = among (word x) c || among_words word xs c
 abbrev pub AreListed : {X : Type 0} → (X → List ℕ) → List X → Type 0
 AreListed {X} word all = (x : X) → value_of word all (word x) ≡ Some x
 
-pub listed_is : {X : Type 0} (word : X → List ℕ) (xs : List X) (w : List ℕ) (x : X) → value_of word xs w ≡ Some x → w ≡ word x
+pub listed_is : {X : Type 0} (word : X → List ℕ) (xs : List X) (w : List ℕ) (x : X)
+    → value_of word xs w ≡ Some x → w ≡ word x
 listed_is word [] w x e = absurd cc
 listed_is word (y ∷ ys) w x e =
     elim (chosen (bytes_eq w (word y)) (Some y) (value_of word ys w) (Some x) e) [
@@ -27,15 +29,18 @@ listed_is word (y ∷ ys) w x e =
       | inr h ↦ listed_is word ys w x h.1
     ]
 
-pub listed_clean : {X : Type 0} (word : X → List ℕ) (xs : List X) (w : List ℕ) (x : X) → value_of word xs w ≡ Some x → Of (among_words word xs) w
+pub listed_clean : {X : Type 0} (word : X → List ℕ) (xs : List X) (w : List ℕ) (x : X)
+    → value_of word xs w ≡ Some x → Of (among_words word xs) w
 listed_clean word [] w x e = absurd cc
 listed_clean word (y ∷ ys) w x e =
     elim (chosen (bytes_eq w (word y)) (Some y) (value_of word ys w) (Some x) e) [
       | inl h ↦
-          of_more (among (word y)) (among_words word (y ∷ ys)) (λ c m. or_left (among (word y) c) (among_words word ys c) m) w
+          of_more (among (word y)) (among_words word (y ∷ ys))
+          (λ c m. or_left (among (word y) c) (among_words word ys c) m) w
           (subst (Of (among (word y))) (sym (same_word w (word y) h.0)) (among_itself (word y)))
       | inr h ↦
-          of_more (among_words word ys) (among_words word (y ∷ ys)) (λ c m. or_right (among (word y) c) (among_words word ys c) m) w
+          of_more (among_words word ys) (among_words word (y ∷ ys))
+          (λ c m. or_right (among (word y) c) (among_words word ys c) m) w
           (listed_clean word ys w x h.1)
     ]
 

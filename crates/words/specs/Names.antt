@@ -13,7 +13,8 @@ abbrev pub is_name : ℕ → ℕ → List ℕ → Bool
 is_name least most w = (nat_le least (length w) && nat_le (length w) most) && list_all is_graphic w
 
 pub name_octets : (least most : ℕ) (w : List ℕ) → is_name least most w ≡ true → Of is_graphic w
-name_octets least most w e = of_all is_graphic w (and_parts (nat_le least (length w) && nat_le (length w) most) (list_all is_graphic w) e).1
+name_octets least most w e = of_all is_graphic w
+    (and_parts (nat_le least (length w) && nat_le (length w) most) (list_all is_graphic w) e).1
 
 abbrev pub name : ℕ → ℕ → Kind (List ℕ)
 name least most = plain (is_name least most) is_graphic (name_octets least most)

@@ -4,11 +4,13 @@ use Rattle.words.specs.Alphabet.{Of}
 use Rattle.words.specs.Kind.{Kind}
 use Rattle.words.specs.Steps.{if_some}
 
-pub plain_is : (test : List ℕ → Bool) (w x : List ℕ) → (if test w then Some w else None) ≡ Some x → (test x ≡ true) × (w ≡ x)
+pub plain_is : (test : List ℕ → Bool) (w x : List ℕ) → (if test w then Some w else None) ≡ Some x
+    → (test x ≡ true) × (w ≡ x)
 plain_is test w x e = let h = if_some (test w) w x e in (subst (λ w. test w ≡ true) h.1 h.0, h.1)
 
 -- the octets of a word that passes are some of these
-abbrev pub plain : (test : List ℕ → Bool) (octets : ℕ → Bool) → ((w : List ℕ) → test w ≡ true → Of octets w) → Kind (List ℕ)
+abbrev pub plain : (test : List ℕ → Bool) (octets : ℕ → Bool)
+    → ((w : List ℕ) → test w ≡ true → Of octets w) → Kind (List ℕ)
 plain test octets only = record {
   read = λ w. if test w then Some w else None;
   write = λ w. w;

@@ -1,5 +1,6 @@
 -- A table of forms: a first word for each form, and the row that stands behind it.
-use Rattle.std.proofs.Common.{◌≡◌, ℕ, suc, ◌≤◌, max, inl, inr, Bool, true, false, ◌||◌, List, [], ◌∷◌, length, Option, Some, None, refl, sym, subst, arith}
+use Rattle.std.proofs.Common.{◌≡◌, ℕ, suc, ◌≤◌, max, inl, inr, Bool, true, false, ◌||◌, List, []}
+use Rattle.std.proofs.Common.{◌∷◌, length, Option, Some, None, refl, sym, subst, arith}
 use Rattle.std.specs.Str.{bytes_eq}
 use Rattle.words.specs.Alphabet.{Of, EachOf, of_more, each_of_more, among, among_itself}
 use Rattle.words.specs.Listed.{value_of, AreListed, listed_is}
@@ -42,19 +43,23 @@ module _ {Form : Type 0} (t : Table Form) where
   most_of [] = 0
   most_of (f ∷ fs) = max (t.row f).most (most_of fs)
 
-  octet_listed : (fs : List Form) (w : List ℕ) (f : Form) → value_of t.word fs w ≡ Some f → (c : ℕ) → form_octet f c ≡ true → octet_of fs c ≡ true
+  octet_listed : (fs : List Form) (w : List ℕ) (f : Form) → value_of t.word fs w ≡ Some f → (c : ℕ)
+      → form_octet f c ≡ true → octet_of fs c ≡ true
   octet_listed [] w f e c h = absurd cc
   octet_listed (g ∷ fs) w f e c h =
       elim (chosen (bytes_eq w (t.word g)) (Some g) (value_of t.word fs w) (Some f) e) [
-        | inl k ↦ or_left (form_octet g c) (octet_of fs c) (subst (λ f. form_octet f c ≡ true) (sym (some_is g f k.1)) h)
+        | inl k ↦ or_left (form_octet g c) (octet_of fs c)
+            (subst (λ f. form_octet f c ≡ true) (sym (some_is g f k.1)) h)
         | inr k ↦ or_right (form_octet g c) (octet_of fs c) (octet_listed fs w f k.1 c h)
       ]
 
-  most_listed : (fs : List Form) (w : List ℕ) (f : Form) → value_of t.word fs w ≡ Some f → (t.row f).most ≤ most_of fs
+  most_listed : (fs : List Form) (w : List ℕ) (f : Form) → value_of t.word fs w ≡ Some f
+      → (t.row f).most ≤ most_of fs
   most_listed [] w f e = absurd cc
   most_listed (g ∷ fs) w f e =
       elim (chosen (bytes_eq w (t.word g)) (Some g) (value_of t.word fs w) (Some f) e) [
-        | inl k ↦ subst (λ f. (t.row f).most ≤ max (t.row g).most (most_of fs)) (some_is g f k.1) (omega arith)
+        | inl k ↦ subst (λ f. (t.row f).most ≤ max (t.row g).most (most_of fs)) (some_is g f k.1)
+            (omega arith)
         | inr k ↦ omega (arith, most_listed fs w f k.1)
       ]
 
@@ -64,29 +69,41 @@ module _ {Form : Type 0} (t : Table Form) where
   most_known : (f : Form) → (t.row f).most ≤ most_of t.all
   most_known f = most_listed t.all (t.word f) f (t.each f)
 
-  pub table_is : (ws : List (List ℕ)) (s : Says) → table_read ws ≡ Some s → table_fits s × table_spelled s ws
+  pub table_is : (ws : List (List ℕ)) (s : Says) → table_read ws ≡ Some s
+      → table_fits s × table_spelled s ws
   table_is [] s e = absurd cc
   table_is (w ∷ ws) s e =
-      let form = some_bind (value_of t.word t.all w) (λ f. (t.row f).read ws >>= λ x. Some (f, x)) s e in
+      let form = some_bind (value_of t.word t.all w) (λ f. (t.row f).read ws >>= λ x. Some (f, x)) s
+      e in
       let read = some_bind ((t.row form.0).read ws) (λ x. Some (form.0, x)) s form.2 in
       let is = (t.row form.0).is_spelled ws read.0 read.1 in
       subst (λ s. table_fits s × table_spelled s (w ∷ ws)) (some_is (form.0, read.0) s read.2)
       (is.0, (listed_is t.word t.all w form.0 form.1, is.1))
 
-  pub table_again : (ws : List (List ℕ)) (s : Says) → table_fits s → table_spelled s ws → table_read ws ≡ Some s
+  pub table_again : (ws : List (List ℕ)) (s : Says) → table_fits s → table_spelled s ws
+      → table_read ws ≡ Some s
   table_again [] s fits e = absurd e
   table_again (w ∷ ws) s fits e = rw (e.0, t.each s.0, (t.row s.0).is_read ws s.1 fits e.1) refl
 
-  pub table_clean : (ws : List (List ℕ)) (s : Says) → table_fits s → table_spelled s ws → EachOf (octet_of t.all) ws
+  pub table_clean : (ws : List (List ℕ)) (s : Says) → table_fits s → table_spelled s ws
+      → EachOf (octet_of t.all) ws
   table_clean [] s fits e = absurd e
   table_clean (w ∷ ws) s fits e = (
-    subst (Of (octet_of t.all)) (sym e.0) (of_more (among (t.word s.0)) (octet_of t.all) (λ c h. octet_known s.0 c (or_left (among (t.word s.0) c) ((t.row s.0).alphabet c) h)) (t.word s.0) (among_itself (t.word s.0))),
-    each_of_more (t.row s.0).alphabet (octet_of t.all) (λ c h. octet_known s.0 c (or_right (among (t.word s.0) c) ((t.row s.0).alphabet c) h)) ws ((t.row s.0).clean ws s.1 fits e.1),
+    subst (Of (octet_of t.all)) (sym e.0) (of_more (among (t.word s.0)) (octet_of t.all)
+        (λ c h. octet_known s.0 c (or_left (among (t.word s.0) c) ((t.row s.0).alphabet c) h))
+        (t.word s.0) (among_itself (t.word s.0))),
+    each_of_more (t.row s.0).alphabet (octet_of t.all)
+        (λ c h. octet_known s.0 c (or_right (among (t.word s.0) c) ((t.row s.0).alphabet c) h)) ws
+        ((t.row s.0).clean ws s.1 fits e.1),
   )
 
-  pub table_counted : (ws : List (List ℕ)) (s : Says) → table_fits s → table_spelled s ws → (1 ≤ length ws) × (length ws ≤ suc (most_of t.all))
+  pub table_counted : (ws : List (List ℕ)) (s : Says) → table_fits s → table_spelled s ws
+      → (1 ≤ length ws) × (length ws ≤ suc (most_of t.all))
   table_counted [] s fits e = absurd e
-  table_counted (w ∷ ws) s fits e = (omega arith, omega (arith, ((t.row s.0).counted ws s.1 fits e.1).1, most_known s.0))
+  table_counted (w ∷ ws) s fits e = (
+    omega arith,
+    omega (arith, ((t.row s.0).counted ws s.1 fits e.1).1, most_known s.0),
+  )
 
   -- the row of all forms
   abbrev pub of_forms : Row Says

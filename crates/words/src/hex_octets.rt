@@ -26,8 +26,8 @@ impl<const LEAST: u32, const MOST: u32> Word for Hex<LEAST, MOST> {
 
     ghost seen = { λ octets. octets };
 
-    /// The octets of a word. One of more digits than the longest value has is refused by its length,
-    /// so not for want of memory: nothing is decoded for it.
+    /// The octets of a word. One of more digits than the longest value has is refused by its
+    /// length, so not for want of memory: nothing is decoded for it.
     #[tactic(auto, using(crate::specs::HexOctets::too_long))]
     fn read(alloc: Global, word: &[u8]) -> Result<Octets, Unread>
         ensures exact { Gives (λ octets. octets) result (hex_read LEAST MOST word.now) }

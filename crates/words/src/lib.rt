@@ -3,14 +3,14 @@
 //
 // A line is words, one blank apart. Each kind of word says once what it reads, what it writes and
 // which octets its spellings may have (`specs/`), and carries the proof that reading is exact, that
-// what is written is read back, and that no blank and no line end stands in a word. A row puts kinds
-// together: `Then<Number<0, 3>, Last<Time>>` is a number and a time behind it. A line form is then a
-// definition of a line or two on both sides, and what is proved of rows holds of it.
+// what is written is read back, and that no blank and no line end stands in a word. A row puts
+// kinds together: `Then<Number<0, 3>, Last<Time>>` is a number and a time behind it. A line form is
+// then a definition of a line or two on both sides, and what is proved of rows holds of it.
 //
 // Reading goes over each octet of a line a constant number of times. `Hex`, `Name` and `ValueWord`
 // take memory for the octets of their values, which aren't copied from then on, and `Many` takes it
-// for its list. A word of hexadecimal digits that is too long is refused by its length. Writing goes
-// over what it writes once, at the end of a vector that may grow.
+// for its list. A word of hexadecimal digits that is too long is refused by its length. Writing
+// goes over what it writes once, at the end of a vector that may grow.
 #![tactic(auto)]
 
 mod cause;

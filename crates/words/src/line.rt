@@ -62,7 +62,8 @@ pub fn write_line<'a, W: Word, R: WriteWords<'a>>(
     into: &mut Vec<u8>,
 ) -> Result<(), AllocError>
     requires { (and_then W.kind R.kinds).Fits (W.seen first.now, R.lent others) }
-    ensures { OnOk result (into.new.items ≡ into.old.items ++ spelling (and_then W.kind R.kinds) (W.seen first.now, R.lent others)) }
+    ensures { OnOk result (into.new.items ≡ into.old.items
+        ++ spelling (and_then W.kind R.kinds) (W.seen first.now, R.lent others)) }
 {
     W::write(first, into)?;
     R::put(b' ', others, into)

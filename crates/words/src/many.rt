@@ -65,7 +65,8 @@ fn each<W: Word>(
     separator: u8,
     words: Option<&[u8]>,
 ) -> Result<Vec<W::Value>, Unread>
-    ensures { Gives (λ all. map W.seen all.items) result (each_read W.kind.read (parts_behind separator words.entry)) }
+    ensures { Gives (λ all. map W.seen all.items) result
+        (each_read W.kind.read (parts_behind separator words.entry)) }
 {
     let mut all = Vec::new(alloc);
     let mut rest = words;
@@ -85,7 +86,8 @@ pub(crate) fn put_each<W: Word>(
     into: &mut Vec<u8>,
 ) -> Result<(), AllocError>
     requires { each_fits W.kind.Fits (map W.seen values.now) }
-    ensures { OnOk result (into.new.items ≡ into.old.items ++ behind separator (map W.kind.write (map W.seen values.now))) }
+    ensures { OnOk result (into.new.items ≡ into.old.items
+        ++ behind separator (map W.kind.write (map W.seen values.now))) }
 {
     let mut rest = values;
     while let Some((value, more)) = rest.split_first() {

@@ -40,5 +40,6 @@ pub trait WriteWords<'a> {
     /// front of it may stand there.
     fn put(separator: u8, value: Self::Lent, into: &mut Vec<u8>) -> Result<(), AllocError>
         requires { kinds.Fits (lent value) }
-        ensures { OnOk result (into.new.items ≡ into.old.items ++ behind separator (kinds.write (lent value))) };
+        ensures { OnOk result (into.new.items
+            ≡ into.old.items ++ behind separator (kinds.write (lent value))) };
 }

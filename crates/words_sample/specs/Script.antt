@@ -49,7 +49,8 @@ parts_back (inr (inr (inr x))) = absurd x
 
 abbrev pub script : Choice ScriptLine
 script = choice_as
-    (line (codes "frame") frame_row (line (codes "mark") (last time) (line (codes "crash") crash_row no_line refl) refl) refl)
+    (line (codes "frame") frame_row (line (codes "mark") (last time)
+    (line (codes "crash") crash_row no_line refl) refl) refl)
     (record { to = line_of; from = parts_of; there = line_there; back = parts_back })
 
 pub script_is_exact : AreExact script

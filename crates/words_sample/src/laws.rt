@@ -2,8 +2,8 @@
 ghost use Rattle.words.specs.Lines.{AreExact};
 ghost use Rattle.words_sample.specs.Script.{script};
 
-/// Lines are read exactly where they spell what they say, the canonical ones are read back, and none
-/// holds a line end.
+/// Lines are read exactly where they spell what they say, the canonical ones are read back, and
+/// none holds a line end.
 #[tactic(auto, using(crate::specs::Script::script_is_exact))]
 pub fn script_is_exact()
     ensures { AreExact script }

@@ -8,8 +8,8 @@ use record_form::Entry;
 use sle_common::{Channel, Gvcid};
 use std::alloc::Global;
 
-// TM frames of spacecraft 1 on channels 0 and 7, an AOS frame of spacecraft 1 on channel 63, and one
-// of an unknown version.
+// TM frames of spacecraft 1 on channels 0 and 7, an AOS frame of spacecraft 1 on channel 63, and
+// one of an unknown version.
 const HEADERS: [[u8; 2]; 4] = [[0x00, 0x10], [0x00, 0x1e], [0x40, 0x7f], [0x80, 0x00]];
 
 const LOST: [u32; 4] = [0, 1, 3, 16_777_215];

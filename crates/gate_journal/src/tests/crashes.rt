@@ -47,7 +47,8 @@ fn after_second(alloc: Global, orders: Orders) -> Result<MemoryDisk, JournalFaul
     after_append(alloc, disk, 3, orders)
 }
 
-// Whether the frames of these numbers are recovered from a disk, and then a further one is appended.
+// Whether the frames of these numbers are recovered from a disk, and then a further one is
+// appended.
 fn goes_on_from(alloc: Global, disk: MemoryDisk, numbers: &[u8]) -> Result<bool, JournalFault> {
     let (mut journal, stored) = recover(alloc, disk)?;
     let mut expected = frames(alloc, numbers)?;

@@ -1,5 +1,5 @@
-// A second reading of a file, field by field, as its form is described: where each field stands, its
-// range, and for each entry the times of those before it.
+// A second reading of a file, field by field, as its form is described: where each field stands,
+// its range, and for each entry the times of those before it.
 
 use super::*;
 use cds_time::Cds;

@@ -1,4 +1,5 @@
-// Files as they are recovered: the first fault of some, and each of many as a second reading has it.
+// Files as they are recovered: the first fault of some, and each of many as a second reading has
+// it.
 
 use super::*;
 use std::alloc::Global;

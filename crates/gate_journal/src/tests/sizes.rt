@@ -75,8 +75,8 @@ fn extremes(alloc: Global) -> Result<Entries, Memory> {
     Ok(batch)
 }
 
-// Of 2, 13, 22 and 10 octets, and with picoseconds of 2, 15, 65574 and 12: with the file's header, the
-// batch's and two gates.
+// Of 2, 13, 22 and 10 octets, and with picoseconds of 2, 15, 65574 and 12: with the file's header,
+// the batch's and two gates.
 #[test]
 fn entries_at_the_ends_of_their_ranges_are_recovered(rt: HostRuntime) -> Result<(), Fail> {
     let Ok(mut journal) = Journal::create(rt.alloc(), MemoryDisk::new(rt.alloc())) else {

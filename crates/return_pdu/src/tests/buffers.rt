@@ -1,5 +1,5 @@
-// Octets both ways, made by OpenSSL 3.0.19 as those of the PDUs; the large buffers are its heads with
-// frames of one octet's repetition behind them.
+// Octets both ways, made by OpenSSL 3.0.19 as those of the PDUs; the large buffers are its heads
+// with frames of one octet's repetition behind them.
 use super::*;
 
 #[test]

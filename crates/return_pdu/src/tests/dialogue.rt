@@ -1,5 +1,6 @@
-// Octets of whole dialogues: what a user asks, is answered and is sent. They were put together by hand
-// from CCSDS 911.1-B and 911.2-B, annex A, and X.690; the channels' are OpenSSL's, as those of the PDUs.
+// Octets of whole dialogues: what a user asks, is answered and is sent. They were put together by
+// hand from CCSDS 911.1-B and 911.2-B, annex A, and X.690; the channels' are OpenSSL's, as those of
+// the PDUs.
 use super::*;
 
 // The START of RAF without credentials, under the invoke id 0, of all frames of this span.

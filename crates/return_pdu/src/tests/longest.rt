@@ -1,5 +1,5 @@
-// Fields of the greatest length, and one octet past it: the heads and what stands behind are OpenSSL's,
-// as those of the PDUs.
+// Fields of the greatest length, and one octet past it: the heads and what stands behind are
+// OpenSSL's, as those of the PDUs.
 use super::*;
 
 const LONGEST: [u8; 256] = [7; 256];

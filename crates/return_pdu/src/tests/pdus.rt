@@ -1,7 +1,8 @@
-// Octets both ways, made by OpenSSL 3.0.19 from the fields alone: `openssl asn1parse -genconf` encodes
-// a text such as `IMPLICIT:1,SEQUENCE` of `IMPLICIT:0,NULL`, `INTEGER:7`, .. in DER, which for these
-// types is the shortest spelling. The faulty ones are its too: a field past its range, an alternative
-// that there isn't, a field missing or too many. The places of faults were counted by X.690.
+// Octets both ways, made by OpenSSL 3.0.19 from the fields alone: `openssl asn1parse -genconf`
+// encodes a text such as `IMPLICIT:1,SEQUENCE` of `IMPLICIT:0,NULL`, `INTEGER:7`, .. in DER, which
+// for these types is the shortest spelling. The faulty ones are its too: a field past its range, an
+// alternative that there isn't, a field missing or too many. The places of faults were counted by
+// X.690.
 use super::*;
 
 #[test]

@@ -7,5 +7,6 @@ use Rattle.archive_index.proofs.tests.cut_to.Goals as goal
 
 pub returns : goal.returns
 returns c =
-    subst (λ (es : List archive.Entry). Indexes c.cut.new.self es) (take-map entry_of c.args.length c.args.entries.now)
+    subst (λ (es : List archive.Entry). Indexes c.cut.new.self es)
+    (take-map entry_of c.args.length c.args.entries.now)
     (c.cut.ensures (entries_of c.args.entries.now) c.requires)

@@ -13,11 +13,13 @@ returns-clause-items c = complete_run
 pub returns-clause-entries : goal.returns-clause-entries
 returns-clause-entries c = λ t entries later rounds some mode archive rise longer.
     let all : List Entry = take (last_front 0 rounds) entries ++ later in
-    entries_prefix (picked all t.selection) (is_stop_closed t.selection all) (handed_items (outcomes t entries rounds started))
+    entries_prefix (picked all t.selection) (is_stop_closed t.selection all)
+    (handed_items (outcomes t entries rounds started))
     (complete_run t entries later rounds some mode archive rise longer)
 
 pub returns-clause-end_of_data : goal.returns-clause-end_of_data
 returns-clause-end_of_data c = λ t entries later rounds some mode archive rise longer ended.
     let all : List Entry = take (last_front 0 rounds) entries ++ later in
-    end_is_last (picked all t.selection) (is_stop_closed t.selection all) (handed_items (outcomes t entries rounds started))
+    end_is_last (picked all t.selection) (is_stop_closed t.selection all)
+    (handed_items (outcomes t entries rounds started))
     (complete_run t entries later rounds some mode archive rise longer) ended

@@ -9,4 +9,5 @@ returns-clause-of_places c = gaps_add_up
 
 pub returns-clause-of_a_run : goal.returns-clause-of_a_run
 returns-clause-of_a_run c = λ t entries rounds place places some archive rise are small.
-    gaps_add_up entries place places (subst IsStrictlyIncreasing are (frames_in_run t entries rounds some archive rise)) small
+    gaps_add_up entries place places (subst IsStrictlyIncreasing are
+    (frames_in_run t entries rounds some archive rise)) small

@@ -1,7 +1,8 @@
 use Rattle.std.proofs.Common.{[], slice_index_or}
 use Rattle.archive_terms.specs.Delivery.{cut}
 use Rattle.archive_terms.proofs.Buffers.{InLimits-length}
-use Rattle.archive_terms.proofs.Cuts.{IsCut, join-cut_onto, open_nothing, all_cut, complete_before_last}
+use Rattle.archive_terms.proofs.Cuts.{IsCut, join-cut_onto, open_nothing, all_cut}
+use Rattle.archive_terms.proofs.Cuts.{complete_before_last}
 use Rattle.archive_terms.proofs.laws.cut_into_buffers.Goals as goal
 
 pub returns-clause-joined : goal.returns-clause-joined
@@ -11,7 +12,10 @@ pub returns-clause-buffers : goal.returns-clause-buffers
 returns-clause-buffers c = λ size items some k d below.
     let is_cut : IsCut size (slice_index_or (cut size items) k d) =
     all_cut size items [] some (open_nothing size some) k d below in
-    record { few = InLimits-length size (slice_index_or (cut size items) k d) is_cut.0; open_before = is_cut.0.open_before }
+    record {
+      few = InLimits-length size (slice_index_or (cut size items) k d) is_cut.0;
+      open_before = is_cut.0.open_before;
+    }
 
 pub returns-clause-none_empty : goal.returns-clause-none_empty
 returns-clause-none_empty c =

@@ -1,4 +1,5 @@
-use Rattle.archive_terms.proofs.Links.{blocked_round, waiting_round, taken_round, not_due_round, failed_round}
+use Rattle.archive_terms.proofs.Links.{blocked_round, waiting_round, taken_round, not_due_round}
+use Rattle.archive_terms.proofs.Links.{failed_round}
 use Rattle.archive_terms.proofs.laws.rounds_by_link.Goals as goal
 
 pub returns-clause-blocked : goal.returns-clause-blocked

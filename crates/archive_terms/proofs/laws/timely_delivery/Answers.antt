@@ -13,5 +13,6 @@ returns-clause-shape c = timely_run
 pub returns-clause-end_of_data : goal.returns-clause-end_of_data
 returns-clause-end_of_data c = λ t entries later rounds some mode archive rise longer ended.
     let all : List Entry = take (last_front 0 rounds) entries ++ later in
-    all_settled (picked all t.selection) (is_stop_closed t.selection all) (outcomes t entries rounds started)
+    all_settled (picked all t.selection) (is_stop_closed t.selection all)
+    (outcomes t entries rounds started)
     (timely_run t entries later rounds some mode archive rise longer).in_order ended

@@ -8,4 +8,5 @@ pub returns-clause-exact : goal.returns-clause-exact
 returns-clause-exact c = one_shl (8 * c.args.count) 128 (omega arith) ∙ pow-256 c.args.count
 
 pub returns-clause-below : goal.returns-clause-below
-returns-clause-below c = rw (one_shl (8 * c.args.count) 128 (omega arith)) (pow-le-pow_right {n = 2} (omega arith) {i = 8 * c.args.count} {j = 72} (omega arith))
+returns-clause-below c = rw (one_shl (8 * c.args.count) 128 (omega arith))
+    (pow-le-pow_right {n = 2} (omega arith) {i = 8 * c.args.count} {j = 72} (omega arith))

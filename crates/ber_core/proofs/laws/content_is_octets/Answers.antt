@@ -7,4 +7,5 @@ use Rattle.ber_core.proofs.laws.content_is_octets.Goals as goal
 pub returns : goal.returns
 returns c = λ view tag content start octets found.
     subst IsOctets (left-inside view tag content start found)
-    (IsOctets-take (start + length content - start) (drop start view.octets) (IsOctets-drop start view.octets octets))
+    (IsOctets-take (start + length content - start) (drop start view.octets)
+    (IsOctets-drop start view.octets octets))

@@ -9,10 +9,15 @@ use Rattle.ber_core.proofs.laws.element_read_back.Goals as goal
 pub returns : goal.returns
 unfolding element
 returns c = λ view tag content more fits shallow front.
-    Stands-next_content view tag content (view.place + length tag + length (shortest_length (length content))) (record {
+    Stands-next_content view tag content (view.place + length tag + length
+    (shortest_length (length content))) (record {
       spelled = element tag content;
       rest = more;
-      is_element = (shortest_length (length content), shortest_length-IsLength (length content) fits, refl);
+      is_element = (
+        shortest_length (length content),
+        shortest_length-IsLength (length content) fits,
+        refl,
+      );
       before_end = front;
       begins = omega (arith, length-element tag content);
       shallow = shallow;

@@ -4,4 +4,5 @@ use Rattle.ber_core.proofs.reader.number_length.Given as goal
 
 abbrev pub invariant-loop-place : goal.invariant-loop-place
 invariant-loop-place l =
-    through_last l.octets ≡ option_map (λ rest. take l.place l.octets ++ rest) (through_last (drop l.place l.octets))
+    through_last l.octets ≡ option_map (λ rest. take l.place l.octets ++ rest)
+    (through_last (drop l.place l.octets))

@@ -5,15 +5,21 @@ use Rattle.ber_shape.proofs.lending.lend_list.Goals as goal
 
 pub since-requires : goal.since-requires
 since-requires g c =
-    let lent = lending g.E.Element.shape c.args.most c.args.reader.now c.pass_over.new.reader (deeper g.E.Element.shape.levels g.E.Element.is_shallow) c.octets.ensures.slice c.place-start.ensures.shallow c.in_ok-pass_over.ensures.exact in
+    let lent = lending g.E.Element.shape c.args.most c.args.reader.now c.pass_over.new.reader
+    (deeper g.E.Element.shape.levels g.E.Element.is_shallow) c.octets.ensures.slice
+    c.place-start.ensures.shallow c.in_ok-pass_over.ensures.exact in
     omega (arith, lent.onward, c.place-start.ensures.exact)
 
 pub returns-clause-exact : goal.returns-clause-exact
 returns-clause-exact g c =
     let f = g.E.Element.shape in
-    let lent = lending f c.args.most c.args.reader.now c.pass_over.new.reader (deeper g.E.Element.shape.levels g.E.Element.is_shallow) c.octets.ensures.slice c.place-start.ensures.shallow c.in_ok-pass_over.ensures.exact in (
+    let lent = lending f c.args.most c.args.reader.now c.pass_over.new.reader
+    (deeper g.E.Element.shape.levels g.E.Element.is_shallow) c.octets.ensures.slice
+    c.place-start.ensures.shallow c.in_ok-pass_over.ensures.exact in (
       lent.values,
       lent.is,
-      lent_again f c.args.most c.args.reader.now c.pass_over.new.reader c.pass_over.new.reader.octets c.since.result.now c.place-start.result c.pass_over.new.reader.place lent.values
+      lent_again f c.args.most c.args.reader.now c.pass_over.new.reader
+          c.pass_over.new.reader.octets c.since.result.now c.place-start.result
+          c.pass_over.new.reader.place lent.values
           c.pass_over.ensures.octets c.place-start.ensures.exact refl c.since.ensures lent.again,
     )

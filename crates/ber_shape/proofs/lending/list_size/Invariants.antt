@@ -12,7 +12,8 @@ invariant-loop-item g l =
     record {
       some : IsOk (whole (many_at f.read l.most) l.rest);
       each : AllByRecursion f.Fits (values (list_of f l.most) l.rest);
-      so_far : l.size + size f (values (list_of f l.most) l.rest) ≡ size f (values (list_of f l.most) l.octets);
+      so_far : l.size + size f (values (list_of f l.most) l.rest)
+          ≡ size f (values (list_of f l.most) l.octets);
       small : size f (values (list_of f l.most) l.octets) ≤ times l.most f.most;
     }
 

@@ -8,7 +8,13 @@ pub loop-item-init : goal.loop-item-init
 loop-item-init g c =
     let f = g.E.Element.shape in
     let fits = each_fits f c.args.most c.args.octets.now c.slice.ensures c.requires.some in
-    record { some = c.requires.some; each = fits.each; octets = refl; room = refl; fits = c.requires.room }
+    record {
+      some = c.requires.some;
+      each = fits.each;
+      octets = refl;
+      room = refl;
+      fits = c.requires.room;
+    }
 
 pub write-requires : goal.write-requires
 write-requires g c κs =
@@ -34,7 +40,8 @@ loop-item-preserved g c =
     record {
       some = c.in-Some.ensures.1;
       each = (fits_more f rest others _ c.in-Some.ensures.0 c.loop-item.invariant.each).1;
-      octets = one_more f c.loop-item.writer.octets c.write.new.writer.octets _ rest others _ c.in-Some.ensures.0 c.write.ensures.octets c.loop-item.invariant.octets;
+      octets = one_more f c.loop-item.writer.octets c.write.new.writer.octets _ rest others _
+          c.in-Some.ensures.0 c.write.ensures.octets c.loop-item.invariant.octets;
       room = omega (arith, sizes, c.loop-item.invariant.room, c.write.ensures.room);
       fits = omega (arith, sizes, c.loop-item.invariant.fits, c.write.ensures.room);
     }
@@ -42,9 +49,14 @@ loop-item-preserved g c =
 pub returns-clause-octets : goal.returns-clause-octets
 returns-clause-octets g c =
     let f = g.E.Element.shape in
-    no_more f c.loop-item.writer.octets _ (values (list_of f c.args.most) c.loop-item.rest.now) c.in_default.ensures c.loop-item.invariant.octets
+    no_more f c.loop-item.writer.octets _ (values (list_of f c.args.most) c.loop-item.rest.now)
+    c.in_default.ensures c.loop-item.invariant.octets
 
 pub returns-clause-room : goal.returns-clause-room
 returns-clause-room g c =
     let f = g.E.Element.shape in
-    omega (arith, c.loop-item.invariant.room, size_none f (values (list_of f c.args.most) c.loop-item.rest.now) c.in_default.ensures)
+    omega (
+      arith,
+      c.loop-item.invariant.room,
+      size_none f (values (list_of f c.args.most) c.loop-item.rest.now) c.in_default.ensures,
+    )

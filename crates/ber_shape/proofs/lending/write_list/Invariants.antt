@@ -13,8 +13,12 @@ invariant-loop-item g l =
     record {
       some : IsOk (whole (many_at f.read l.most) l.rest);
       each : AllByRecursion f.Fits (values (list_of f l.most) l.rest);
-      octets : l.writer.octets ++ canonical_all (each_tree f.tree (values (list_of f l.most) l.rest)) ≡ l.fn.writer.octets ++ canonical_all (each_tree f.tree (values (list_of f l.most) l.octets));
-      room : l.writer.room + size f (values (list_of f l.most) l.octets) ≡ l.fn.writer.room + size f (values (list_of f l.most) l.rest);
+      octets : l.writer.octets ++ canonical_all
+          (each_tree f.tree (values (list_of f l.most) l.rest))
+          ≡ l.fn.writer.octets ++ canonical_all
+          (each_tree f.tree (values (list_of f l.most) l.octets));
+      room : l.writer.room + size f (values (list_of f l.most) l.octets)
+          ≡ l.fn.writer.room + size f (values (list_of f l.most) l.rest);
       fits : size f (values (list_of f l.most) l.rest) ≤ l.writer.room;
     }
 

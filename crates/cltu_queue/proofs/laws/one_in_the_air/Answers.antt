@@ -9,4 +9,5 @@ pub returns-clause-stays : goal.returns-clause-stays
 returns-clause-stays c = λ m events a is none. (stays_alone m events a is none).stays
 
 pub returns-clause-radiates_none : goal.returns-clause-radiates_none
-returns-clause-radiates_none c = λ m events a is none. (stays_alone m events a is none).radiates_none
+returns-clause-radiates_none c = λ m events a is none.
+    (stays_alone m events a is none).radiates_none

@@ -8,5 +8,8 @@ use Rattle.drill_text.proofs.parse.read_words.Goals as goal
 pub returns : goal.returns
 returns c =
     let some : c.from_word.result ≡ Some c.in_ok-form.form = search rules in
-    let same = said c.args.line.now c.split_part.result.0.now (parts_behind 32 c.split_part.result.1) c.from_word.result c.in_ok-form.form c.requires c.split_part.ensures c.from_word.ensures some in
-    subst (λ (found : Option ScriptLine). Gives {A = ScriptLine} {X = ScriptLine} (λ s. s) c.read_form.result found) (sym same) c.read_form.ensures
+    let same = said c.args.line.now c.split_part.result.0.now
+    (parts_behind 32 c.split_part.result.1) c.from_word.result c.in_ok-form.form c.requires
+    c.split_part.ensures c.from_word.ensures some in
+    subst (λ (found : Option ScriptLine). Gives {A = ScriptLine} {X = ScriptLine} (λ s. s)
+    c.read_form.result found) (sym same) c.read_form.ensures

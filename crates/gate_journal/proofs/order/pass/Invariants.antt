@@ -5,4 +5,5 @@ use Rattle.gate_journal.specs.Order.{Knows}
 use Rattle.gate_journal.proofs.order.pass.Given as goal
 
 abbrev pub invariant-loop-entry : goal.invariant-loop-entry
-invariant-loop-entry l = (earlier : List Entry) → Knows earlier l.fn.before → Knows (earlier ++ entries_of (take l.entry-index l.entries)) l.times
+invariant-loop-entry l = (earlier : List Entry) → Knows earlier l.fn.before
+    → Knows (earlier ++ entries_of (take l.entry-index l.entries)) l.times

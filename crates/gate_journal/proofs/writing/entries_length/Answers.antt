@@ -2,4 +2,5 @@ use Rattle.gate_journal.proofs.Storable.{item}
 use Rattle.gate_journal.proofs.writing.entries_length.Goals as goal
 
 pub entry_length-size-requires : goal.entry_length-size-requires
-entry_length-size-requires c = item c.args.entries.now c.loop-entry.entry-index c.entry-item.result c.loop-entry-test.true c.entry-item.is c.requires.storable
+entry_length-size-requires c = item c.args.entries.now c.loop-entry.entry-index c.entry-item.result
+    c.loop-entry-test.true c.entry-item.is c.requires.storable

@@ -6,4 +6,5 @@ use Rattle.gate_journal.proofs.writing.entries_length.Given as goal
 
 abbrev pub invariant-loop-entry : goal.invariant-loop-entry
 invariant-loop-entry l =
-    (l.size ≡ length (entries_octets (entries_of (take l.entry-index l.entries)))) × (l.size ≤ LONGEST_ENTRY * l.entry-index)
+    (l.size ≡ length (entries_octets (entries_of (take l.entry-index l.entries))))
+    × (l.size ≤ LONGEST_ENTRY * l.entry-index)

@@ -7,4 +7,5 @@ pub returns-clause-answer : goal.returns-clause-answer
 returns-clause-answer c =
     let octets = c.in-Used.octets.now in
     rw c.in-Used.is
-    (subst (IsAnswerTo octets c.args.secret.now c.args.now) (sym c.check_used-answer.ensures) (is_answer octets c.args.secret.now c.args.now c.slice.ensures))
+    (subst (IsAnswerTo octets c.args.secret.now c.args.now) (sym c.check_used-answer.ensures)
+    (is_answer octets c.args.secret.now c.args.now c.slice.ensures))

@@ -7,7 +7,8 @@ abbrev pub invariant-loop-size : goal.invariant-loop-size
 invariant-loop-size l = record {
   within : l.end ≤ length l.octets;
   rest : (reading l.place l.octets).rest ≡ (reading (l.place + l.end) (drop l.end l.octets)).rest;
-  fault : (reading l.place l.octets).fault ≡ (reading (l.place + l.end) (drop l.end l.octets)).fault;
+  fault : (reading l.place l.octets).fault
+      ≡ (reading (l.place + l.end) (drop l.end l.octets)).fault;
 }
 
 abbrev pub decreases-loop-size : goal.decreases-loop-size

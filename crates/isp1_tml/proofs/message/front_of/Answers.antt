@@ -7,4 +7,5 @@ pub returns-clause-exact : goal.returns-clause-exact
 returns-clause-exact c = first_of (search rules, grind (arith, common_steps))
 
 pub returns-clause-spelled : goal.returns-clause-spelled
-returns-clause-spelled c = front_spelled c.args.place (8 + c.in-Some-declared_length.length) c.args.octets.now (λ i. omega (arith, c.type_inv.octets i)) (returns-clause-exact c)
+returns-clause-spelled c = front_spelled c.args.place (8 + c.in-Some-declared_length.length)
+    c.args.octets.now (λ i. omega (arith, c.type_inv.octets i)) (returns-clause-exact c)

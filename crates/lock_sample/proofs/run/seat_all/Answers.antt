@@ -8,5 +8,7 @@ pub loop-place-preserved : goal.loop-place-preserved
 loop-place-preserved c =
     let new : Seat = record { pass = c.in_ok-pass.pass; spent = false } in
     let vacant : IsVacant c.args.lock.now c.args.turns new = search rules in
-    let more = seating_more c.args.lock.now c.args.pass.now c.args.count c.args.turns c.loop-place._place c.loop-place.seats.items new c.loop-place.pass c.split.new.pass c.loop-place.invariant.0 (search rules) vacant (search rules) in
+    let more = seating_more c.args.lock.now c.args.pass.now c.args.count c.args.turns
+    c.loop-place._place c.loop-place.seats.items new c.loop-place.pass c.split.new.pass
+    c.loop-place.invariant.0 (search rules) vacant (search rules) in
     search rules

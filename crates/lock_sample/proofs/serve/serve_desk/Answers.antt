@@ -5,5 +5,9 @@ use Rattle.lock_sample.proofs.serve.serve_desk.Goals as goal
 
 pub orders-preserved : goal.orders-preserved
 orders-preserved g c =
-    let asked : Adds (g.D.Desk.told c.orders.desk) (g.D.Desk.told c.next.new.self) (Some c.in-Some.order ∷ []) (c.in-Some.reading ∷ []) [] = search rules in
-    serving_more c.args.lock.now c.args.clerk c.in-Some.reading c.in-Some.order c.visit-reply.result c.args.pass.now c.orders.pass c.visit-reply.new.pass _ _ _ _ c.orders.invariant asked c.take.ensures c.visit-reply.ensures.made c.visit-reply.ensures.ready c.visit-reply.ensures.turns c.visit-reply.ensures.legal
+    let asked : Adds (g.D.Desk.told c.orders.desk) (g.D.Desk.told c.next.new.self)
+    (Some c.in-Some.order ∷ []) (c.in-Some.reading ∷ []) [] = search rules in
+    serving_more c.args.lock.now c.args.clerk c.in-Some.reading c.in-Some.order c.visit-reply.result
+    c.args.pass.now c.orders.pass c.visit-reply.new.pass _ _ _ _ c.orders.invariant asked
+    c.take.ensures c.visit-reply.ensures.made c.visit-reply.ensures.ready
+    c.visit-reply.ensures.turns c.visit-reply.ensures.legal

@@ -4,7 +4,8 @@ use Rattle.octet_core.proofs.writer_sink.write_whole.Goals as goal
 
 pub loop-count-preserved-in-Ok : goal.loop-count-preserved-in-Ok
 loop-count-preserved-in-Ok g c = (
-  appends_more _ _ _ c.args.octets.now c.loop-count.count c.in-Ok.further c.loop-count.invariant.0 c.in-Ok.ensures.bytes,
+  appends_more _ _ _ c.args.octets.now c.loop-count.count c.in-Ok.further c.loop-count.invariant.0
+      c.in-Ok.ensures.bytes,
   omega (arith, c.in-Ok.ensures.bound, c.loop-count.invariant.1),
   c.loop-count.invariant.2,
 )

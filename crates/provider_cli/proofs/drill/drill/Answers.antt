@@ -1,21 +1,42 @@
 use Rattle.provider_cli.specs.Outside.{showing}
-use Rattle.provider_cli.proofs.Promises.{delivered, read_of, streamed, stays_right, stays_told, each_start, each_sent, completes}
+use Rattle.provider_cli.proofs.Promises.{delivered, read_of, streamed, stays_right, stays_told}
+use Rattle.provider_cli.proofs.Promises.{each_start, each_sent, completes}
 use Rattle.provider_cli.proofs.drill.drill.Goals as goal
 
 pub returns-clause-text : goal.returns-clause-text
-returns-clause-text g c = record { status = c.read_and_run.result; exit_is = c.code.ensures; is_so = c.read_and_run.ensures.text }
+returns-clause-text g c = record {
+  status = c.read_and_run.result;
+  exit_is = c.code.ensures;
+  is_so = c.read_and_run.ensures.text;
+}
 
 pub returns-clause-reads : goal.returns-clause-reads
-returns-clause-reads g c = record { status = c.read_and_run.result; exit_is = c.code.ensures; is_so = c.read_and_run.ensures.reads }
+returns-clause-reads g c = record {
+  status = c.read_and_run.result;
+  exit_is = c.code.ensures;
+  is_so = c.read_and_run.ensures.reads;
+}
 
 pub returns-clause-writes : goal.returns-clause-writes
-returns-clause-writes g c = record { status = c.read_and_run.result; exit_is = c.code.ensures; is_so = c.read_and_run.ensures.writes }
+returns-clause-writes g c = record {
+  status = c.read_and_run.result;
+  exit_is = c.code.ensures;
+  is_so = c.read_and_run.ensures.writes;
+}
 
 pub returns-clause-script : goal.returns-clause-script
-returns-clause-script g c = record { status = c.read_and_run.result; exit_is = c.code.ensures; is_so = c.read_and_run.ensures.script }
+returns-clause-script g c = record {
+  status = c.read_and_run.result;
+  exit_is = c.code.ensures;
+  is_so = c.read_and_run.ensures.script;
+}
 
 pub returns-clause-complete : goal.returns-clause-complete
-returns-clause-complete g c = record { status = c.read_and_run.result; exit_is = c.code.ensures; is_so = completes _ _ _ c.read_and_run.ensures }
+returns-clause-complete g c = record {
+  status = c.read_and_run.result;
+  exit_is = c.code.ensures;
+  is_so = completes _ _ _ c.read_and_run.ensures;
+}
 
 pub returns-clause-delivered : goal.returns-clause-delivered
 returns-clause-delivered g c = each_start _ _ (delivered c.laws.ensures)
@@ -25,8 +46,11 @@ returns-clause-sent g c = record {
   status = c.read_and_run.result;
   exit_is = c.code.ensures;
   is_so = each_sent
-      (showing (g.I.Source.left c.args.input.now) (g.I.Source.faults c.args.input.now) (g.O.Sink.written c.args.output.now) (g.O.Sink.faults c.args.output.now))
-      (showing (g.I.Source.left c.read_and_run.new.input) (g.I.Source.faults c.read_and_run.new.input) (g.O.Sink.written c.read_and_run.new.output) (g.O.Sink.faults c.read_and_run.new.output))
+      (showing (g.I.Source.left c.args.input.now) (g.I.Source.faults c.args.input.now)
+      (g.O.Sink.written c.args.output.now) (g.O.Sink.faults c.args.output.now))
+      (showing (g.I.Source.left c.read_and_run.new.input)
+      (g.I.Source.faults c.read_and_run.new.input) (g.O.Sink.written c.read_and_run.new.output)
+      (g.O.Sink.faults c.read_and_run.new.output))
       c.read_and_run.result c.read_and_run.ensures.text;
 }
 

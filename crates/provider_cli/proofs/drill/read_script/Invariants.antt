@@ -5,8 +5,11 @@ use Rattle.provider_cli.proofs.drill.read_script.Given as goal
 -- what was read is the front of the input, and what the source has left is the rest
 abbrev pub invariant-loop-piece : goal.invariant-loop-piece
 invariant-loop-piece g l = record {
-  left : g.I.Source.left l.input ≡ option_map (drop (vec_len l.script)) (g.I.Source.left l.initial.input);
-  octets : IfSome (g.I.Source.left l.initial.input) (λ octets. (l.script.items ≡ take (vec_len l.script) octets) × (vec_len l.script ≤ length octets));
+  left : g.I.Source.left l.input ≡ option_map (drop (vec_len l.script))
+      (g.I.Source.left l.initial.input);
+  octets : IfSome (g.I.Source.left l.initial.input)
+      (λ octets. (l.script.items ≡ take (vec_len l.script) octets)
+      × (vec_len l.script ≤ length octets));
   faults : g.I.Source.faults l.input ≡ g.I.Source.faults l.initial.input;
 }
 

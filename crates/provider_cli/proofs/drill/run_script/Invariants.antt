@@ -7,7 +7,8 @@ use Rattle.provider_cli.proofs.drill.run_script.Given as goal
 -- the transcript of the lines to come is what is still to be written
 abbrev pub invariant-loop-rest : goal.invariant-loop-rest
 invariant-loop-rest g l = record {
-  behind : Behind (g.O.Sink.written l.initial.output) (g.O.Sink.written l.output) (g.O.Sink.faults l.initial.output) (g.O.Sink.faults l.output)
+  behind : Behind (g.O.Sink.written l.initial.output) (g.O.Sink.written l.output)
+      (g.O.Sink.faults l.initial.output) (g.O.Sink.faults l.output)
       (transcript (lines_of l.script)) (transcript_from l.number l.archive (lines_of l.rest));
   lines : is_script (lines_of l.rest) ≡ is_script (lines_of l.script);
   numbers : l.number + length l.rest ≤ length l.script + 1;

@@ -5,7 +5,11 @@ use Rattle.provider_cli.proofs.Parts.{parts_none}
 use Rattle.provider_cli.proofs.lines.split_part.Goals as goal
 
 pub returns-then-end-text : goal.returns-then-end-text
-returns-then-end-text c = grind (arith, common_steps, slice_split_first (λ x. x == c.args.separator) c.args.text.now 0)
+returns-then-end-text c = grind (
+  arith,
+  common_steps,
+  slice_split_first (λ x. x == c.args.separator) c.args.text.now 0,
+)
 
 pub returns-else-end-text : goal.returns-else-end-text
 returns-else-end-text c = grind (arith, common_steps, parts_none c.args.separator c.args.text.now)

@@ -5,4 +5,5 @@ use Rattle.provider_cli.proofs.plain.is_closed.Given as goal
 
 -- no entry so far closes the stop
 abbrev pub invariant-loop-entry : goal.invariant-loop-entry
-invariant-loop-entry l = is_closed (archive_of (drop l.entry-index l.entries)) l.stop ≡ is_closed (archive_of l.entries) l.stop
+invariant-loop-entry l = is_closed (archive_of (drop l.entry-index l.entries)) l.stop
+    ≡ is_closed (archive_of l.entries) l.stop

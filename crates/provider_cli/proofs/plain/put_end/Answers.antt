@@ -6,5 +6,7 @@ use Rattle.provider_cli.proofs.plain.put_end.Goals as goal
 
 pub returns : goal.returns
 returns c =
-    subst (λ (line : List ℕ). OnOk c.put_buffer.result (c.put_buffer.new.text.items ≡ c.args.text.now.items ++ line))
-    (line_of_one c.buffer_is_head_and_items.ensures end_of_data c.octets.result.now (search rules)) c.put_buffer.ensures
+    subst (λ (line : List ℕ). OnOk c.put_buffer.result
+    (c.put_buffer.new.text.items ≡ c.args.text.now.items ++ line))
+    (line_of_one c.buffer_is_head_and_items.ensures end_of_data c.octets.result.now (search rules))
+    c.put_buffer.ensures

@@ -9,5 +9,8 @@ use Rattle.return_pdu.proofs.laws.buffer_is_head_and_items.Goals as goal
 
 pub returns : goal.returns
 returns c = λ items.
-    spelled-constructed buffer_tag (trees items) ∙ ap (λ spelled. buffer_tag ++ (shortest_length (length spelled) ++ spelled)) (spelled-trees items)
-    ∙ sym (append_assoc buffer_tag (shortest_length (length (flat_map canonical items))) (flat_map canonical items))
+    spelled-constructed buffer_tag (trees items)
+    ∙ ap (λ spelled. buffer_tag ++ (shortest_length (length spelled) ++ spelled))
+    (spelled-trees items)
+    ∙ sym (append_assoc buffer_tag (shortest_length (length (flat_map canonical items)))
+    (flat_map canonical items))

@@ -12,14 +12,21 @@ pub loop-attribute-preserved : goal.loop-attribute-preserved
 loop-attribute-preserved c =
     let a = get_or attributes c.loop-attribute.attribute-index Sagr in
     let label : c.label-label.result.now ≡ label_of a = c.label-label.ensures in
-    let is : c.shared_length-shared.result ≡ shared a c.args.text.now = c.shared_length-shared.ensures ∙ ap (λ label. common_prefix_len nat_eq label c.args.text.now) label in
+    let is : c.shared_length-shared.result ≡ shared a c.args.text.now =
+    c.shared_length-shared.ensures
+    ∙ ap (λ label. common_prefix_len nat_eq label c.args.text.now) label in
     let most = (common_prefix_len-le nat_eq (label_of a) c.args.text.now).0 in
-    let none : shared a c.args.text.now < length (label_of a) = omega (arith, most, is, c.if-shared-label.false, ap length label) in
-    let greatest : c.max-longest.result ≡ max c.loop-attribute.longest (shared a c.args.text.now) = grind (arith, is, c.max-longest.ensures) in
-    one_tried c.args.text.now c.loop-attribute.attribute-index c.loop-attribute.longest c.max-longest.result a c.loop-attribute.invariant refl none greatest
+    let none : shared a c.args.text.now < length (label_of a) =
+    omega (arith, most, is, c.if-shared-label.false, ap length label) in
+    let greatest : c.max-longest.result ≡ max c.loop-attribute.longest (shared a c.args.text.now) =
+    grind (arith, is, c.max-longest.ensures) in
+    one_tried c.args.text.now c.loop-attribute.attribute-index c.loop-attribute.longest
+    c.max-longest.result a c.loop-attribute.invariant refl none greatest
 
 pub returns-clause-bad : goal.returns-clause-bad
 returns-clause-bad c =
     let all : c.loop-attribute.attribute-index ≡ 8 = omega arith in
-    let tried = subst (λ n. HasTried c.args.text.now n c.loop-attribute.longest) all c.loop-attribute.invariant in
-    label_refused c.args.text.now c.loop-attribute.longest (all_tried c.args.text.now c.loop-attribute.longest tried)
+    let tried = subst (λ n. HasTried c.args.text.now n c.loop-attribute.longest) all
+    c.loop-attribute.invariant in
+    label_refused c.args.text.now c.loop-attribute.longest
+    (all_tried c.args.text.now c.loop-attribute.longest tried)

@@ -7,4 +7,9 @@ pub returns-else-shared-text : goal.returns-else-shared-text
 returns-else-shared-text c =
     let label = drop c.loop-shared.shared c.args.label.now in
     let text = drop c.loop-shared.shared c.args.text.now in
-    omega (arith, c.loop-shared.invariant, (common_prefix_len-le nat_eq label text).1, length-drop c.loop-shared.shared c.args.text.now)
+    omega (
+      arith,
+      c.loop-shared.invariant,
+      (common_prefix_len-le nat_eq label text).1,
+      length-drop c.loop-shared.shared c.args.text.now,
+    )

@@ -10,6 +10,8 @@ use Rattle.sle_common.proofs.laws.text_and_octets_agree.Goals as goal
 pub returns : goal.returns
 returns c octets of_text of_octets slice are read =
     let (fits, spells) = element_is identifier octets of_octets slice read in (
-      λ texts. subst (λ list. Spells (identifier.tree list) octets) (sym (same_text of_text of_octets are fits texts)) spells,
-      λ spelled. ap text_of (ok_is of_text of_octets (sym (element_again identifier refl octets of_text are spelled) ∙ read)),
+      λ texts. subst (λ list. Spells (identifier.tree list) octets)
+          (sym (same_text of_text of_octets are fits texts)) spells,
+      λ spelled. ap text_of (ok_is of_text of_octets
+          (sym (element_again identifier refl octets of_text are spelled) ∙ read)),
     )

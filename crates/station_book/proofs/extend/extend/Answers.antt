@@ -1,4 +1,5 @@
-use Rattle.std.proofs.Common.{◌≡◌, ◌+◌, ◌++◌, ◌∷◌, take, drop, false, sym, subst, ◌∙◌, IsFalse, rules}
+use Rattle.std.proofs.Common.{◌≡◌, ◌+◌, ◌++◌, ◌∷◌, take, drop, false, sym, subst, ◌∙◌, IsFalse}
+use Rattle.std.proofs.Common.{rules}
 use Rattle.archive_terms.specs.Archive.{is_archive, may_follow}
 use Rattle.record_form.specs.Entry.{entry_of, entries_of}
 use Rattle.station_book.proofs.Extending.{foreign_entry, taken_apart}
@@ -12,8 +13,12 @@ returns-then-not-may_follow-clause-foreign c = λ _.
     let e = c.entry-item.result in
     let held = c.loop-entry.held.items in
     let judged = c.may_follow.ensures (entries_of held) c.loop-entry.invariant.indexed in
-    let follows : may_follow (entries_of held) (entry_of e) ≡ false = cc (judged, c.if-not-may_follow.true) in
-    let none : is_archive (entries_of old ++ entries_of (take i xs ++ e ∷ drop (i + 1) xs)) ≡ false =
-    foreign_entry c.archive_grows.ensures.archive old (take i xs) (drop (i + 1) xs) e c.loop-entry.index held c.loop-entry.invariant follows in
-    let whole : take i xs ++ e ∷ drop (i + 1) xs ≡ xs = taken_apart xs i e c.loop-entry-test.true c.entry-item.is in
+    let follows : may_follow (entries_of held) (entry_of e) ≡ false =
+    cc (judged, c.if-not-may_follow.true) in
+    let none : is_archive (entries_of old ++ entries_of (take i xs ++ e ∷ drop (i + 1) xs))
+    ≡ false =
+    foreign_entry c.archive_grows.ensures.archive old (take i xs) (drop (i + 1) xs) e
+    c.loop-entry.index held c.loop-entry.invariant follows in
+    let whole : take i xs ++ e ∷ drop (i + 1) xs ≡ xs =
+    taken_apart xs i e c.loop-entry-test.true c.entry-item.is in
     subst (λ ys. is_archive (entries_of old ++ entries_of ys) ≡ false) whole none

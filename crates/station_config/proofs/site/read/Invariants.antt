@@ -6,7 +6,8 @@ use Rattle.station_config.proofs.site.read.Given as goal
 abbrev pub invariant-loop-rest : goal.invariant-loop-rest
 invariant-loop-rest l = record {
   few : length l.draft.peers ≤ 32;
-  told : told_from l.number l.draft (parts_behind 10 l.rest) ≡ told_from 1 empty (parts_behind 10 l.initial.rest);
+  told : told_from l.number l.draft (parts_behind 10 l.rest)
+      ≡ told_from 1 empty (parts_behind 10 l.initial.rest);
 }
 
 abbrev pub decreases-loop-rest : goal.decreases-loop-rest

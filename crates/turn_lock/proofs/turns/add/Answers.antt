@@ -7,8 +7,12 @@ use Rattle.turn_lock.proofs.turns.add.Goals as goal
 pub fetch_add-requires : goal.fetch_add-requires
 fetch_add-requires g c =
     let h = some_is c.args.seat.now.me.0.kept c.requires.holds.0 in
-    let e = some_is g.N.Naming.event c.requires.event in
-    (search rules, search rules, adds _ _ _ _ _ _ _ h.0 _ e.0 e.1 c.requires.table.2 h.1 c.requires.holds.1)
+    let e = some_is g.N.Naming.event c.requires.event in (
+      search rules,
+      search rules,
+      adds _ _ _ _ _ _ _ h.0 _ e.0 e.1 c.requires.table.2 h.1
+          c.requires.holds.1,
+    )
 
 pub returns-clause-own : goal.returns-clause-own
 returns-clause-own g c =

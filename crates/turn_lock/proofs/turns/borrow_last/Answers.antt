@@ -10,5 +10,9 @@ join_seat-requires g c =
       search rules,
       search rules,
       search rules,
-      joins _ _ _ _ _ _ _ _ _ o.0 o.1 c.requires.ready.0 c.requires.keeper.0 c.requires.ready.1 c.requires.keeper.1 refl refl c.requires.ready.0 c.requires.ready.1 refl refl refl refl (λ l p q. p) (λ l p q b. b) (λ l p q. p) (λ k. omega (arith, ap (times k) c.requires.keeper.3)) (omega (arith, ap total c.requires.keeper.3)),
+      joins _ _ _ _ _ _ _ _ _ o.0 o.1 c.requires.ready.0 c.requires.keeper.0 c.requires.ready.1
+          c.requires.keeper.1 refl refl c.requires.ready.0 c.requires.ready.1 refl refl refl refl
+          (λ l p q. p) (λ l p q b. b) (λ l p q. p)
+          (λ k. omega (arith, ap (times k) c.requires.keeper.3))
+          (omega (arith, ap total c.requires.keeper.3)),
     )

@@ -15,17 +15,24 @@ join_seat-requires g c =
       search rules,
       search rules,
       search rules,
-      joins _ _ _ _ _ _ _ _ _ o.0 o.1 c.requires.ready.0 c.requires.other.0 c.requires.ready.1 c.requires.other.1 refl refl c.requires.ready.0 c.requires.ready.1 refl refl refl refl (λ l p q. longer_prefix _ _ l p q) (λ l p q b. shorter_prefix _ _ l p q) (λ l p q. all_beside l mine given p q) (λ k. times_beside k mine given) (omega (arith, total_beside mine given)),
+      joins _ _ _ _ _ _ _ _ _ o.0 o.1 c.requires.ready.0 c.requires.other.0 c.requires.ready.1
+          c.requires.other.1 refl refl c.requires.ready.0 c.requires.ready.1 refl refl refl refl
+          (λ l p q. longer_prefix _ _ l p q) (λ l p q b. shorter_prefix _ _ l p q)
+          (λ l p q. all_beside l mine given p q) (λ k. times_beside k mine given)
+          (omega (arith, total_beside mine given)),
     )
 
 pub load-requires : goal.load-requires
 load-requires g c =
     let o = some_is c.args.seat.now.me.0.origin c.requires.ready.2 in
-    let same : c.join_seat.new.seat.me.0.origin ≡ Some o.0 = ap (λ m. m.0.origin) c.join_seat.ensures.2 ∙ o.1 in
+    let same : c.join_seat.new.seat.me.0.origin ≡ Some o.0 =
+    ap (λ m. m.0.origin) c.join_seat.ensures.2 ∙ o.1 in
     (search rules, search rules, learns _ _ _ _ _ _ _ o.0 same)
 
 pub returns-clause-begins : goal.returns-clause-begins
 returns-clause-begins g c =
     let now = c.load.ensures.2.0 ∙ c.join_seat.ensures.2 in
-    let begins = subst (λ m. IsPrefix m.0.beginning m.0.seen) c.join_seat.ensures.2 c.load.ensures.2.2 in
-    subst (λ m. IsPrefix c.args.seat.now.me.0.seen m.0.seen × IsPrefix c.args.other.me.0.seen m.0.seen) (sym now) (both_prefix _ _ begins)
+    let begins = subst (λ m. IsPrefix m.0.beginning m.0.seen) c.join_seat.ensures.2
+    c.load.ensures.2.2 in
+    subst (λ m. IsPrefix c.args.seat.now.me.0.seen m.0.seen
+    × IsPrefix c.args.other.me.0.seen m.0.seen) (sym now) (both_prefix _ _ begins)

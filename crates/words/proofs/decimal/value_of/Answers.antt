@@ -9,7 +9,13 @@ use Rattle.words.proofs.decimal.value_of.Goals as goal
 -- the number is above the greatest one already
 pub returns-then-wide-from-clause-exact : goal.returns-then-wide-from-clause-exact
 returns-then-wide-from-clause-exact c =
-    let grown : c.loop-digit.value * 10 + digit_value (get_or c.args.digits.now c.loop-digit.digit-index 0) ≤ digits_value_after 10 c.loop-digit.value (drop c.loop-digit.digit-index c.args.digits.now) = value_grows_past c.args.digits.now c.loop-digit.digit-index c.loop-digit.value c.loop-digit-test.true in
-    let digit : digit_value (get_or c.args.digits.now c.loop-digit.digit-index 0) ≡ get_or c.args.digits.now c.loop-digit.digit-index 0 - 48 = grind (arith, common_steps) in
+    let grown : c.loop-digit.value * 10 + digit_value
+    (get_or c.args.digits.now c.loop-digit.digit-index 0)
+    ≤ digits_value_after 10 c.loop-digit.value
+    (drop c.loop-digit.digit-index c.args.digits.now) =
+    value_grows_past c.args.digits.now c.loop-digit.digit-index c.loop-digit.value
+    c.loop-digit-test.true in
+    let digit : digit_value (get_or c.args.digits.now c.loop-digit.digit-index 0)
+    ≡ get_or c.args.digits.now c.loop-digit.digit-index 0 - 48 = grind (arith, common_steps) in
     let above : c.args.most < digits_value 10 c.args.digits.now = grind arith in
     grind (arith, nat_tests)

@@ -8,4 +8,5 @@ use Rattle.archive_index.proofs.index.Index.after.Given as goal
 -- nothing is picked before the place
 abbrev pub invariant-loop-place : goal.invariant-loop-place
 invariant-loop-place l = (entries : List archive.Entry) → Indexes l.self entries →
-    let s = selection_of l.selection in picked_from entries s l.fn.place ≡ picked_from entries s l.place
+    let s = selection_of l.selection in picked_from entries s l.fn.place
+    ≡ picked_from entries s l.place

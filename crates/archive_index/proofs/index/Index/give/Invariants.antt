@@ -6,7 +6,8 @@ use Rattle.archive_index.proofs.index.Index.give.Given as goal
 
 -- all that is wanted is what was given and what remains
 abbrev pub invariant-loop-place : goal.invariant-loop-place
-invariant-loop-place l = Remains (entries_of l.entries) (selection_of l.selection) l.fn.wanted l.items l.cursor
+invariant-loop-place l = Remains (entries_of l.entries) (selection_of l.selection) l.fn.wanted
+    l.items l.cursor
 
 abbrev pub decreases-loop-place : goal.decreases-loop-place
 decreases-loop-place l = length l.entries - l.cursor.place

@@ -9,9 +9,11 @@ returns-in_default-clause-image c = (is_coherent c.args.self.now).content
 pub returns-clause-image : goal.returns-clause-image
 returns-clause-image c =
     rw (← c.self.view_is)
-    (restarted_image c.self.inside.start.items c.self.inside.log.items c.push.new.self.items c.in-Some.pick (search rules))
+    (restarted_image c.self.inside.start.items c.self.inside.log.items c.push.new.self.items
+    c.in-Some.pick (search rules))
 
 pub returns-clause-time : goal.returns-clause-time
 returns-clause-time c =
     rw (← c.self.view_is)
-    (restart_elapses c.self.inside.start.items c.self.inside.log.items c.push.new.self.items c.in-Some.pick (search rules))
+    (restart_elapses c.self.inside.start.items c.self.inside.log.items c.push.new.self.items
+    c.in-Some.pick (search rules))

@@ -11,18 +11,24 @@ pub returns-then-free-need-clause-any_moment : goal.returns-then-free-need-claus
 returns-then-free-need-clause-any_moment g c entries keeps =
     let disk = c.args.self.now.disk in
     started g.D.Disk.moment g.D.Disk.images_since disk (IsOldOrNew entries c.args.batch.now)
-    (λ image was. inl (kept_image (g.D.Disk.pending disk) entries image keeps (c.images_at_a_moment.ensures.only_now disk image was)))
+    (λ image was. inl (kept_image (g.D.Disk.pending disk) entries image keeps
+    (c.images_at_a_moment.ensures.only_now disk image was)))
 
 pub returns-in_err-write_batch-clause-any_moment : goal.returns-in_err-write_batch-clause-any_moment
 returns-in_err-write_batch-clause-any_moment g c entries keeps =
     let disk = c.args.self.now.disk in
-    subst (λ (s : JournalState g.row.D.Denot). HoldsThroughout g.D.Disk.moment g.D.Disk.images_since disk s.disk (IsOldOrNew entries c.args.batch.now)) (sym c.self.view_is)
+    subst (λ (s : JournalState g.row.D.Denot). HoldsThroughout g.D.Disk.moment g.D.Disk.images_since
+    disk s.disk (IsOldOrNew entries c.args.batch.now)) (sym c.self.view_is)
     (started g.D.Disk.moment g.D.Disk.images_since disk (IsOldOrNew entries c.args.batch.now)
-    (λ image was. inl (kept_image (g.D.Disk.pending disk) entries image keeps (c.images_at_a_moment.ensures.only_now disk image was))))
+    (λ image was. inl (kept_image (g.D.Disk.pending disk) entries image keeps
+    (c.images_at_a_moment.ensures.only_now disk image was))))
 
 pub returns-in_err-put-clause-failed : goal.returns-in_err-put-clause-failed
 returns-in_err-put-clause-failed g c is =
-    failed_as g.D.Disk.makes g.D.Disk.fails _ c.args.self.now c.as_slice-3.result.now c.args.batch.now c.put.new.disk c.self.view_is
-    (c.as_slice-3.ensures ∙ c.in_ok-write_batch.ensures ∙ ap (λ (front : List ℕ). front ++ closed_batch (entries_of c.as_slice-2.result.now)) c.clear.ensures
+    failed_as g.D.Disk.makes g.D.Disk.fails _ c.args.self.now c.as_slice-3.result.now
+    c.args.batch.now c.put.new.disk c.self.view_is
+    (c.as_slice-3.ensures ∙ c.in_ok-write_batch.ensures
+    ∙ ap (λ (front : List ℕ). front ++ closed_batch (entries_of c.as_slice-2.result.now))
+    c.clear.ensures
     ∙ ap closed_batch c.as_slice-2.ensures)
     c.in_err-put.ensures.calls

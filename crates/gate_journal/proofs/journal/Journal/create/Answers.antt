@@ -7,12 +7,16 @@ invariant_of-result g c = (
   omega arith,
   λ fresh. (
     omega (arith, if_good c.write_synced.result (search rules) c.write_synced.ensures.size),
-    new_rests (g.D.Disk.pending c.args.disk) (g.D.Disk.pending c.write_synced.new.disk) (g.D.Disk.extent c.args.disk) (c.images_at_a_moment.ensures.size c.args.disk)
-        (omega (arith, c.size.ensures, c.if-size-gt0.false)) (if_good c.write_synced.result (search rules) c.write_synced.ensures.written),
+    new_rests (g.D.Disk.pending c.args.disk) (g.D.Disk.pending c.write_synced.new.disk)
+        (g.D.Disk.extent c.args.disk) (c.images_at_a_moment.ensures.size c.args.disk)
+        (omega (arith, c.size.ensures, c.if-size-gt0.false))
+        (if_good c.write_synced.result (search rules) c.write_synced.ensures.written),
   ),
 )
 
 pub returns-clause-keeps : goal.returns-clause-keeps
 returns-clause-keeps g c =
-    new_keeps (g.D.Disk.pending c.args.disk) (g.D.Disk.pending c.write_synced.new.disk) (g.D.Disk.extent c.args.disk) (c.images_at_a_moment.ensures.size c.args.disk)
-    (omega (arith, c.size.ensures, c.if-size-gt0.false)) (if_good c.write_synced.result (search rules) c.write_synced.ensures.written)
+    new_keeps (g.D.Disk.pending c.args.disk) (g.D.Disk.pending c.write_synced.new.disk)
+    (g.D.Disk.extent c.args.disk) (c.images_at_a_moment.ensures.size c.args.disk)
+    (omega (arith, c.size.ensures, c.if-size-gt0.false))
+    (if_good c.write_synced.result (search rules) c.write_synced.ensures.written)

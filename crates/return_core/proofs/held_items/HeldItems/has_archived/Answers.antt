@@ -7,4 +7,5 @@ use Rattle.return_core.proofs.held_items.HeldItems.has_archived.Goals as goal
 
 pub returns : goal.returns
 returns c =
-    c.any_archived.ensures ∙ sym (any_item is_archived c.items.result.now) ∙ ap (λ told. list_any is_archived (items_of told)) c.items.ensures
+    c.any_archived.ensures ∙ sym (any_item is_archived c.items.result.now)
+    ∙ ap (λ told. list_any is_archived (items_of told)) c.items.ensures

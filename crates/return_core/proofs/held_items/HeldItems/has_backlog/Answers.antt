@@ -7,4 +7,5 @@ use Rattle.return_core.proofs.held_items.HeldItems.has_backlog.Goals as goal
 
 pub returns : goal.returns
 returns c =
-    c.any_backlog.ensures ∙ sym (any_item is_backlog c.items.result.now) ∙ ap (λ told. list_any is_backlog (items_of told)) c.items.ensures
+    c.any_backlog.ensures ∙ sym (any_item is_backlog c.items.result.now)
+    ∙ ap (λ told. list_any is_backlog (items_of told)) c.items.ensures

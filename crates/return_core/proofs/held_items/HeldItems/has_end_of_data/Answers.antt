@@ -7,4 +7,5 @@ use Rattle.return_core.proofs.held_items.HeldItems.has_end_of_data.Goals as goal
 
 pub returns : goal.returns
 returns c =
-    c.any_end_of_data.ensures ∙ sym (any_item is_end_of_data c.items.result.now) ∙ ap (λ told. list_any is_end_of_data (items_of told)) c.items.ensures
+    c.any_end_of_data.ensures ∙ sym (any_item is_end_of_data c.items.result.now)
+    ∙ ap (λ told. list_any is_end_of_data (items_of told)) c.items.ensures

@@ -12,5 +12,6 @@ invariant-loop-item l = record {
   left : into_iter_len l.item-iterator ≡ length (into_iter_items l.item-iterator);
   put : l.self ≡ with_put l.initial.self (select.items_of l.yielded) l.now;
   before : 0 < length l.yielded
-      → is_complete l.initial.self.size (items_of l.initial.self.told ++ take (length l.yielded - 1) (items_of (select.items_of l.yielded))) ≡ false;
+      → is_complete l.initial.self.size (items_of l.initial.self.told
+      ++ take (length l.yielded - 1) (items_of (select.items_of l.yielded))) ≡ false;
 }

@@ -6,4 +6,5 @@ use Rattle.return_pdu.proofs.transfer_buffer.TransferBuffer.decode_raf.Goals as 
 
 pub returns-clause-spelled : goal.returns-clause-spelled
 returns-clause-spelled c =
-    decoded (buffer Raf) (λ b. b) c.args.octets.now c.read_raf-decoded.result refl c.slice.ensures c.read_raf-decoded.ensures
+    decoded (buffer Raf) (λ b. b) c.args.octets.now c.read_raf-decoded.result refl c.slice.ensures
+    c.read_raf-decoded.ensures

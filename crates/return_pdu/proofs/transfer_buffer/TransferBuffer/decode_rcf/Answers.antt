@@ -6,4 +6,5 @@ use Rattle.return_pdu.proofs.transfer_buffer.TransferBuffer.decode_rcf.Goals as 
 
 pub returns-clause-spelled : goal.returns-clause-spelled
 returns-clause-spelled c =
-    decoded (buffer Rcf) (λ b. b) c.args.octets.now c.read_rcf-decoded.result refl c.slice.ensures c.read_rcf-decoded.ensures
+    decoded (buffer Rcf) (λ b. b) c.args.octets.now c.read_rcf-decoded.result refl c.slice.ensures
+    c.read_rcf-decoded.ensures

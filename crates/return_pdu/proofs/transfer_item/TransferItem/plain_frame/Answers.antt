@@ -8,4 +8,5 @@ use Rattle.return_pdu.proofs.transfer_item.TransferItem.plain_frame.Goals as goa
 pub returns-clause-tree : goal.returns-clause-tree
 returns-clause-tree c =
     let fits : FitsSigned w32 c.args.continuity = c.ranges.continuity in
-    rw to_z-of_z (plain_tree (frame_of c.args.ert c.args.antenna.now c.args.continuity c.args.quality c.args.octets.now))
+    rw to_z-of_z (plain_tree (frame_of c.args.ert c.args.antenna.now c.args.continuity
+    c.args.quality c.args.octets.now))

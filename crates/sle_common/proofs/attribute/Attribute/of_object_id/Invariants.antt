@@ -6,4 +6,6 @@ use Rattle.sle_common.specs.IdentifierOctets.{attribute_octets, attribute_of}
 use Rattle.sle_common.proofs.attribute.Attribute.of_object_id.Given as goal
 
 abbrev pub invariant-loop-attribute : goal.invariant-loop-attribute
-invariant-loop-attribute l = attribute_of l.octets ≡ find (λ attribute. pointwise nat_eq l.octets (attribute_octets attribute)) (drop l.attribute-index attributes)
+invariant-loop-attribute l = attribute_of l.octets
+    ≡ find (λ attribute. pointwise nat_eq l.octets (attribute_octets attribute))
+    (drop l.attribute-index attributes)

@@ -1,5 +1,12 @@
 -- The badge comes out of the guard.
-use Rattle.atomic_table.proofs.Names.{◌≡◌, List, [], ◌∷◌, refl, a_type, Val, inst_fn, SProp, emp, ‵, raw, ◌⊛◌, ◌$◌, ◌∵◌, !, qed, by, move, keep, drop, split, fsplit, fsplit3, fjoin, fpick, use0, rewrite, stop, fld, of_opd, returns, enter, alloc_all, pass_all, free_all, look_at, get, get_in, sets, sub, whole, tables, no, RattleType, owns, types_at, plain, nothing, param, layouts, alive, Stays, stay_dropped, walk_of, fact, fact_i, Is, shows, peeks}
+use Rattle.atomic_table.proofs.Names.{◌≡◌, List, [], ◌∷◌, refl, a_type, Val, inst_fn, SProp, emp, ‵}
+use Rattle.atomic_table.proofs.Names.{raw, ◌⊛◌, ◌$◌, ◌∵◌, !, qed, by, move, keep, drop, split}
+use Rattle.atomic_table.proofs.Names.{fsplit, fsplit3, fjoin, fpick, use0, rewrite, stop, fld}
+use Rattle.atomic_table.proofs.Names.{of_opd, returns, enter, alloc_all, pass_all, free_all}
+use Rattle.atomic_table.proofs.Names.{look_at, get, get_in, sets, sub, whole, tables, no}
+use Rattle.atomic_table.proofs.Names.{RattleType, owns, types_at, plain, nothing, param, layouts}
+use Rattle.atomic_table.proofs.Names.{alive, Stays, stay_dropped, walk_of, fact, fact_i, Is, shows}
+use Rattle.atomic_table.proofs.Names.{peeks}
 use Rattle.atomic_table.proofs.Walks.{proved, leaves}
 use Rattle.atomic_table.proofs.Fields.{token_val, pin_told}
 use Rattle.atomic_table.specs.contracts.badge.Badge as badge
@@ -12,17 +19,31 @@ use Rattle.turn_lock.proofs.guard.Guard.into_badge.Code as code
 
 pub into_badge_spec : {M : Type 1} → statement M
 into_badge_spec 𝓤 𝓛 𝓜 𝓡 wired U _ =
-    let H = 𝓛.H in let 𝓣 = tables 𝓤 H 𝓜 𝓡 𝓡.env in let W : RattleType = param 0 U in let En = ended U in let c = clauses U 𝓛 𝓜.mem 𝓡.returns in
-    let inst = layouts (a_type ∷ []) (U, tt) in let fn = inst_fn inst code.function in let Br : RattleType = badge.the_row W in let Gr : RattleType = guard.the_row W in
+    let H = 𝓛.H in let 𝓣 = tables 𝓤 H 𝓜 𝓡 𝓡.env in let W : RattleType = param 0 U in
+    let En = ended U in let c = clauses U 𝓛 𝓜.mem 𝓡.returns in
+    let inst = layouts (a_type ∷ []) (U, tt) in let fn = inst_fn inst code.function in
+    let Br : RattleType = badge.the_row W in let Gr : RattleType = guard.the_row W in
     let hs : Stays En.signature.params En.kept = (stay_dropped (plain (λ _. Gr)) no, tt) in
-    proved 𝓛 En hs c 𝓜 𝓡 (Goes-blank 𝓛 1 (plain (λ _. Gr)) no (λ κs x f. tt), tt) (#self inst) fn (code.unfolded 𝓤 H 𝓜 𝓡 wired (U, tt))
-    (λ κs. ((λ _. guard_val ∷ []), tt)) (λ κs. ((λ x vs so. guard_told W x vs so), tt)) (λ κs qs bounds a gh are.
+    proved 𝓛 En hs c 𝓜 𝓡 (
+      Goes-blank 𝓛 1 (plain (λ _. Gr)) no (λ κs x f. tt),
+      tt,
+    ) (#self inst) fn (code.unfolded 𝓤 H 𝓜 𝓡 wired (U, tt))
+    (λ κs. ((λ _. guard_val ∷ []), tt)) (λ κs. ((λ x vs so. guard_told W x vs so), tt))
+    (λ κs qs bounds a gh are.
     let x : Br.Denot = a.0.badge in let v : Val = token_val in let u : Val = guard_val in
-    let y : (walk_of 𝓛 En hs c).Ghost = ((κs, qs, bounds, a, (u ∷ [], tt)), gh) in let Post : Val → SProp 𝓤 = (walk_of 𝓛 En hs c).post y in
-    qed 𝓛 ((raw (alive 𝓛 En.signature κs qs) ⊛ ‵ (owns (types_at En.signature.params κs) a y.0.4)) ∷ raw ((c κs a).requires gh) ∷ []) ∵
-    split ! $ move ! (1 ∷ []) $ fsplit ! $ fsplit ! $ fpick ! (λ vss. fsplit3 ! $ drop ! $ peeks ! Br (Is Br) (shows 𝓛 Br) x vss.0 (λ so.
-    rewrite ! 0 (λ (ws : List Val). ‵ (Br.own_val x ws)) (pin_told W vss.0 so.0) refl $ keep ! (0 ∷ 4 ∷ []) $
-    enter ! 𝓣.C 𝓣.Λ fn (u ∷ []) Post $ alloc_all ! (λ l. pass_all ! refl ((tt, ((tt, tt), tt)), tt) $
-    sets ! (of_opd ! (get_in ! (fld ! refl (stop !)) (sub ! 0 refl (whole !)))) refl (tt, (tt, tt)) $ sets ! (of_opd ! (get ! refl)) refl (tt, (tt, tt)) $
-    use0 𝓛 (raw (fact 𝓤 (x ≡ x))) (fact_i 𝓤 (x ≡ x) (emp 𝓤) refl) $ nothing ! $ nothing ! $ fjoin ! $
-    returns ! (look_at ! 0 refl) $ free_all ! refl $ keep ! (3 ∷ 0 ∷ 2 ∷ 1 ∷ []) $ by ! (leaves 𝓛 En hs c y v x ((tt, tt), tt) (tt, tt))))))
+    let y : (walk_of 𝓛 En hs c).Ghost = ((κs, qs, bounds, a, (u ∷ [], tt)), gh) in let Post : Val
+    → SProp 𝓤 = (walk_of 𝓛 En hs c).post y in
+    qed 𝓛 ((raw (alive 𝓛 En.signature κs qs) ⊛ ‵ (owns (types_at En.signature.params κs) a y.0.4))
+    ∷ raw ((c κs a).requires gh) ∷ []) ∵
+    split ! $ move ! (1 ∷ []) $ fsplit ! $ fsplit !
+    $ fpick ! (λ vss. fsplit3 ! $ drop ! $ peeks ! Br (Is Br) (shows 𝓛 Br) x vss.0 (λ so.
+    rewrite ! 0 (λ (ws : List Val). ‵ (Br.own_val x ws)) (pin_told W vss.0 so.0) refl
+    $ keep ! (0 ∷ 4 ∷ []) $
+    enter ! 𝓣.C 𝓣.Λ fn (u ∷ []) Post $ alloc_all !
+    (λ l. pass_all ! refl ((tt, ((tt, tt), tt)), tt) $
+    sets ! (of_opd ! (get_in ! (fld ! refl (stop !)) (sub ! 0 refl (whole !)))) refl (tt, (tt, tt))
+    $ sets ! (of_opd ! (get ! refl)) refl (tt, (tt, tt)) $
+    use0 𝓛 (raw (fact 𝓤 (x ≡ x))) (fact_i 𝓤 (x ≡ x) (emp 𝓤) refl) $ nothing ! $ nothing !
+    $ fjoin ! $
+    returns ! (look_at ! 0 refl) $ free_all ! refl $ keep ! (3 ∷ 0 ∷ 2 ∷ 1 ∷ [])
+    $ by ! (leaves 𝓛 En hs c y v x ((tt, tt), tt) (tt, tt))))))
