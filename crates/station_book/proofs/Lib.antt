@@ -4,3 +4,4 @@ pub mod Published
 pub mod Doors
 pub mod Bound
 pub mod Radiating
+pub mod Sites

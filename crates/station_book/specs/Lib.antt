@@ -1,4 +1,5 @@
 pub mod State
+pub mod Origin
 pub mod History
 pub mod Called
 pub mod Parts

@@ -12,13 +12,16 @@ ghost use Rattle.cltu_queue.specs.Machine.{on_start, on_transfer, refusal, on_no
 ghost use Rattle.cltu_queue.specs.Machine.{view_of};
 
 use crate::extend::extend;
+use crate::limits::Limits;
 use crate::publish_fault::PublishFault;
 use crate::service_kind::ServiceKind;
+use crate::site::{forward_limits, kinds_of};
 use archive_index::Index;
 use cltu_queue::{Ask, BookReply, Cltu, CltuFault, Notice, Queue, Taken, UplinkView};
 use frame_select::{Glimpse, Want};
 use octet_core::Memory;
 use record_form::{Entries, Entry};
+use station_config::Site;
 use std::alloc::{AllocError, Global};
 use std::marker::Model;
 
@@ -80,6 +83,7 @@ fn is_quiet(ask: &Ask) -> bool
 }
 
 impl Book {
+    ghost use Rattle.station_book.specs.Origin.{opening_of};
     ghost use Rattle.station_book.specs.State.{opened, publish, answer, quit, take, done};
     ghost use Rattle.station_book.specs.State.{interrupted, uplink, gone, took};
     ghost use Rattle.station_book.specs.History.{moment_at, instance_of, has_forward, is_running};
@@ -89,25 +93,39 @@ impl Book {
     ghost use Rattle.station_book.specs.History.{all_gone, after, reply_to};
     ghost use Rattle.station_book.specs.Publishing.{UnlessMemory, published_as};
 
-    /// The book of instances with these services, of which the forward one has so much room, over
-    /// an archive.
-    pub fn open(
+    /// The book of a site's instances over an archive, with so many workers beside the antenna's.
+    /// It shares the octets of the entries, and takes constant time for each instance and entry.
+    pub fn new(alloc: Global, site: &Site, entries: Entries, workers: u32) -> Result<Book, Memory>
+        requires archive { IsArchive entries }
+        requires workers { workers ≤ 31 }
+        ensures origin { IfOk result (λ book.
+            book.opening ≡ opening_of site.now entries workers) }
+        ensures new { IfOk result (λ book. book ≡ opened book.opening) }
+    {
+        let instances = site.instances.as_slice();
+        let services = kinds_of(alloc, instances)?;
+        let limits = forward_limits(instances);
+        Book::open(alloc, services, limits, entries.as_slice(), workers)
+    }
+
+    // The book of instances with these services over an archive.
+    fn open(
         alloc: Global,
         services: Vec<ServiceKind>,
-        room: u32,
-        longest: u32,
+        limits: Limits,
         entries: &[Entry],
         workers: u32,
     ) -> Result<Book, Memory>
         requires archive { IsArchive (entries_of entries.now) }
         requires workers { workers ≤ 31 }
-        ensures { IfOk result (λ book. book ≡ opened (record {
+        ensures origin { IfOk result (λ book. book.opening ≡ record {
           services = services.items;
-          room = room;
-          longest = longest;
+          room = limits.room;
+          longest = limits.longest;
           entries = entries_of entries.now;
           workers = workers;
-        })) }
+        }) }
+        ensures new { IfOk result (λ book. book ≡ opened book.opening) }
     {
         let mut index = Index::new(alloc)?;
         let mut held = Vec::new(alloc);
@@ -117,6 +135,7 @@ impl Book {
             Err(PublishFault::Foreign) => unreachable!(),
         }
         let doors = Vec::from_elem(alloc, None, services.len())?;
+        let Limits { room, longest } = limits;
         let queue = Queue::new(alloc, room, longest).map_err(AllocError::from)?;
         Ok(Book {
             alloc,

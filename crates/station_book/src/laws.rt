@@ -6,6 +6,9 @@ ghost use mathlib.Core.List.{IsPrefix};
 ghost use Rattle.archive_terms.specs.Archive.{Entry, is_archive, IsArchive};
 ghost use Rattle.cltu_queue.specs.Run.{AreInTurn};
 ghost use Rattle.cltu_queue.specs.declared.ask.Ask.{Ask};
+ghost use Rattle.station_config.specs.Validity.{IsSite};
+ghost use Rattle.station_config.specs.declared.site.Site.{Site};
+ghost use Rattle.station_book.specs.Origin.{kinds_of};
 ghost use Rattle.station_book.specs.State.{Opening, State, opened, Event, Call, publish, accepted};
 ghost use Rattle.station_book.specs.State.{foreign};
 ghost use Rattle.station_book.specs.History.{after, instance_of, is_running, is_lost, event_at};
@@ -76,6 +79,12 @@ pub fn other_doors_leave_a_door()
         → HasOneForward s.opening.services
         → IsFalse (list_any (λ e. is_by door e.call) h)
         → is_lost (replay s h) door ask ≡ is_lost s door ask }
+{}
+
+/// At most one instance of a valid site is the forward service's, which the laws on other doors
+/// ask of a book's origin.
+pub fn a_site_has_one_forward_service()
+    ensures { (site : Site) → IsSite site → HasOneForward (kinds_of site.instances) }
 {}
 
 /// Lawful radiation: in each legal history, the CLTUs that are accepted in a run have the

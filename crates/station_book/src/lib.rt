@@ -5,7 +5,7 @@
 // The definition `History` says what one thread gets that makes calls of the book one after the
 // other: an event names a call, its moment and its whole reply, each reply is what the replay of
 // the events before it gives, and a list is legal where that holds of all. `Book` does exactly
-// that, call by call: `open`, `peek`, `look`, `publish`, `answer`, `quit`, `take`, `done`,
+// that, call by call: `new`, `peek`, `look`, `publish`, `answer`, `quit`, `take`, `done`,
 // `interrupted`, `uplink`, `gone`, `all_gone`, `view`. Under the lock of `turn_lock` a book stands
 // for the list of its events (`StandsFor<Event>`), and an `Event` names a call by what determines
 // it. `laws` has what holds of every legal history, lawful radiation among it.
@@ -20,8 +20,10 @@ mod book;
 mod event;
 mod extend;
 pub mod laws;
+mod limits;
 mod publish_fault;
 mod service_kind;
+mod site;
 
 pub use book::Book;
 pub use cltu_queue::{Ask, BookReply};
