@@ -16,3 +16,6 @@ mod work;
 pub use job::{Job, Outcome};
 pub use turn::do_job;
 pub use work::{Plan, Shared, run_two};
+
+#[cfg(test)]
+mod tests;
