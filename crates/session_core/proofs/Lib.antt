@@ -1,0 +1,5 @@
+mod Tests
+mod Messages
+mod Ends
+mod One
+mod Blocks

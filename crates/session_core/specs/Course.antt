@@ -1,0 +1,33 @@
+-- Whether a session goes on.
+use Rattle.std.specs.Prelude.{Bool, true, false}
+use Rattle.session_core.specs.declared.arrival.Arrival.{Arrival}
+use Rattle.session_core.specs.declared.arrival.Arrival.TheVariants.{Blocked, Octets, Closed}
+use Rattle.session_core.specs.declared.course.Course.{Course}
+use Rattle.session_core.specs.declared.course.Course.TheVariants.{Going, Closing, Over, LinkFailed}
+
+-- it handles messages
+abbrev pub is_going : Course → Bool
+is_going Going = true
+is_going _ = false
+
+-- it has a link: it handles messages, or waits until its last block was taken
+abbrev pub is_live : Course → Bool
+is_live Going = true
+is_live (Closing _) = true
+is_live _ = false
+
+abbrev pub is_over : Course → Bool
+is_over (Over _) = true
+is_over _ = false
+
+abbrev pub is_blocked : Arrival → Bool
+is_blocked Blocked = true
+is_blocked _ = false
+
+abbrev pub has_arrived : Arrival → Bool
+has_arrived Octets = true
+has_arrived _ = false
+
+abbrev pub has_closed : Arrival → Bool
+has_closed Closed = true
+has_closed _ = false

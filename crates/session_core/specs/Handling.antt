@@ -1,0 +1,179 @@
+-- What a message asks the book, and what it leads to once the book has replied.
+use Rattle.std.specs.Prelude.{ℕ, ℤ, pos, Bool, true, false, ◌&&◌, ◌||◌, ◌==◌, nat_le}
+use Rattle.std.specs.Prelude.{if◌then◌else◌, Option, None, unwrap_or, List, [], slice_get}
+use Rattle.std.specs.Prelude.{Result, Ok, Err}
+use Rattle.std.specs.Option.{option_map_or}
+use Rattle.bind_pdu.specs.Binding.{BindContent}
+use Rattle.station_config.specs.Drafts.{place_of}
+use Rattle.station_config.specs.Validity.{is_forward}
+use Rattle.station_config.specs.declared.peer.Peer.{Peer}
+use Rattle.station_config.specs.declared.site.Site.{Site}
+use Rattle.assoc_core.specs.declared.bind_fault.BindFault.{BindFault}
+use Rattle.assoc_core.specs.declared.bind_fault.BindFault.TheVariants.{AccessDenied}
+use Rattle.assoc_core.specs.declared.outcome.Outcome.{Outcome}
+use Rattle.assoc_core.specs.declared.outcome.Outcome.TheVariants as outcome
+use Rattle.assoc_core.specs.declared.step.Step.{Step}
+use Rattle.assoc_core.specs.declared.step.Step.TheVariants.{Pass, Denied, Abort}
+use Rattle.assoc_core.specs.Access.{sender}
+use Rattle.assoc_core.specs.Association.{after_step}
+use Rattle.assoc_core.specs.Bind.{bind_answer}
+use Rattle.assoc_core.specs.Kind as kind
+use Rattle.assoc_core.specs.Numbers.{diagnostic_of}
+use Rattle.assoc_core.specs.State.{moved}
+use Rattle.cltu_queue.specs.declared.ask.Ask.{Ask}
+use Rattle.cltu_queue.specs.declared.ask.Ask.TheVariants as ask
+use Rattle.cltu_queue.specs.declared.book_reply.BookReply.{BookReply}
+use Rattle.cltu_queue.specs.declared.book_reply.BookReply.TheVariants.{Bound, Lost}
+use Rattle.session_core.specs.declared.course.Course.TheVariants.{Closing, Over}
+use Rattle.session_core.specs.declared.ended.Ended.{Ended}
+use Rattle.session_core.specs.declared.ended.Ended.TheVariants as ended
+use Rattle.session_core.specs.declared.standing.Standing.{Standing}
+use Rattle.session_core.specs.Numbers.{other_reason, access_denied, already_bound}
+use Rattle.session_core.specs.Message.{Said, context, bind, unbind, peer_abort, kind_of}
+use Rattle.session_core.specs.Returns.{own_credentials, number_after, bind_return_message}
+use Rattle.session_core.specs.Returns.{unbind_return_message}
+
+-- ---- ends
+
+-- at an end nothing more is offered
+abbrev pub ended_by : Standing → Ended → Standing
+ended_by s end = record s { course = Over end; block = [] }
+
+abbrev pub aborted : Standing → ℕ → Standing
+aborted s diagnostic = ended_by s (ended.Aborted diagnostic)
+
+-- ---- what is asked
+
+-- the place of the instance that a BIND asks for, or why it is refused
+abbrev pub bind_judged : Site → BindContent → Result ℕ BindFault
+bind_judged site b =
+    bind_answer site
+    (record {
+      peer = place_of b.initiator site.peers;
+      service = b.service;
+      version = b.version;
+      id = b.instance;
+    })
+
+abbrev pub bind_ask : Result ℕ BindFault → Ask
+bind_ask (Ok place) = ask.Bind place
+bind_ask (Err fault) = ask.Nothing
+
+-- A BIND that is refused asks nothing, and no more does a message that doesn't pass.
+abbrev pub passed_ask : Site → Said → Ask
+passed_ask site (bind b) = bind_ask (bind_judged site b)
+passed_ask site (unbind u) = ask.Unbind
+passed_ask site _ = ask.Nothing
+
+-- the place of the instance of a BIND that passed
+abbrev pub said_place : Site → Said → Step → Result ℕ BindFault
+said_place site (bind b) Pass = bind_judged site b
+said_place site _ _ = Err AccessDenied
+
+abbrev pub said_ask : Site → Said → Step → Ask
+said_ask site said Pass = passed_ask site said
+said_ask site said _ = ask.Nothing
+
+-- ---- a context
+
+-- the interval is 0 or in the site's range, and the dead factor in its own
+abbrev pub is_from : ℕ → ℕ → ℕ → Bool
+is_from least greatest n = nat_le least n && nat_le n greatest
+
+abbrev pub is_agreed : Site → ℕ → ℕ → Bool
+is_agreed site interval factor =
+    (interval == 0 || is_from site.interval_from site.interval_to interval)
+    && is_from site.factor_from site.factor_to factor
+
+abbrev pub with_context : Site → Standing → ℕ → ℕ → Standing
+with_context site s interval factor =
+    if is_agreed site interval factor
+    then record s {
+      association = moved s.association outcome.Context;
+      interval = interval;
+      factor = factor;
+    }
+    else ended_by s (ended.Range interval factor)
+
+-- ---- a BIND
+
+-- the version, where the book says that the instance is bound
+abbrev pub bind_result : BindContent → Result ℕ BindFault → BookReply → Result ℤ ℤ
+bind_result b (Err fault) reply = Err (pos (diagnostic_of fault))
+bind_result b (Ok place) Bound = Ok (pos b.version)
+bind_result b (Ok place) _ = Err (pos already_bound)
+
+-- whether the instance at a place of the site is one of a forward service
+abbrev pub is_forward_at : Site → ℕ → Bool
+is_forward_at site place =
+    option_map_or (λ instance. is_forward instance.service) (slice_get site.instances place) false
+
+abbrev pub bind_outcome : Site → BindContent → Result ℕ BindFault → BookReply → Outcome
+bind_outcome site b (Ok place) Bound =
+    outcome.Bound (unwrap_or (place_of b.initiator site.peers) 0) (is_forward_at site place)
+bind_outcome site b _ _ = outcome.Kept
+
+-- the return of a BIND that passed is the round's block
+abbrev pub with_bind : Site → Standing → BindContent → BookReply → Standing
+with_bind site s b reply =
+    let peer : Option Peer = sender site.peers s.association kind.bind b.initiator in
+    let judged = bind_judged site b in
+    record s {
+      association = moved s.association (bind_outcome site b judged reply);
+      numbers = number_after peer kind.bind s.numbers;
+      block =
+          bind_return_message site (own_credentials site peer kind.bind s.numbers s.now)
+          (bind_result b judged reply);
+    }
+
+-- a BIND with failing credentials is answered without any, and the session ends once that was taken
+abbrev pub with_denial : Site → Standing → Standing
+with_denial site s =
+    record s {
+      course = Closing ended.Denied;
+      block = bind_return_message site None (Err (pos access_denied));
+    }
+
+-- ---- an UNBIND
+
+-- the session ends once the return was taken
+abbrev pub with_unbind : Site → Standing → Standing
+with_unbind site s =
+    let peer : Option Peer = sender site.peers s.association kind.unbind [] in
+    record s {
+      association = moved s.association outcome.Unbound;
+      course = Closing ended.Unbound;
+      numbers = number_after peer kind.unbind s.numbers;
+      block = unbind_return_message (own_credentials site peer kind.unbind s.numbers s.now);
+    }
+
+-- ---- what a message leads to
+
+abbrev pub after_passing : Site → Standing → Said → BookReply → Standing
+after_passing site s (context interval factor) reply = with_context site s interval factor
+after_passing site s (bind b) reply = with_bind site s b reply
+after_passing site s (unbind u) reply = with_unbind site s
+after_passing site s (peer_abort diagnostic) reply = ended_by s (ended.PeerAborted diagnostic)
+after_passing site s _ reply = s
+
+abbrev pub concluded : Site → Standing → Said → Step → BookReply → Standing
+concluded site s said Pass reply = after_passing site s said reply
+concluded site s said Denied reply = with_denial site s
+concluded site s said (Abort diagnostic) reply = aborted s diagnostic
+
+abbrev pub is_lost : BookReply → Bool
+is_lost Lost = true
+is_lost _ = false
+
+-- the association once a message was judged
+abbrev pub invoked : Standing → Said → Step → Standing
+invoked s said step =
+    record s { association = after_step s.association (kind_of said) step }
+
+-- a message that was judged so leads to this, where the book replied so
+abbrev pub after_judged : Site → Standing → Said → Step → BookReply → Standing
+after_judged site s said step reply =
+    if is_lost reply then aborted s other_reason else concluded site s said step reply
+
+abbrev pub after_message : Site → Standing → Said → Step → BookReply → Standing
+after_message site s said step reply = after_judged site (invoked s said step) said step reply

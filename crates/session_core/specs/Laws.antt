@@ -1,0 +1,152 @@
+-- What holds of every session.
+use Rattle.std.specs.Prelude.{◌≡◌, ℕ, ◌≤◌, Bool, true, false, not, ◌&&◌, if◌then◌else◌, Option}
+use Rattle.std.specs.Prelude.{Some, None, Result, Ok, List, [], ◌∷◌, ◌++◌, length}
+use Rattle.octet_core.specs.declared.offer.Offer.{Offer}
+use Rattle.isp1_tml.specs.declared.tml_fault.TmlFault.{TmlFault}
+use Rattle.isp1_tml.specs.Message.{Content}
+use Rattle.isp1_tml.specs.Stream.{IsStream}
+use Rattle.link_model.specs.declared.call.Heard.{Heard}
+use Rattle.link_model.specs.Calls.{octets_heard, blocks_in}
+use Rattle.station_config.specs.declared.site.Site.{Site}
+use Rattle.session_core.specs.declared.course.Course.TheVariants.{Over, LinkFailed}
+use Rattle.session_core.specs.declared.ended.Ended.{Ended}
+use Rattle.session_core.specs.declared.spoken.Spoken.TheVariants as spoken
+use Rattle.session_core.specs.declared.standing.Standing.{Standing}
+use Rattle.session_core.specs.Course.{is_live, is_blocked}
+use Rattle.session_core.specs.Steps.{Next, has_block, handles}
+use Rattle.session_core.specs.Session.{State, Round, at_first, next_of, before_step, before_speak}
+use Rattle.session_core.specs.Session.{after_round, after_rounds, AreRounds, session_calls}
+use Rattle.session_core.specs.Session.{session_events, session_end}
+
+-- ---- messages
+
+abbrev pub message_in : Next → List Content
+message_in (Ok (Some message)) = message ∷ []
+message_in _ = []
+
+abbrev pub messages_by : Bool → Next → List Content
+messages_by true next = message_in next
+messages_by false next = []
+
+-- the message that a round handles, if it handles one
+abbrev pub round_messages : State → Round → List Content
+round_messages s r =
+    let t = before_step s r in messages_by (handles t.standing (next_of t)) (next_of t)
+
+abbrev pub session_messages : Site → State → List Round → List Content
+session_messages site s [] = []
+session_messages site s (r ∷ rounds) =
+    round_messages s r ++ session_messages site (after_round site s r) rounds
+
+-- these are the first messages of the stream
+pub record AreFirst (messages : List Content) (octets : List ℕ) : Type 0 where
+  pub more : List Content
+  pub rest : List ℕ
+  pub fault : Option TmlFault
+  pub stream : IsStream 0 octets (messages ++ more) rest fault
+
+-- However the octets were cut, the messages handled are the stream's, in order and each once, from
+-- the first one on.
+abbrev pub HandledInOrder : Type 0
+HandledInOrder =
+    (site : Site) (door draw entered : ℕ) (rounds : List Round)
+    → AreRounds site (at_first door draw entered) rounds
+    → AreFirst (session_messages site (at_first door draw entered) rounds)
+    (octets_heard (session_calls site (at_first door draw entered) rounds))
+
+-- ---- blocks
+
+-- the block that waits, if one does
+abbrev pub waiting : Standing → List (List ℕ)
+waiting s = if has_block s then s.block ∷ [] else []
+
+-- the block that a round makes, if it makes one: one that is blocked makes none
+abbrev pub round_blocks : Site → State → Round → List (List ℕ)
+round_blocks site s r =
+    let t = before_step s r in
+    if is_live t.standing.course && not (is_blocked t.standing.arrival)
+    then waiting (before_speak site s r).standing
+    else []
+
+abbrev pub session_blocks : Site → State → List Round → List (List ℕ)
+session_blocks site s [] = []
+session_blocks site s (r ∷ rounds) =
+    round_blocks site s r ++ session_blocks site (after_round site s r) rounds
+
+-- The blocks that were made are those that the link was handed, in order and each once, and at most
+-- one that wasn't: while the session lives, the one that waits.
+pub record AreHandedOnce (made handed : List (List ℕ)) (now : Standing) : Type 0 where
+  pub left : List (List ℕ)
+  pub few : length left ≤ 1
+  pub blocks : made ≡ handed ++ left
+  pub waits : is_live now.course ≡ true → left ≡ waiting now
+
+abbrev pub EachBlockOnce : Type 0
+EachBlockOnce =
+    (site : Site) (door draw entered : ℕ) (rounds : List Round)
+    → AreRounds site (at_first door draw entered) rounds
+    → AreHandedOnce (session_blocks site (at_first door draw entered) rounds)
+    (blocks_in (session_calls site (at_first door draw entered) rounds))
+    (after_rounds site (at_first door draw entered) rounds).standing
+
+-- ---- ends
+
+-- these rounds call neither link nor book, and come to the same end
+pub record RepeatEnd (site : Site) (door : ℕ) (s : State) (rounds : List Round)
+    (end : Ended) : Type 0 where
+  pub calls : session_calls site s rounds ≡ []
+  pub events : session_events site door s rounds ≡ []
+  pub same : session_end site s rounds ≡ spoken.Ended end
+
+-- After an end nothing is polled, offered or asked, and the end repeats itself.
+abbrev pub EndsRepeat : Type 0
+EndsRepeat =
+    (site : Site) (door : ℕ) (s : State) (rounds : List Round) (end : Ended)
+    → s.standing.course ≡ Over end → AreRounds site s rounds → RepeatEnd site door s rounds end
+
+-- these rounds don't call the link, and tell its fault
+pub record LeaveLink (site : Site) (s : State) (rounds : List Round) : Type 0 where
+  pub calls : session_calls site s rounds ≡ []
+  pub same : session_end site s rounds ≡ spoken.LinkFault
+
+-- After a poll or an offer failed, the link isn't called again.
+abbrev pub FaultsRepeat : Type 0
+FaultsRepeat =
+    (site : Site) (s : State) (rounds : List Round) → s.standing.course ≡ LinkFailed
+    → AreRounds site s rounds → LeaveLink site s rounds
+
+-- ---- one session
+
+-- what a link answers
+pub data LinkAnswer : Type 0 where
+  to_poll : Heard → LinkAnswer
+  to_offer : Offer → LinkAnswer
+
+abbrev pub offer_answers : Option Offer → List LinkAnswer
+offer_answers None = []
+offer_answers (Some answer) = to_offer answer ∷ []
+
+abbrev pub poll_answers : Option Heard → List LinkAnswer
+poll_answers None = []
+poll_answers (Some heard) = to_poll heard ∷ []
+
+-- the answers of the link in rounds, in order
+abbrev pub session_answers : List Round → List LinkAnswer
+session_answers [] = []
+session_answers (r ∷ rounds) =
+    offer_answers r.waited
+    ++ (poll_answers r.heard ++ (offer_answers r.spoke ++ session_answers rounds))
+
+-- two lists of rounds in which the session does the same
+pub record DoSame (site : Site) (s : State) (rounds others : List Round) : Type 0 where
+  pub calls : session_calls site s rounds ≡ session_calls site s others
+  pub end : session_end site s rounds ≡ session_end site s others
+
+-- The answers of the link and the book's answer events fix what a session does: each call with its
+-- octets, and the end.
+abbrev pub OneSession : Type 0
+OneSession =
+    (site : Site) (door : ℕ) (s : State) (rounds others : List Round) → AreRounds site s rounds
+    → AreRounds site s others → session_answers rounds ≡ session_answers others
+    → session_events site door s rounds ≡ session_events site door s others
+    → DoSame site s rounds others

@@ -1,0 +1,105 @@
+-- What a user's message says, in a state of the association, and whether it passes.
+use Rattle.std.specs.Prelude.{ℕ, List, [], Option, Some, None, Result, Ok, Err}
+use Rattle.ber_core.specs.declared.fault.BerFault.{BerFault}
+use Rattle.ber_shape.specs.Exact.{whole}
+use Rattle.isp1_tml.specs.Message.{Content, pdu}
+use Rattle.isp1_tml.specs.Message as tml
+use Rattle.bind_pdu.specs.Aborting.{peer_abort as peer_abort_pdu}
+use Rattle.bind_pdu.specs.Binding.{BindContent, bind as bind_pdu}
+use Rattle.bind_pdu.specs.Unbinding.{UnbindContent, unbind as unbind_pdu}
+use Rattle.station_config.specs.declared.site.Site.{Site}
+use Rattle.assoc_core.specs.declared.outer_tag.OuterTag.{OuterTag}
+use Rattle.assoc_core.specs.declared.outer_tag.OuterTag.TheVariants as tag
+use Rattle.assoc_core.specs.declared.state.State.{State}
+use Rattle.assoc_core.specs.declared.state.State.TheVariants.{Opening, Unbound, Ready, Active}
+use Rattle.assoc_core.specs.declared.state.State.TheVariants.{Closing}
+use Rattle.assoc_core.specs.declared.step.Step.{Step}
+use Rattle.assoc_core.specs.Association.{step}
+use Rattle.assoc_core.specs.Kind.{Kind, Message}
+use Rattle.assoc_core.specs.Kind as kind
+use Rattle.assoc_core.specs.OuterTag.{outer_tag}
+
+-- a context with its interval and its dead factor; a heartbeat; a BIND, an UNBIND and a PEER-ABORT
+-- with their fields; a PDU that isn't decoded where it stands; octets that don't decode
+pub data Said : Type 0 where
+  context : ℕ → ℕ → Said
+  heartbeat : Said
+  bind : BindContent → Said
+  unbind : UnbindContent → Said
+  peer_abort : ℕ → Said
+  undecoded : Said
+  out_of_place : Said
+
+-- ---- what is read
+
+abbrev pub bind_read : Result BindContent BerFault → Said
+bind_read (Ok b) = bind b
+bind_read (Err _) = undecoded
+
+abbrev pub unbind_read : Result UnbindContent BerFault → Said
+unbind_read (Ok u) = unbind u
+unbind_read (Err _) = undecoded
+
+abbrev pub peer_abort_read : Result ℕ BerFault → Said
+peer_abort_read (Ok diagnostic) = peer_abort diagnostic
+peer_abort_read (Err _) = undecoded
+
+-- before a BIND the outer tag is judged before anything is decoded
+abbrev pub said_unbound : OuterTag → List ℕ → Said
+said_unbound tag.Bind octets = bind_read (whole bind_pdu.read octets)
+said_unbound tag.PeerAbort octets = peer_abort_read (whole peer_abort_pdu.read octets)
+said_unbound tag.Other octets = out_of_place
+said_unbound tag.Missing octets = undecoded
+
+-- what a bound user may say: of the services' own PDUs none is decoded yet
+abbrev pub said_bound : OuterTag → List ℕ → Said
+said_bound tag.Bind octets = bind_read (whole bind_pdu.read octets)
+said_bound tag.PeerAbort octets = peer_abort_read (whole peer_abort_pdu.read octets)
+said_bound tag.Other octets = unbind_read (whole unbind_pdu.read octets)
+said_bound tag.Missing octets = undecoded
+
+-- a PDU in each state; in opening and in closing none is decoded
+abbrev pub pdu_said : State → List ℕ → Said
+pdu_said Unbound octets = said_unbound (outer_tag octets) octets
+pdu_said (Ready _) octets = said_bound (outer_tag octets) octets
+pdu_said (Active _) octets = said_bound (outer_tag octets) octets
+pdu_said Opening octets = out_of_place
+pdu_said Closing octets = out_of_place
+
+abbrev pub said_in : State → Content → Said
+said_in state (tml.context interval factor) = context interval factor
+said_in state tml.heartbeat = heartbeat
+said_in state (pdu octets) = pdu_said state octets
+
+-- ---- whether it passes
+
+abbrev pub kind_of : Said → Kind
+kind_of (context _ _) = kind.context
+kind_of heartbeat = kind.heartbeat
+kind_of (bind _) = kind.bind
+kind_of (unbind _) = kind.unbind
+kind_of (peer_abort _) = kind.peer_abort
+kind_of undecoded = kind.undecoded
+kind_of out_of_place = kind.other
+
+abbrev pub initiator_of : Said → List ℕ
+initiator_of (bind b) = b.initiator
+initiator_of _ = []
+
+abbrev pub credentials_of : Said → Option (List ℕ)
+credentials_of (bind b) = b.credentials
+credentials_of (unbind u) = u.credentials
+credentials_of _ = None
+
+abbrev pub message_of : Said → ℕ → Message
+message_of said now =
+    record {
+      kind = kind_of said;
+      initiator = initiator_of said;
+      credentials = credentials_of said;
+      now = now;
+    }
+
+-- what becomes of it at a moment, by the association
+abbrev pub judged : Site → State → Said → ℕ → Step
+judged site state said now = step site state (message_of said now)

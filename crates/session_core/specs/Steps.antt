@@ -1,0 +1,167 @@
+-- The steps of a round, one after the other. Their order is this product's own.
+use Rattle.std.specs.Prelude.{ℕ, ◌-◌, ◌*◌, ◌==◌, nat_le, Bool, true, false, not, ◌&&◌, ◌||◌}
+use Rattle.std.specs.Prelude.{if◌then◌else◌, Option, Some, None, Result, Ok, Err, List, [], ◌++◌}
+use Rattle.std.specs.Prelude.{length}
+use Rattle.octet_core.specs.declared.offer.Offer.{Offer}
+use Rattle.octet_core.specs.declared.offer.Offer.TheVariants.{Whole, Stalled, Failed as Refused}
+use Rattle.isp1_tml.specs.declared.tml_fault.TmlFault.{TmlFault}
+use Rattle.isp1_tml.specs.Beat.{Pulse, picos}
+use Rattle.isp1_tml.specs.Message.{Content, heartbeat, spelling}
+use Rattle.link_model.specs.declared.call.Heard.{Heard}
+use Rattle.link_model.specs.declared.call.Heard.TheVariants.{Arrived, Nothing, Closed, Failed}
+use Rattle.station_config.specs.declared.site.Site.{Site}
+use Rattle.cltu_queue.specs.declared.ask.Ask.{Ask}
+use Rattle.cltu_queue.specs.declared.ask.Ask.TheVariants as ask
+use Rattle.cltu_queue.specs.declared.book_reply.BookReply.{BookReply}
+use Rattle.session_core.specs.declared.arrival.Arrival.TheVariants as arrival
+use Rattle.session_core.specs.declared.course.Course.{Course}
+use Rattle.session_core.specs.declared.course.Course.TheVariants.{Going, Closing as ClosingWith}
+use Rattle.session_core.specs.declared.course.Course.TheVariants.{Over, LinkFailed}
+use Rattle.session_core.specs.declared.ended.Ended.TheVariants.{PeerClosed, Broken}
+use Rattle.session_core.specs.declared.standing.Standing.{Standing}
+use Rattle.session_core.specs.Numbers.{communications_failure}
+use Rattle.session_core.specs.Course.{is_going, is_live, is_over, is_blocked, has_arrived}
+use Rattle.session_core.specs.Course.{has_closed}
+use Rattle.session_core.specs.Message.{Said, said_in, judged}
+use Rattle.session_core.specs.Handling.{ended_by, aborted, said_ask, after_message}
+
+-- what comes next of the stream: its next message, none yet, or its fault
+abbrev pub Next : Type 0
+Next = Result (Option Content) TmlFault
+
+abbrev pub has_message : Next → Bool
+has_message (Ok (Some _)) = true
+has_message _ = false
+
+-- ---- listen: a waiting block
+
+abbrev pub has_block : Standing → Bool
+has_block s = not (length s.block == 0)
+
+-- a round begins with nothing heard
+abbrev pub round_begun : Standing → Standing
+round_begun s = record s { arrival = arrival.Nothing; relieved = false }
+
+-- a block that waits is offered first
+abbrev pub waits : Standing → Bool
+waits s = is_live s.course && has_block s
+
+-- taken whole it is gone; where it stalls the round is blocked
+abbrev pub after_wait : Standing → Offer → Standing
+after_wait s Whole = record s { block = []; relieved = true }
+after_wait s Stalled = record s { arrival = arrival.Blocked }
+after_wait s Refused = record s { course = LinkFailed }
+
+-- ---- listen: a poll
+
+-- the link is polled where the round isn't blocked, no whole message is held and the session isn't
+-- closing
+abbrev pub may_poll : Standing → Next → Bool
+may_poll s next = is_going s.course && not (is_blocked s.arrival) && not (has_message next)
+
+abbrev pub after_poll : Standing → Heard → Standing
+after_poll s (Arrived _) = record s { arrival = arrival.Octets }
+after_poll s Nothing = s
+after_poll s Closed = record s { arrival = arrival.Closed }
+after_poll s Failed = record s { course = LinkFailed }
+
+-- ---- step: the moment
+
+-- an arrival sets the moment heard, a block that listen handed over the moment sent
+abbrev pub at_moment : Standing → ℕ → Standing
+at_moment s now =
+    record s {
+      now = now;
+      sent = if s.relieved then now else s.sent;
+      heard = if has_arrived s.arrival then now else s.heard;
+    }
+
+-- ---- step: a fault, a close, or one message
+
+-- a round that is blocked, and one of a session that doesn't go on, handles no message
+abbrev pub is_idle : Standing → Bool
+is_idle s = is_blocked s.arrival || not (is_going s.course)
+
+abbrev pub handles : Standing → Next → Bool
+handles s next = not (is_idle s) && has_message next
+
+-- what an idle round asks: one that is blocked takes no notice
+abbrev pub idle_ask : Standing → Ask
+idle_ask s = if is_blocked s.arrival then ask.Quiet else ask.Nothing
+
+abbrev pub message_ask : Site → Standing → Content → ℕ → Ask
+message_ask site s message now =
+    let said = said_in s.association message in
+    said_ask site said (judged site s.association said now)
+
+abbrev pub next_ask : Site → Standing → Next → ℕ → Ask
+next_ask site s (Ok (Some message)) now = message_ask site s message now
+next_ask site s _ now = ask.Nothing
+
+-- what a round asks the book
+abbrev pub ask_of : Site → Standing → Next → ℕ → Ask
+ask_of site s next now = if is_idle s then idle_ask s else next_ask site s next now
+
+abbrev pub with_message : Site → Standing → Content → BookReply → Standing
+with_message site s message reply =
+    let said = said_in s.association message in
+    after_message site s said (judged site s.association said s.now) reply
+
+-- the stream's fault ends the session; a close ends it once no whole message is held; else at most
+-- one message is handled
+abbrev pub with_next : Site → Standing → Next → BookReply → Standing
+with_next site s (Err fault) reply = ended_by s (Broken fault)
+with_next site s (Ok None) reply = if has_closed s.arrival then ended_by s PeerClosed else s
+with_next site s (Ok (Some message)) reply = with_message site s message reply
+
+abbrev pub acted : Site → Standing → Next → BookReply → Standing
+acted site s next reply = if is_idle s then s else with_next site s next reply
+
+-- ---- step: the dead timer and the heartbeat
+
+abbrev pub pulse_of : Standing → Pulse
+pulse_of s = record { interval = s.interval; factor = s.factor; sent = s.sent; heard = s.heard }
+
+-- nothing was heard for the interval times the factor, or longer
+abbrev pub is_dead : Pulse → ℕ → Bool
+is_dead p now = not (p.interval == 0) && nat_le (picos (p.interval * p.factor)) (now - p.heard)
+
+-- nothing was sent for the interval, or longer
+abbrev pub is_due : Pulse → ℕ → Bool
+is_due p now = not (p.interval == 0) && nat_le (picos p.interval) (now - p.sent)
+
+abbrev pub timed : Standing → Standing
+timed s =
+    if is_live s.course && is_dead (pulse_of s) s.now
+    then aborted s communications_failure else s
+
+-- a heartbeat, where the block is still empty
+abbrev pub with_heartbeat : Standing → Standing
+with_heartbeat s =
+    if is_live s.course && not (has_block s) && is_due (pulse_of s) s.now
+    then record s { block = spelling heartbeat } else s
+
+-- the whole step of a session that hasn't ended, at a moment, where the book replied so
+abbrev pub after_step : Site → Standing → Next → ℕ → BookReply → Standing
+after_step site s next now reply =
+    with_heartbeat (timed (acted site (at_moment s now) next reply))
+
+-- ---- speak
+
+abbrev pub may_speak : Standing → Bool
+may_speak s = is_live s.course && has_block s && not (is_blocked s.arrival)
+
+-- taken whole the block is gone, and sets the moment sent; where it stalls it waits for the next
+-- round
+abbrev pub after_offer : Standing → Offer → Standing
+after_offer s Whole = record s { block = []; sent = s.now }
+after_offer s Stalled = s
+after_offer s Refused = record s { course = LinkFailed }
+
+-- a closing session ends once its block was taken whole
+abbrev pub course_at_end : Course → Bool → Course
+course_at_end (ClosingWith end) waits = if waits then ClosingWith end else Over end
+course_at_end course waits = course
+
+abbrev pub round_ended : Standing → Standing
+round_ended s = record s { course = course_at_end s.course (has_block s) }

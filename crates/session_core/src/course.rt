@@ -1,0 +1,16 @@
+// Whether and how a session goes on.
+
+use crate::ended::Ended;
+
+/// Whether and how a session goes on.
+#[derive(Clone, Copy, Debug, PartialEq, Eq)]
+pub enum Course {
+    /// It handles messages.
+    Going,
+    /// It handles no message any more, and ends so once its block was taken whole.
+    Closing(Ended),
+    /// It ended so.
+    Over(Ended),
+    /// A poll or an offer of it failed.
+    LinkFailed,
+}

@@ -1,0 +1,40 @@
+// What holds of every session. A law's function does nothing: its contract is the law.
+ghost use Rattle.session_core.specs.Laws.{HandledInOrder, EachBlockOnce, EndsRepeat, FaultsRepeat};
+ghost use Rattle.session_core.specs.Laws.{OneSession};
+
+use isp1_tml::laws as stream;
+use link_model::laws as link;
+
+/// However the octets were cut, the messages that a session handles are those of the stream that
+/// arrived, in order and each once, from the first one on.
+pub fn messages_are_handled_in_order()
+    ensures { HandledInOrder }
+{
+    stream::each_is_read();
+    stream::longer_stream();
+    link::parts_of_two_runs_join();
+}
+
+/// Each block that a session makes is handed to its link once and in order, but for the last one,
+/// which waits, or was dropped by the end.
+pub fn each_block_is_handed_over_once()
+    ensures { EachBlockOnce }
+{
+    link::parts_of_two_runs_join();
+}
+
+/// After an end a session calls neither link nor book, and repeats the end.
+pub fn ends_repeat()
+    ensures { EndsRepeat }
+{}
+
+/// After a poll or an offer failed, a session doesn't call the link again, and tells the fault.
+pub fn faults_repeat()
+    ensures { FaultsRepeat }
+{}
+
+/// The answers of the link and the events of the book fix each call of the link with its octets,
+/// and the end.
+pub fn one_session()
+    ensures { OneSession }
+{}

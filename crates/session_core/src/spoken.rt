@@ -1,0 +1,14 @@
+// What a round comes to.
+
+use crate::ended::Ended;
+
+/// What a round comes to.
+#[derive(Clone, Copy, Debug, PartialEq, Eq)]
+pub enum Spoken {
+    /// The session goes on.
+    Going,
+    /// The session ended so. Every later call says the same, and touches neither book nor link.
+    Ended(Ended),
+    /// A poll or an offer of this session failed. The link isn't called again.
+    LinkFault,
+}
