@@ -1,0 +1,5 @@
+pub mod Behind
+pub mod Pass
+pub mod Turns
+pub mod Messages
+pub mod Steps

@@ -1,0 +1,67 @@
+-- An entry is offered to the archive, stored as a batch of its own, and published. The octets and
+-- limits are this product's own.
+use Rattle.std.specs.Prelude.{ℕ, ◌+◌, ◌-◌, false, not, nat_le, nat_lt, if◌then◌else◌}
+use Rattle.std.specs.Prelude.{Option, Some, None, List, [], ◌∷◌, ◌++◌, length}
+use Rattle.std.specs.List.{sum_by}
+use Rattle.archive_terms.specs.Archive.{Entry, keeps_order, is_short}
+use Rattle.record_form.specs.Spelling.{entry_octets}
+use Rattle.words.specs.Table.{Says}
+use Rattle.drill_text.specs.Transcript.{transcript, backward, too, full}
+use Rattle.station_law.specs.declared.refusal.Refusal.{Refusal}
+use Rattle.station_law.specs.declared.refusal.Refusal.TheVariants as refusals
+use Rattle.station_law.specs.declared.step_done.StepDone.{StepDone}
+use Rattle.station_law.specs.declared.step_done.StepDone.TheVariants.{Fine, Full}
+use Rattle.station_law.specs.State.{State}
+use Rattle.station_law.specs.Said.{told}
+use Rattle.station_law.specs.Answer.{Answer, ends}
+
+-- how many octets of the file an entry wants as a batch of its own: its own, and 7
+abbrev pub need : Entry → ℕ
+need entry = length (entry_octets entry) + 7
+
+-- how many octets of the file entries use, each stored as a batch of its own: the header and the
+-- gate behind the batches are 9
+abbrev pub used : List Entry → ℕ
+used entries = 9 + sum_by need entries
+
+-- how many octets are free below the capacity, or none where as many entries are stored as an
+-- archive holds
+abbrev pub free : State → ℕ
+free state =
+    if nat_le 4194304 (length state.published) then 0 else state.capacity - used state.published
+
+-- why an entry isn't taken
+abbrev pub refusal : State → Entry → Option Refusal
+refusal state entry =
+    if not (keeps_order state.published entry) then Some refusals.Backward
+    else if not (is_short entry) then Some refusals.TooLong
+    else if nat_lt (free state) (need entry) then Some (refusals.Full (need entry) (free state))
+    else None
+
+-- the line of a refusal, and how the entry's line ends
+abbrev pub line_of : Refusal → Says transcript
+line_of refusals.Backward = (backward, tt)
+line_of refusals.TooLong = (too, tt)
+line_of (refusals.Full wanted left) = (full, (wanted, left))
+
+abbrev pub done_of : Refusal → StepDone
+done_of (refusals.Full wanted left) = Full
+done_of _ = Fine
+
+-- the entry is acknowledged and published
+abbrev pub stores : State → Entry → Answer
+stores state entry = record {
+  said = [];
+  given = entry ∷ [];
+  recovers = false;
+  done = Fine;
+  next = record state { published = state.published ++ entry ∷ [] };
+}
+
+abbrev pub by_refusal : State → Entry → Option Refusal → Answer
+by_refusal state entry None = stores state entry
+by_refusal state entry (Some why) = ends (done_of why) (told (line_of why) ∷ []) state
+
+-- what the line of an entry answers
+abbrev pub offer : State → Entry → Answer
+offer state entry = by_refusal state entry (refusal state entry)

@@ -1,0 +1,15 @@
+pub mod State
+pub mod Said
+pub mod Answer
+pub mod Sound
+pub mod Runs
+pub mod Once
+pub mod Output
+pub mod Entries
+pub mod EntriesFacts
+pub mod Desk
+pub mod DeskFacts
+pub mod Buffers
+pub mod Pass
+pub mod Lines
+pub mod LinesFacts

@@ -1,0 +1,138 @@
+-- A script's run, whatever its lines are: each is a step.
+use Rattle.std.specs.Prelude.{◌≡◌, ℕ, ◌+◌, Bool, true, false, ◌&&◌, IsTrue}
+use Rattle.std.specs.Prelude.{List, [], ◌∷◌, ◌++◌, length, take, codes}
+use Rattle.std.specs.Fmt.{decimal}
+use Rattle.archive_terms.specs.Archive.{Entry}
+use Rattle.station_law.specs.declared.step_done.StepDone.{StepDone}
+use Rattle.station_law.specs.declared.step_done.StepDone.TheVariants.{Fine, Full, WrongState}
+use Rattle.station_law.specs.State.{State}
+use Rattle.station_law.specs.Said.{Handed, texts, handed_by}
+use Rattle.station_law.specs.Answer.{Answer}
+use Rattle.station_law.specs.Sound.{Begins, AreRight}
+
+-- the number of the first line that is outside the grammar or in a wrong state
+abbrev pub bad_line : ℕ → List ℕ
+bad_line number = codes "bad line " ++ decimal number ++ 10 ∷ []
+
+-- what stands behind a line's text: that of the lines behind it, or its number
+abbrev pub text_behind : StepDone → ℕ → List ℕ → List ℕ
+text_behind WrongState number rest = bad_line number
+text_behind _ number rest = rest
+
+-- how a script ends where its output takes all and memory suffices: all was done; some entry was
+-- refused as Full; or a line is bad
+pub data Ending : Type 0 where
+  done : Ending
+  full : Ending
+  bad : Ending
+
+abbrev pub with_full : Ending → Ending
+with_full bad = bad
+with_full _ = full
+
+abbrev pub ending_behind : StepDone → Ending → Ending
+ending_behind Fine rest = rest
+ending_behind Full rest = with_full rest
+ending_behind WrongState rest = bad
+
+-- how a script ends, by whether its lines are in order and fine
+abbrev pub ending_of : Bool → Bool → Ending
+ending_of false fine = bad
+ending_of true true = done
+ending_of true false = full
+
+abbrev pub is_fine : StepDone → Bool
+is_fine Fine = true
+is_fine _ = false
+
+abbrev pub is_in_order : StepDone → Bool
+is_in_order WrongState = false
+is_in_order _ = true
+
+-- What was stored since the last recovery: the entries that it found, and those given to stores
+-- since then, without those that a reopen named lost.
+pub record Course : Type 0 where
+  pub found : List Entry
+  pub given : List Entry
+
+-- what was stored behind a line that recovers or doesn't, with what it gave and what is published
+-- then
+abbrev pub course_by : Bool → List Entry → List Entry → Course → Course
+course_by true given published course = record { found = published; given = [] }
+course_by false given published course = record course { given = course.given ++ given }
+
+abbrev pub course_behind : Course → Answer → Course
+course_behind course answer = course_by answer.recovers answer.given answer.next.published course
+
+module _ {L : Type 0} (step : State → L → Answer) where
+  -- what is written for lines from a number on
+  abbrev pub transcript_from : ℕ → State → List L → List ℕ
+  transcript_from number state [] = []
+  transcript_from number state (line ∷ lines) =
+      texts (step state line).said ++ text_behind (step state line).done number
+      (transcript_from (number + 1) (step state line).next lines)
+
+  -- the transcript of a script's lines
+  abbrev pub transcript : State → List L → List ℕ
+  transcript state lines = transcript_from 1 state lines
+
+  abbrev pub ending : State → List L → Ending
+  ending state [] = done
+  ending state (line ∷ lines) =
+      ending_behind (step state line).done (ending (step state line).next lines)
+
+  -- whether each line is fine, and whether none is bad
+  abbrev pub all_fine : State → List L → Bool
+  all_fine state [] = true
+  all_fine state (line ∷ lines) =
+      is_fine (step state line).done && all_fine (step state line).next lines
+
+  abbrev pub in_order : State → List L → Bool
+  in_order state [] = true
+  in_order state (line ∷ lines) =
+      is_in_order (step state line).done && in_order (step state line).next lines
+
+  -- the world behind lines
+  abbrev pub after : State → List L → State
+  after state [] = state
+  after state (line ∷ lines) = after (step state line).next lines
+
+  -- what each START has handed over behind lines, and what was stored
+  abbrev pub handed_after : State → List Handed → List L → List Handed
+  handed_after state starts [] = starts
+  handed_after state starts (line ∷ lines) =
+      handed_after (step state line).next (handed_by starts (step state line).said) lines
+
+  abbrev pub course_after : State → Course → List L → Course
+  course_after state course [] = course
+  course_after state course (line ∷ lines) =
+      course_after (step state line).next (course_behind course (step state line)) lines
+
+-- What a recovery found: it begins with all that was acknowledged, and is what the recovery before
+-- found, followed by a prefix of what was given to stores since then.
+pub record IsFound (course : Course) (before answer_given found : List Entry) : Type 0 where
+  pub keeps : Begins before found
+  pub count : ℕ
+  pub is : found ≡ course.found ++ take count (course.given ++ answer_given)
+
+-- What is promised of a line that stands in a script behind others in order, with the world before
+-- it and its answer: where its text stands; what each START has handed over up to it is right then
+-- and after any first few of the later lines; and what it found, where it recovers the archive.
+pub record IsAnswered {L : Type 0} (step : State → L → Answer) (first : State)
+    (earlier later : List L) (line : L) : Type 0 where
+  pub text : transcript step first (earlier ++ line ∷ later) ≡ transcript step first earlier
+      ++ transcript_from step (length earlier + 1) (after step first earlier) (line ∷ later)
+  pub right : (some : ℕ) → AreRight
+      (after step (step (after step first earlier) line).next (take some later)).published
+      (handed_by (handed_after step first [] earlier)
+      (step (after step first earlier) line).said)
+  pub recovered : IsTrue (step (after step first earlier) line).recovers
+      → IsFound (course_after step first (record { found = first.published; given = [] }) earlier)
+      (after step first earlier).published (step (after step first earlier) line).given
+      (step (after step first earlier) line).next.published
+
+-- so it is at each line behind others in order
+abbrev pub Headline : {L : Type 0} → (State → L → Answer) → State → List L → Type 0
+Headline {L} step first lines =
+    (earlier later : List L) (line : L) → lines ≡ earlier ++ line ∷ later
+    → IsTrue (in_order step first earlier) → IsAnswered step first earlier later line

@@ -1,0 +1,79 @@
+-- What a line of a script says: the lines of the transcript that it makes, and what it hands over.
+-- The text, and what each START handed over, are functions of one list, so they can't differ.
+use Rattle.std.specs.Prelude.{ℕ, ℤ, ◌==◌, if◌then◌else◌, Option, Some, List, [], ◌∷◌, ◌++◌, map}
+use Rattle.std.specs.List.{flat_map}
+use Rattle.ber_core.specs.Tree.{Tree}
+use Rattle.ber_core.specs.Spelling.{canonical}
+use Rattle.isp1_tml.specs.Message.{Content, spelling, pdu}
+use Rattle.return_pdu.specs.Items.{frame_of, absent, transfer_buffer}
+use Rattle.return_pdu.specs.Items as items
+use Rattle.archive_terms.specs.Archive.{frame}
+use Rattle.archive_terms.specs.Delivery.{Item, archived, end_of_data, Terms}
+use Rattle.words.specs.Line as line
+use Rattle.words.specs.Table.{Says}
+use Rattle.drill_text.specs.Transcript.{transcript, lines, sent}
+
+-- a buffer as it is told: its items, each frame with its continuity
+abbrev pub Told : Type 0
+Told = List (Item × Option ℤ)
+
+-- a line of the transcript that hands nothing over; a START begins on a connection; or an offer of
+-- a buffer was taken whole on it. The desk is connection 0.
+pub data Said : Type 0 where
+  told : Says transcript → Said
+  begun : ℕ → Terms → Said
+  handed : ℕ → Told → Said
+
+-- an item as it is told: a frame with its fields as it was received, and its continuity; or the end
+-- of data. An offline delivery has no other.
+abbrev pub item_tree : Item × Option ℤ → Tree
+item_tree (archived place (frame f), Some continuity) =
+    items.frame (frame_of f.ert f.antenna continuity f.quality f.octets)
+item_tree (end_of_data, _) = items.end_of_data
+item_tree _ = absent
+
+-- the message of a buffer
+abbrev pub buffer_message : Told → Content
+buffer_message buffer = pdu (canonical (transfer_buffer (map item_tree buffer)))
+
+-- a line of the transcript, with its end
+abbrev pub line_text : Says transcript → List ℕ
+line_text says = line.spelling lines says ++ 10 ∷ []
+
+-- octets were handed over on a connection
+abbrev pub sent_text : ℕ → List ℕ → List ℕ
+sent_text connection octets = line_text (sent, (connection, octets))
+
+-- the text of what is said
+abbrev pub text_of : Said → List ℕ
+text_of (told says) = line_text says
+text_of (begun connection terms) = []
+text_of (handed connection buffer) = sent_text connection (spelling (buffer_message buffer))
+
+abbrev pub texts : List Said → List ℕ
+texts said = flat_map text_of said
+
+-- what a START has handed over: its connection, what it asks for, and its buffers in order
+pub record Handed : Type 0 where
+  pub connection : ℕ
+  pub terms : Terms
+  pub buffers : List Told
+
+-- the last START of a connection has handed over one buffer more
+abbrev pub with_buffer : ℕ → Told → List Handed → List Handed
+with_buffer connection buffer [] = []
+with_buffer connection buffer (last ∷ earlier) =
+    if last.connection == connection
+    then record last { buffers = last.buffers ++ buffer ∷ [] } ∷ earlier
+    else last ∷ with_buffer connection buffer earlier
+
+-- the STARTs so far, the last one first, each with all that it has handed over
+abbrev pub handed_with : List Handed → Said → List Handed
+handed_with starts (told says) = starts
+handed_with starts (begun connection terms) =
+    record { connection = connection; terms = terms; buffers = [] } ∷ starts
+handed_with starts (handed connection buffer) = with_buffer connection buffer starts
+
+abbrev pub handed_by : List Handed → List Said → List Handed
+handed_by starts [] = starts
+handed_by starts (one ∷ others) = handed_by (handed_with starts one) others
