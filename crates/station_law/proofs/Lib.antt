@@ -3,3 +3,4 @@ pub mod Pass
 pub mod Turns
 pub mod Messages
 pub mod Steps
+pub mod Held

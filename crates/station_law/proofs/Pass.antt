@@ -240,12 +240,12 @@ goes-loss : (start stop : Cds) (quality : ℕ) (closed : Bool) (entries : List E
     → Goes start stop quality closed entries n (LossOfSync at carrier subcarrier symbol ∷ rest)
 goes-loss start stop quality closed entries n at carrier subcarrier symbol rest stands next
     = record {
-  fresh = λ before gap is. next.fresh before gap (gap-next entries before n gap
-      (LossOfSync at carrier subcarrier symbol) rest stands is);
-  holding = λ before gap place f shown is alone tree.
-      next.holding before gap place f shown (gap-next entries (Some place) n gap
-      (LossOfSync at carrier subcarrier symbol) rest stands is) alone tree;
-}
+      fresh = λ before gap is. next.fresh before gap (gap-next entries before n gap
+          (LossOfSync at carrier subcarrier symbol) rest stands is);
+      holding = λ before gap place f shown is alone tree.
+          next.holding before gap place f shown (gap-next entries (Some place) n gap
+          (LossOfSync at carrier subcarrier symbol) rest stands is) alone tree;
+    }
 
 goes-production : (start stop : Cds) (quality : ℕ) (closed : Bool) (entries : List Entry) (n : ℕ)
     (status : ℕ) (rest : List Entry)

@@ -11,5 +11,6 @@ pub mod Desk
 pub mod DeskFacts
 pub mod Buffers
 pub mod Pass
+pub mod Held
 pub mod Lines
 pub mod LinesFacts

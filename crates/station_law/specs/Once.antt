@@ -100,6 +100,17 @@ ending_on Full true true = refl
 ending_on Full true false = refl
 ending_on WrongState good fine = refl
 
+-- ---- how a script ends
+
+module _ {L : Type 0} (step : State → L → Answer) where
+  pub ending_is : (state : State) (lines : List L)
+      → ending step state lines ≡ ending_of (in_order step state lines) (all_fine step state lines)
+  ending_is state [] = refl
+  ending_is state (line ∷ lines) =
+      ap (ending_behind (step state line).done) (ending_is (step state line).next lines)
+      ∙ ending_on (step state line).done (in_order step (step state line).next lines)
+      (all_fine step (step state line).next lines)
+
 -- ---- the world behind any lines
 
 module _ {L : Type 0} (step : State → L → Answer) (lawful : IsLawful step) where
@@ -161,16 +172,6 @@ module _ {L : Type 0} (step : State → L → Answer) (lawful : IsLawful step) w
       ++ transcript_from step n (after step (step state line).next earlier) later) count
       (split (number + 1) (step state line).next earlier later
       (and_right (is_in_order (step state line).done) _ good)))
-
-  -- ---- how a script ends
-
-  pub ending_is : (state : State) (lines : List L)
-      → ending step state lines ≡ ending_of (in_order step state lines) (all_fine step state lines)
-  ending_is state [] = refl
-  ending_is state (line ∷ lines) =
-      ap (ending_behind (step state line).done) (ending_is (step state line).next lines)
-      ∙ ending_on (step state line).done (in_order step (step state line).next lines)
-      (all_fine step (step state line).next lines)
 
   -- ---- the headline
 

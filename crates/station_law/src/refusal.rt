@@ -1,4 +1,14 @@
 // Why an entry isn't taken.
+ghost use Rattle.std.specs.Prelude.{◌≡◌, IfOk, OnErr};
+ghost use Rattle.drill_text.specs.Transcript.{said};
+ghost use Rattle.frame_archive.specs.declared.fault.OfferFault.TheVariants as OfferFault;
+ghost use Rattle.station_law.specs.Entries.{line_of, done_of};
+ghost use Rattle.station_law.specs.Held.{fault_of, IsOfOffer};
+
+use crate::step_done::StepDone;
+use drill_text::TranscriptLine;
+use frame_archive::OfferFault;
+use octet_core::Memory;
 
 /// Why an entry isn't taken, in the order in which it is tried.
 #[derive(Clone, Copy, Debug, PartialEq, Eq)]
@@ -11,4 +21,45 @@ pub enum Refusal {
     /// The entry wants `need` octets of the file, and `free` are free below the capacity, or none
     /// where 4,194,304 entries are stored.
     Full { need: u64, free: u64 },
+}
+
+impl Refusal {
+    // The refusal of an archive in which nothing waits.
+    pub fn of(fault: OfferFault) -> Result<Refusal, Memory>
+        requires { IsOfOffer fault }
+        ensures ok { IfOk result (λ why. fault_of why ≡ fault) }
+        ensures err { OnErr result (fault ≡ OfferFault.Memory) }
+    {
+        match fault {
+            OfferFault::Backward => Ok(Refusal::Backward),
+            OfferFault::TooLong => Ok(Refusal::TooLong),
+            OfferFault::Full { need, free } => Ok(Refusal::Full { need, free }),
+            OfferFault::Waiting => unreachable!(),
+            OfferFault::Memory => Err(Memory),
+        }
+    }
+
+    // Its line of the transcript.
+    pub fn line(&self) -> TranscriptLine<'_>
+        ensures { said result ≡ line_of self.now }
+    {
+        match self {
+            Refusal::Backward => TranscriptLine::Backward,
+            Refusal::TooLong => TranscriptLine::TooLong,
+            Refusal::Full { need, free } => TranscriptLine::Full {
+                need: *need,
+                free: *free,
+            },
+        }
+    }
+
+    // How the line of the entry ends.
+    pub fn done(&self) -> StepDone
+        ensures { result ≡ done_of self.now }
+    {
+        match self {
+            Refusal::Full { .. } => StepDone::Full,
+            Refusal::Backward | Refusal::TooLong => StepDone::Fine,
+        }
+    }
 }

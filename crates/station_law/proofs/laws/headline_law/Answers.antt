@@ -1,0 +1,14 @@
+use Rattle.std.proofs.Common.{refl}
+use Rattle.station_law.specs.State.{start}
+use Rattle.station_law.specs.Lines.{step, step_text}
+use Rattle.station_law.specs.LinesFacts.{facts, facts_text}
+use Rattle.station_law.specs.Once.{headline}
+use Rattle.station_law.proofs.laws.headline_law.Goals as goal
+
+pub returns : goal.returns
+returns c = record {
+  lines = λ capacity lines. headline step (facts c.lines_rest_on.ensures) (start capacity) lines
+      (record { archive = refl; settled = refl });
+  texts = λ capacity lines. headline step_text (facts_text c.lines_rest_on.ensures)
+      (start capacity) lines (record { archive = refl; settled = refl });
+}

@@ -1,0 +1,40 @@
+// The promises of every script, each the contract of an empty function: a caller has it by the call.
+// They follow from the facts of each line alone.
+ghost use Rattle.std.specs.Prelude.{◌≡◌, ℕ, List};
+ghost use Rattle.drill_text.specs.declared.script_line.ScriptLine.{ScriptLine};
+ghost use Rattle.station_law.specs.State.{start};
+ghost use Rattle.station_law.specs.Runs.{Headline, ending, ending_of, in_order, all_fine};
+ghost use Rattle.station_law.specs.Lines.{step, step_text};
+ghost use Rattle.station_law.specs.LinesFacts.{Laws};
+
+/// The headline: at each line of a script, behind others that are in order, its text stands between
+/// theirs and that of the later lines; what each START has handed over up to it is right for the
+/// archive then and after any further lines; and where it recovers the archive, it finds all that
+/// was acknowledged, and of the rest what was given first.
+pub fn headline_law()
+    ensures lines { (capacity : ℕ) (lines : List ScriptLine)
+        → Headline step (start capacity) lines }
+    ensures texts { (capacity : ℕ) (lines : List (List ℕ))
+        → Headline step_text (start capacity) lines }
+{
+    lines_rest_on();
+}
+
+/// How a script ends: with a bad line exactly where one is in no right state or outside the grammar,
+/// else with an entry refused as Full exactly where one was, else with all done.
+pub fn ending_law()
+    ensures { (capacity : ℕ) (lines : List (List ℕ)) →
+        ending step_text (start capacity) lines
+        ≡ ending_of (in_order step_text (start capacity) lines)
+        (all_fine step_text (start capacity) lines) }
+{}
+
+// The laws of the archive and of deliveries.
+fn lines_rest_on()
+    ensures { Laws }
+{
+    archive_terms::laws::archive_grows();
+    archive_terms::laws::offline_buffers_hold_a_prefix();
+    archive_terms::laws::handed_over_stays_a_prefix();
+    archive_terms::laws::continuity_stays();
+}
