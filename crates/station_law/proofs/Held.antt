@@ -142,7 +142,8 @@ same_refusal seen archive published times held rests unsettled clock entry =
     let last = sym held.times_are ∙ last_times archive published times held rests in
     let ordered : is_in_order archive.times.frame archive.times.seal entry
     ≡ keeps_order published entry =
-    ap (λ (t : Times). is_in_order t.frame t.seal entry) last ∙ sym (seen published entry parts.1) in
+    ap (λ (t : Times). is_in_order t.frame t.seal entry) last
+    ∙ sym (seen published entry parts.1) in
     let few : nat_le 256 (length archive.waiting) ≡ false =
     ap (λ (ws : List Entry). nat_le 256 (length ws)) rests in
     let wants : archives.need archive.waiting entry ≡ need entry =
@@ -217,7 +218,8 @@ pub held_more : (archive : ArchiveState DiskState) (published : List Entry) (tim
     → IsHeld stored (published ++ entry ∷ []) now
 held_more archive published times now entry offered stored held rests offered_is stored_is now_is
     acknowledges =
-    let waits : offered.waiting ≡ entry ∷ [] = ap (λ (a : ArchiveState DiskState). a.waiting) offered_is
+    let waits : offered.waiting ≡ entry ∷ [] =
+    ap (λ (a : ArchiveState DiskState). a.waiting) offered_is
     ∙ ap (λ xs. xs ++ entry ∷ []) rests in
     record {
       acknowledges = subst (λ more. Acknowledges told_by stored (published ++ more)) waits
@@ -248,7 +250,8 @@ pub held_failed : (archive : ArchiveState DiskState) (published : List Entry) (t
     → IsHeld stored published now
 held_failed archive published times now entry offered stored held rests offered_is stored_is now_is
     acknowledges =
-    let waits : offered.waiting ≡ entry ∷ [] = ap (λ (a : ArchiveState DiskState). a.waiting) offered_is
+    let waits : offered.waiting ≡ entry ∷ [] =
+    ap (λ (a : ArchiveState DiskState). a.waiting) offered_is
     ∙ ap (λ xs. xs ++ entry ∷ []) rests in
     let kept : (stored.used ≡ offered.used) × (stored.times ≡ offered.times)
     × (stored.waiting ≡ offered.waiting) = elim stored_is [

@@ -17,8 +17,8 @@ use Rattle.station_law.specs.Entries.{used}
 abbrev pub told_by : DiskState → Option Pending
 told_by disk = Some (pending_of disk)
 
--- The archive has acknowledged what is published, each entry in a batch of its own, and nothing else;
--- these are its last times; and where no entry waits no store has failed.
+-- The archive has acknowledged what is published, each entry in a batch of its own, and nothing
+-- else; these are its last times; and where no entry waits no store has failed.
 pub record IsHeld (archive : ArchiveState DiskState) (published : List Entry) (times : Times)
     : Type 0 where
   pub acknowledges : Acknowledges told_by archive published

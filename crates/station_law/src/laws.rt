@@ -1,5 +1,5 @@
-// The promises of every script, each the contract of an empty function: a caller has it by the call.
-// They follow from the facts of each line alone.
+// The promises of every script, each the contract of an empty function: a caller has it by the
+// call. They follow from the facts of each line alone.
 ghost use Rattle.std.specs.Prelude.{◌≡◌, ℕ, List};
 ghost use Rattle.drill_text.specs.declared.script_line.ScriptLine.{ScriptLine};
 ghost use Rattle.station_law.specs.State.{start};
@@ -20,8 +20,8 @@ pub fn headline_law()
     lines_rest_on();
 }
 
-/// How a script ends: with a bad line exactly where one is in no right state or outside the grammar,
-/// else with an entry refused as Full exactly where one was, else with all done.
+/// How a script ends: with a bad line exactly where one is in no right state or outside the
+/// grammar, else with an entry refused as Full exactly where one was, else with all done.
 pub fn ending_law()
     ensures { (capacity : ℕ) (lines : List (List ℕ)) →
         ending step_text (start capacity) lines

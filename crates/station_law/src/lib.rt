@@ -1,9 +1,10 @@
 // The world behind a script: what each line of it does, and what is promised of all of them.
 //
-// A world is a record of lists and moments (`specs/State.antt`), and a line is a step: a function of
-// the world and the line that gives what the line says and the next world (`specs/Lines.antt`). Its
-// text, and what each START handed over, are functions of what was said. From the facts of each line
-// (`specs/Sound.antt`) the promises of whole scripts follow once, for any lines (`specs/Once.antt`).
+// A world is a record of lists and moments (`specs/State.antt`), and a line is a step: a function
+// of the world and the line that gives what the line says and the next world (`specs/Lines.antt`).
+// Its text, and what each START handed over, are functions of what was said. From the facts of each
+// line (`specs/Sound.antt`) the promises of whole scripts follow once, for any lines
+// (`specs/Once.antt`).
 //
 // An entry's line costs one batch of the archive, a START's one pass over the published entries. An
 // entry is shared by the archive and the published ones, and its octets aren't copied for that.

@@ -80,8 +80,8 @@ invariant_of-self-in_default-store c =
     (λ disk. inr (c.in_default-store.ensures.failed disk))
     (λ memory. inl (c.in_default-store.ensures.memory memory)) others)
     (c.in_default-store.ensures.answers fresh) in
-    rw c.in_ok-reserve.ensures.items (held_failed c.self.inside.archive published c.self.inside.times
-    c.after-self-inside.result (entry_of c.args.entry.now) c.offer.new.self c.store.new.self
+    rw c.in_ok-reserve.ensures.items (held_failed c.self.inside.archive published
+    c.self.inside.times c.after-self-inside.result (entry_of c.args.entry.now) c.offer.new.self c.store.new.self
     c.self.invariant rests taken failed times
     (c.in_default-store.ensures.still published (c.in_default.ensures.acknowledged published
     c.self.invariant.acknowledges)))
