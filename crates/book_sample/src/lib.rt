@@ -16,6 +16,3 @@ mod work;
 pub use job::{Job, Outcome};
 pub use turn::do_job;
 pub use work::{Plan, Shared, run_two};
-
-#[cfg(test)]
-mod tests;

@@ -30,6 +30,3 @@ pub use cltu_queue::{Ask, BookReply};
 pub use event::{Event, Opening, Station};
 pub use publish_fault::PublishFault;
 pub use service_kind::ServiceKind;
-
-#[cfg(test)]
-mod tests;
