@@ -182,10 +182,8 @@ peer MOC bind sha256 60 a1b2c3d4e5f6\n\
 peer SCIENCE none sha1 60 000000000000\n";
 
 const EXAMPLE_RAF: &[u8] = b"\
-# Return all frames: raf ID OWNER MODE SIZE LATENCY TIMEOUT. OWNER is a peer of a line
-    above. MODE\n\
-# is timely, complete or offline; SIZE is a transfer buffer's items; LATENCY is seconds,
-    and 0 for\n\
+# Return all frames: raf ID OWNER MODE SIZE LATENCY TIMEOUT. OWNER is a peer of a line above. MODE\n\
+# is timely, complete or offline; SIZE is a transfer buffer's items; LATENCY is seconds, and 0 for\n\
 # offline; TIMEOUT is the return timeout in seconds.\n\
 raf sagr=1.spack=pass-1.rsl-fg=1.raf=onlt1 MOC timely 10 2 60\n\
 raf sagr=1.spack=pass-1.rsl-fg=1.raf=onlc1 MOC complete 100 5 60\n\
