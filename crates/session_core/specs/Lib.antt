@@ -1,6 +1,7 @@
 pub mod Numbers
 pub mod Course
 pub mod Message
+pub mod Seen
 pub mod Returns
 pub mod Handling
 pub mod Steps

@@ -1,7 +1,9 @@
 // The block that is to be offered.
-ghost use Rattle.std.specs.Prelude.{◌≡◌, [], IfOk};
+ghost use Rattle.std.specs.Prelude.{◌≡◌, ◌==◌, [], length, IfOk};
+ghost use Rattle.isp1_tml.specs.Message.{heartbeat, spelling};
 
 use ber_core::Writer;
+use isp1_tml::head;
 use octet_core::Memory;
 use std::alloc::{AllocError, Global};
 use std::marker::Model;
@@ -32,5 +34,34 @@ impl Block {
     {
         let writer = Writer::new(alloc, BLOCK_ROOM).map_err(AllocError::from)?;
         Ok(Block { writer })
+    }
+
+    /// Whether there are no octets.
+    pub fn is_empty(&self) -> bool
+        ensures { result ≡ (length self.now == 0) }
+    {
+        self.writer.octets().is_empty()
+    }
+
+    /// The octets.
+    pub fn octets(&self) -> &[u8]
+        ensures { result.now ≡ self.now }
+    {
+        self.writer.octets()
+    }
+
+    /// Removes all octets.
+    pub fn clear(&mut self)
+        ensures { self.new ≡ [] }
+    {
+        self.writer.clear();
+    }
+
+    /// A heartbeat alone.
+    pub fn put_heartbeat(&mut self)
+        ensures { self.new ≡ spelling heartbeat }
+    {
+        self.writer.clear();
+        self.writer.raw(&head(3, 0));
     }
 }
