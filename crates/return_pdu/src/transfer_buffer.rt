@@ -112,7 +112,7 @@ impl<'a> TransferBuffer<'a> {
 
 /// The number of octets of a transfer buffer whose items have so many octets.
 pub fn buffer_length(content: usize) -> usize
-    requires { content < 2 ^ 62 }
+    requires { content + 10 < 2 ^ 64 }
     ensures exact { result ≡ length (buffer_start content) + content }
     ensures small { result ≤ content + 10 }
 {
