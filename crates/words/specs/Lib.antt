@@ -1,6 +1,7 @@
 pub mod Steps
 pub mod Alphabet
 pub mod Parts
+pub mod Front
 pub mod Kind
 pub mod Fixed
 pub mod Either

@@ -1,5 +1,5 @@
 // Words that are octets in hexadecimal digits.
-ghost use Rattle.std.specs.Prelude.{◌≡◌, ◌++◌, ◌*◌, ◌<◌, OnOk, IsErrOf, length};
+ghost use Rattle.std.specs.Prelude.{◌≡◌, ◌++◌, ◌*◌, ◌<◌, OnOk, OnErr, IsErrOf, length};
 ghost use Rattle.hex.specs.Hex.{encode_lower};
 ghost use Rattle.words.specs.HexOctets.{hex_read};
 ghost use Rattle.words.specs.Reading.{Gives};
@@ -75,7 +75,8 @@ impl<'a> WriteWords<'a> for LentOctets {
 
 // Appends two digits for each octet.
 fn append_digits(octets: &[u8], into: &mut Vec<u8>) -> Result<(), AllocError>
-    ensures { OnOk result (into.new.items ≡ into.old.items ++ encode_lower octets.now) }
+    ensures ok { OnOk result (into.new.items ≡ into.old.items ++ encode_lower octets.now) }
+    ensures err { OnErr result (into.new.items ≡ into.old.items) }
 {
     let start = into.len();
     let digits = octets.len().checked_mul(2).ok_or(AllocError)?;

@@ -1,5 +1,6 @@
 // Lines by their words.
-ghost use Rattle.std.specs.Prelude.{◌≡◌, ◌++◌, IfOk, OnOk};
+ghost use Rattle.std.specs.Prelude.{◌≡◌, ◌++◌, IfOk, OnOk, OnErr};
+ghost use Rattle.words.specs.Front.{AppendsFront};
 ghost use Rattle.words.specs.Judged.{judged};
 ghost use Rattle.words.specs.Line.{reading, spelling};
 ghost use Rattle.words.specs.Reading.{Gives, Judges, parts_behind};
@@ -62,8 +63,10 @@ pub fn write_line<'a, W: Word, R: WriteWords<'a>>(
     into: &mut Vec<u8>,
 ) -> Result<(), AllocError>
     requires { (and_then W.kind R.kinds).Fits (W.seen first.now, R.lent others) }
-    ensures { OnOk result (into.new.items ≡ into.old.items
+    ensures ok { OnOk result (into.new.items ≡ into.old.items
         ++ spelling (and_then W.kind R.kinds) (W.seen first.now, R.lent others)) }
+    ensures err { OnErr result (AppendsFront into.old.items into.new.items
+        (spelling (and_then W.kind R.kinds) (W.seen first.now, R.lent others))) }
 {
     W::write(first, into)?;
     R::put(b' ', others, into)

@@ -1,5 +1,6 @@
 // A row of so many words of one kind.
-ghost use Rattle.std.specs.Prelude.{◌≡◌, ◌++◌, OnOk, map};
+ghost use Rattle.std.specs.Prelude.{◌≡◌, ◌++◌, OnOk, OnErr, map};
+ghost use Rattle.words.specs.Front.{AppendsFront};
 ghost use Rattle.words.specs.Many.{each_read, each_fits};
 ghost use Rattle.words.specs.Parts.{behind};
 ghost use Rattle.words.specs.Reading.{Gives, parts_behind};
@@ -80,14 +81,17 @@ fn each<W: Word>(
 }
 
 // Appends each value's canonical spelling behind a separator.
+#[tactic(auto, using(crate::specs::Front::front_kept, crate::specs::Front::front_here, crate::specs::Front::front_onwards, crate::specs::Front::front_behind))]
 pub(crate) fn put_each<W: Word>(
     separator: u8,
     values: &[W::Value],
     into: &mut Vec<u8>,
 ) -> Result<(), AllocError>
     requires { each_fits W.kind.Fits (map W.seen values.now) }
-    ensures { OnOk result (into.new.items ≡ into.old.items
+    ensures ok { OnOk result (into.new.items ≡ into.old.items
         ++ behind separator (map W.kind.write (map W.seen values.now))) }
+    ensures err { OnErr result (AppendsFront into.old.items into.new.items
+        (behind separator (map W.kind.write (map W.seen values.now)))) }
 {
     let mut rest = values;
     while let Some((value, more)) = rest.split_first() {

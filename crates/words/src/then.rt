@@ -52,6 +52,7 @@ where
 
     ghost lent = { λ value. (W.seen value.0.now, R.lent value.1) };
 
+    #[tactic(auto, using(crate::specs::Front::front_behind))]
     fn put(
         separator: u8,
         value: (&'a W::Value, R::Lent),

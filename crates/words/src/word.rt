@@ -1,5 +1,6 @@
 // Kinds of words.
-ghost use Rattle.std.specs.Prelude.{◌≡◌, ◌++◌, OnOk};
+ghost use Rattle.std.specs.Prelude.{◌≡◌, ◌++◌, OnOk, OnErr};
+ghost use Rattle.words.specs.Front.{AppendsFront};
 ghost use Rattle.words.specs.Kind.{Kind};
 ghost use Rattle.words.specs.Reading.{Gives};
 
@@ -23,5 +24,7 @@ pub trait Word {
     /// Appends the canonical spelling. Where memory is refused, a front of it may stand there.
     fn write(value: &Self::Value, into: &mut Vec<u8>) -> Result<(), AllocError>
         requires { kind.Fits (seen value.now) }
-        ensures { OnOk result (into.new.items ≡ into.old.items ++ kind.write (seen value.now)) };
+        ensures ok { OnOk result (into.new.items ≡ into.old.items ++ kind.write (seen value.now)) }
+        ensures err { OnErr result (AppendsFront into.old.items into.new.items
+            (kind.write (seen value.now))) };
 }

@@ -1,5 +1,6 @@
 // Rows of words.
-ghost use Rattle.std.specs.Prelude.{◌≡◌, ◌++◌, OnOk, nat_le, ◌&&◌};
+ghost use Rattle.std.specs.Prelude.{◌≡◌, ◌++◌, OnOk, OnErr, nat_le, ◌&&◌};
+ghost use Rattle.words.specs.Front.{AppendsFront};
 ghost use Rattle.words.specs.Row.{Row};
 ghost use Rattle.words.specs.Parts.{behind};
 ghost use Rattle.words.specs.Reading.{Gives, parts_behind};
@@ -40,6 +41,8 @@ pub trait WriteWords<'a> {
     /// front of it may stand there.
     fn put(separator: u8, value: Self::Lent, into: &mut Vec<u8>) -> Result<(), AllocError>
         requires { kinds.Fits (lent value) }
-        ensures { OnOk result (into.new.items
-            ≡ into.old.items ++ behind separator (kinds.write (lent value))) };
+        ensures ok { OnOk result (into.new.items
+            ≡ into.old.items ++ behind separator (kinds.write (lent value))) }
+        ensures err { OnErr result (AppendsFront into.old.items into.new.items
+            (behind separator (kinds.write (lent value)))) };
 }

@@ -1,4 +1,5 @@
 use Rattle.std.proofs.Common.{◌≡◌, ◌++◌, map, length}
+use Rattle.octet_core.specs.Written.{IsFront}
 use Rattle.words.specs.Many.{each_fits}
 use Rattle.words.specs.Parts.{behind}
 use Rattle.words.proofs.many.put_each.Given as goal
@@ -11,6 +12,7 @@ invariant-loop-value g l =
     let all = behind l.separator (map g.W.Word.kind.write (map seen l.values)) in
     record {
       fits : each_fits g.W.Word.kind.Fits (map seen l.rest);
+      kept : IsFront l.initial.into.items l.into.items;
       written : l.into.items ++ left ≡ l.initial.into.items ++ all;
     }
 
