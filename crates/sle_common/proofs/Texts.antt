@@ -38,6 +38,18 @@ text_of-cons part [] = ap (λ value. label_of part.attribute ++ value) (sym (app
 text_of-cons part (next ∷ parts) = append_assoc (label_of part.attribute) part.value
     (dotted (next ∷ parts))
 
+-- what is written of the parts from the front on, with what is left behind it
+pub written_first : (part : InstancePart) (parts : List InstancePart)
+    → part_text part ++ dotted parts ≡ text_of (part ∷ parts)
+written_first part parts = append_assoc (label_of part.attribute) part.value (dotted parts)
+    ∙ sym (text_of-cons part parts)
+
+pub written_next : (done : List ℕ) (part : InstancePart) (parts : List InstancePart)
+    → ((done ++ 46 ∷ []) ++ part_text part) ++ dotted parts ≡ done ++ dotted (part ∷ parts)
+written_next done part parts = append_assoc (done ++ 46 ∷ []) (part_text part) (dotted parts)
+    ∙ append_assoc done (46 ∷ []) (part_text part ++ dotted parts)
+    ∙ ap (λ text. done ++ 46 ∷ text) (written_first part parts)
+
 dotted_tail : (most : ℕ) (part : InstancePart) (parts : List InstancePart)
     → AreParts (suc most) (part ∷ parts) → Tails most (dotted parts)
 dotted_tail most part [] are = inl refl

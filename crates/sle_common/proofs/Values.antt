@@ -1,8 +1,11 @@
 -- A value at the front of a text ends where its octets end.
-use Rattle.std.proofs.Common.{◌≡◌, ℕ, zero, suc, ◌+◌, ◌≤◌, ◌⊎◌, inl, inr, Bool, true, false, cond}
+use Rattle.std.proofs.Common.{◌≡◌, ℕ, zero, suc, ◌+◌, ◌≤◌, ◌<◌, ◌⊎◌, inl, inr, Bool, true, false}
 use Rattle.std.proofs.Common.{nat_le, ◌&&◌, List, [], ◌∷◌, ◌++◌, length, take, drop, refl, sym, ◌∙◌}
-use Rattle.std.proofs.Common.{ap, arith}
+use Rattle.std.proofs.Common.{ap, cond, arith}
+use Rattle.std.proofs.lemmas.Str.{IsUtf8-from_ascii}
+use Rattle.std.proofs.lemmas.Str.Ascii.{IsAscii-nil, IsAscii-cons}
 use Rattle.std.specs.List.{list_all, prefix_len}
+use Rattle.std.specs.Str.{IsAscii, IsUtf8}
 use Rattle.sle_common.specs.Identifier.{is_value_octet, is_value}
 use Rattle.sle_common.specs.TextParts.{begins_with_value_octet}
 
@@ -88,3 +91,17 @@ prefix_ended (suc limit) (octet ∷ text) =
           [ inl ends ↦ inl (grind (arith, ends)) | inr reached ↦ inr (omega arith) ]
       | false ↦ λ other. inl other
     ] refl
+
+-- ---- a value is text
+
+octet_is_ascii : (c : ℕ) → is_value_octet c ≡ true → c < 128
+octet_is_ascii c e = grind (arith, e)
+
+octets_are_ascii : (value : List ℕ) → AreOctets value → IsAscii value
+octets_are_ascii [] all = IsAscii-nil
+octets_are_ascii (c ∷ value) all =
+    let h = both (is_value_octet c) (list_all is_value_octet value) all in
+    IsAscii-cons c value (octet_is_ascii c h.0) (octets_are_ascii value h.1)
+
+pub value_is_utf8 : (value : List ℕ) → is_value value ≡ true → IsUtf8 value
+value_is_utf8 value e = IsUtf8-from_ascii value (octets_are_ascii value (value_is value e).octets)

@@ -1,11 +1,14 @@
 // Service instance identifiers.
-ghost use Rattle.std.specs.Prelude.{◌≡◌};
+ghost use Rattle.std.specs.Prelude.{◌≡◌, IsTrue, Some};
+ghost use Rattle.std.specs.Fmt.{DisplaysOnOk};
+ghost use Rattle.sle_common.specs.Identifier.{is_value};
+ghost use Rattle.sle_common.specs.IdentifierText.{part_text};
 
 use crate::attribute::Attribute;
 use crate::part_ref::PartRef;
 use octet_core::Octets;
-use std::fmt;
 use std::marker::Model;
+use std::{fmt, str};
 
 /// An attribute with its value, which has 1 to 256 characters from 21 to 7E but `.` and `=`.
 #[derive(Debug, Drop)]
@@ -67,18 +70,37 @@ impl InstanceId {
 }
 
 impl fmt::Display for InstanceId {
+    ghost use Rattle.std.specs.Prelude.{Some};
+    ghost use Rattle.sle_common.specs.IdentifierText.{text_of};
+
+    ghost output = { λ id. Some (text_of id) };
+
     /// The text: `attribute=value`, joined by dots.
     fn fmt<W: fmt::Write>(&self, f: &mut fmt::Formatter<W>) -> fmt::Result {
-        for (place, part) in self.parts.iter().enumerate() {
-            if place > 0 {
-                f.write_str(".")?;
-            }
-            f.write_str(part.attribute.name())?;
-            f.write_str("=")?;
-            for octet in part.value.as_slice() {
-                f.write_char(char::from(*octet))?;
-            }
+        let Some((first, others)) = self.parts.as_slice().split_first() else {
+            return Ok(());
+        };
+        write_part(first, f)?;
+        let mut rest = others;
+        while let Some((part, more)) = rest.split_first() {
+            f.write_str(".")?;
+            write_part(part, f)?;
+            rest = more;
         }
         Ok(())
     }
+}
+
+// Writes `attribute=value`.
+#[tactic(auto, using(crate::proofs::Values::value_is_utf8))]
+fn write_part<W: fmt::Write>(part: &InstancePart, f: &mut fmt::Formatter<W>) -> fmt::Result
+    requires { IsTrue (is_value part.now.value) }
+    ensures { DisplaysOnOk W.write_str_gives f.old result (Some (part_text part.now)) f.new }
+{
+    f.write_str(part.attribute.name())?;
+    f.write_str("=")?;
+    let Ok(value) = str::from_utf8(part.value.as_slice()) else {
+        unreachable!();
+    };
+    f.write_str(value)
 }
