@@ -73,6 +73,8 @@ impl<D: Disk> Journal<D> {
             (λ told. told.greatest ≤ 9) → HoldsThroughout D.moment D.images_since disk fault.1
             IsShort) }
         ensures calls { IfOk result (λ journal. AllMade D.makes disk creating journal.disk) }
+        ensures failed { IfErr result (λ fault. D.extent disk ≡ 0 → FailedAtOne D.makes D.fails disk
+            creating fault.1) }
         ensures occupied { 0 < D.extent disk
             → result ≡ Err (JournalFault.NotJournal 0, disk) }
         ensures cause { IfErr result (λ fault. D.extent disk ≡ 0
@@ -138,6 +140,7 @@ impl<D: Disk> Journal<D> {
             (D.pending self.new.disk) entries)) }
         ensures fresh { OnOk result (self.new.is_stale ≡ false) }
         ensures stale { OnErr result (self.new.is_stale ≡ true) }
+        ensures place { OnErr result (self.new.gate ≡ self.old.gate) }
         ensures any_moment { HoldsThroughout D.moment D.images_since self.old.disk self.new.disk
             (IsImageOf (D.pending self.old.disk)) }
         ensures tells { is_some (D.pending self.new.disk) ≡ is_some (D.pending self.old.disk) }
@@ -183,6 +186,7 @@ impl<D: Disk> Journal<D> {
             self.old.disk (appending self.old.gate batch.now) self.new.disk }
         ensures cause { IsErrOf result JournalFault.DiskFault → Rose (D.faults self.old.disk)
             (D.faults self.new.disk) }
+        ensures place { OnErr result (self.new.gate ≡ self.old.gate) }
         ensures stale { IsErrOf result JournalFault.DiskFault → self.new.is_stale ≡ true }
         ensures fresh { OnOk result (self.new.is_stale ≡ false) }
         ensures stays_stale { self.old.is_stale ≡ true → (result ≡ Err JournalFault.Stale) ×
