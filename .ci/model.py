@@ -16,40 +16,114 @@ import tempfile
 
 MOST_OCTETS = 16_777_216
 MOST_LOST = 16_777_215
+MOST_FRAME = 65_536
+MOST_CAPACITY = 268_435_456
+PICOS = 1_000_000
 
 
 # ---- lines
 
-def number(word, most):
-    if re.fullmatch(rb"0|[1-9][0-9]*", word) and int(word) <= most:
+def number(word, most, least=0):
+    if re.fullmatch(rb"0|[1-9][0-9]*", word) and least <= int(word) <= most:
         return int(word)
     raise ValueError
 
 
 def time(word):
-    days, millis, micros = word.split(b"/")
-    return number(days, 65_535), number(millis, 86_399_999), number(micros, 999)
+    """Days, milliseconds, picoseconds of the millisecond, and how many octets the last are told in."""
+    days, millis, rest = word.split(b"/")
+    if rest.endswith(b"p"):
+        return number(days, 65_535), number(millis, 86_399_999), number(rest[:-1], 999_999_999), 4
+    return number(days, 65_535), number(millis, 86_399_999), number(rest, 999) * PICOS, 2
 
 
-def octets(word, most):
-    if re.fullmatch(rb"([0-9A-Fa-f]{2})+", word) and len(word) <= 2 * most:
+def moment(stamp):
+    return stamp[:3]
+
+
+def octets(word, most, least=1):
+    if re.fullmatch(rb"([0-9A-Fa-f]{2})+", word) and 2 * least <= len(word) <= 2 * most:
         return bytes.fromhex(word.decode())
     raise ValueError
 
 
 def line_of(line):
-    """The line as a tuple; ValueError where it is outside the grammar."""
+    """The line as a tuple, None where it says nothing; ValueError where it is outside the grammar."""
+    if line == b"" or line.startswith(b"#"):
+        return None
     kind, *words = line.split(b" ")
     if kind == b"frame":
         ert, quality, antenna, lost, frame = words
-        return "frame", time(ert), number(quality, 2), octets(antenna, 16), number(lost, MOST_LOST), octets(frame, 65_536)
+        return "frame", time(ert), number(quality, 2), octets(antenna, 16), number(lost, MOST_LOST), octets(frame, MOST_OCTETS)
+    if kind == b"loss":
+        at, *locks = words
+        carrier, subcarrier, symbol = (number(word, 3) for word in locks)
+        return "loss", time(at), carrier, subcarrier, symbol
+    if kind == b"production":
+        (status,) = words
+        return "production", number(status, 2)
     if kind == b"mark":
         (at,) = words
         return "mark", time(at)
     if kind == b"start":
         start, stop, quality = words
         return "start", time(start), time(stop), number(quality, 2)
+    if kind == b"clock":
+        (at,) = words
+        return "clock", time(at)
     raise ValueError
+
+
+# ---- the head (settings alone: random heads have neither peers nor instances)
+
+def heartbeat(words):
+    a, b, c, d = words
+    a, b, c, d = number(a, 3_600, 1), number(b, 3_600, 1), number(c, 100, 2), number(d, 100, 2)
+    if a > b or c > d:
+        raise ValueError
+
+
+def name(words):
+    (word,) = words
+    if not re.fullmatch(rb"[!-~]{3,16}", word):
+        raise ValueError
+
+
+SETTINGS = {
+    b"provider": (1, 1, name),
+    b"password": (1, 1, lambda words: octets(words[0], 16, 6)),
+    b"capacity": (1, 1, lambda words: number(words[0], MOST_CAPACITY, 64)),
+    b"heartbeat": (4, 4, heartbeat),
+    b"versions": (1, 4, lambda words: [number(word, 9, 4) for word in words]),
+}
+
+
+def head_of(lines):
+    """How many lines the head has, the capacity, and what ends the script there, if anything does."""
+    if lines[:1] != [b"site"]:
+        return 0, MOST_CAPACITY, None
+    capacity, given = MOST_CAPACITY, set()
+    for place, line in enumerate(lines[1:], 2):
+        if line == b"end":
+            return place, capacity, None
+        if line == b"" or line.startswith(b"#"):
+            continue
+        word, *words = line.split(b" ")
+        if word not in SETTINGS:
+            return place, capacity, (4, b"bad site %d 1\n" % place)
+        least, most, judge = SETTINGS[word]
+        if not least <= len(words) <= most:
+            return place, capacity, (4, b"bad site %d 2\n" % place)
+        try:
+            value = judge(words)
+        except ValueError:
+            return place, capacity, (4, b"bad site %d 3\n" % place)
+        if word in given:
+            return place, capacity, (4, b"bad site %d 4\n" % place)
+        given.add(word)
+        if word == b"capacity":
+            capacity = value
+    return len(lines), capacity, (3, b"bad line %d\n" % (len(lines) + 1))
 
 
 # ---- messages (X.690, CCSDS 911.1-B annex A, CCSDS 913.1-B)
@@ -74,9 +148,10 @@ END_OF_DATA = element(0xA1, NULL + element(0x83, b""))
 
 
 def frame_item(entry, gap):
-    _, (days, millis, micros), quality, antenna, _, frame = entry
-    stamp = days.to_bytes(2, "big") + millis.to_bytes(4, "big") + micros.to_bytes(2, "big")
-    return element(0xA0, NULL + element(0x80, stamp) + element(0x81, antenna) + integer(gap)
+    _, (days, millis, picos, size), quality, antenna, _, frame = entry
+    rest = picos if size == 4 else picos // PICOS
+    stamp = days.to_bytes(2, "big") + millis.to_bytes(4, "big") + rest.to_bytes(size, "big")
+    return element(0xA0, NULL + element(0x81 if size == 4 else 0x80, stamp) + element(0x81, antenna) + integer(gap)
                    + integer(quality) + NULL + element(0x04, frame))
 
 
@@ -124,14 +199,16 @@ class Octets:
 
 def read_frame(content):
     fields = Octets(content)
-    credentials, stamp, antenna = fields.content(0x80), fields.content(0x80), fields.content(0x81)
+    credentials, (form, stamp), antenna = fields.content(0x80), fields.element(0x80, 0x81), fields.content(0x81)
     gap = int.from_bytes(fields.content(0x02), "big", signed=True)
     quality = int.from_bytes(fields.content(0x02), "big", signed=True)
     note, frame = fields.content(0x80), fields.content(0x04)
     fields.end()
-    if credentials or note or len(stamp) != 8:
+    size = 4 if form == 0x81 else 2
+    if credentials or note or len(stamp) != 6 + size:
         raise ValueError("credentials, an annotation or a time of another form")
-    ert = tuple(int.from_bytes(stamp[a:b], "big") for a, b in [(0, 2), (2, 6), (6, 8)])
+    days, millis, rest = (int.from_bytes(part, "big") for part in (stamp[:2], stamp[2:6], stamp[6:]))
+    ert = days, millis, rest if size == 4 else rest * PICOS, size
     return ert, quality, antenna, gap, frame
 
 
@@ -171,12 +248,38 @@ def said(item):
 # ---- the archive and its STARTs
 
 def may_follow(archive, entry):
+    if entry[0] not in ("frame", "mark"):
+        return True
     for earlier in archive:
-        if earlier[0] == entry[0] and earlier[1] > entry[1]:
+        if earlier[0] == entry[0] and moment(earlier[1]) > moment(entry[1]):
             return False
-        if earlier[0] == "mark" and entry[0] == "frame" and earlier[1] >= entry[1]:
+        if earlier[0] == "mark" and entry[0] == "frame" and moment(earlier[1]) >= moment(entry[1]):
             return False
     return True
+
+
+def need(entry):
+    """How many octets of the archive's file an entry wants, as a batch of its own."""
+    stamp = 1 + 6 + entry[1][3] if entry[0] != "production" else 0
+    fields = {
+        "frame": lambda: 1 + 1 + len(entry[3]) + 4 + 4 + len(entry[5]),
+        "loss": lambda: 3,
+        "production": lambda: 1,
+        "mark": lambda: 0,
+    }[entry[0]]()
+    return 7 + 1 + stamp + fields
+
+
+def refusal(archive, capacity, entry):
+    """Why an entry isn't taken: the line that says so, and whether it is Full."""
+    if not may_follow(archive, entry):
+        return b"backward\n", False
+    if entry[0] == "frame" and len(entry[5]) > MOST_FRAME:
+        return b"too long\n", False
+    free = capacity - 9 - sum(map(need, archive))
+    if need(entry) > free:
+        return b"full %d %d\n" % (need(entry), free), True
+    return b"", False
 
 
 def continuity(archive, before, place):
@@ -188,11 +291,12 @@ def continuity(archive, before, place):
 def answer(archive, start, stop, quality):
     """The buffers of a START, each a list of its items as they are told."""
     places = [place for place, entry in enumerate(archive)
-              if entry[0] == "frame" and start <= entry[1] <= stop and quality in (2, entry[2])]
+              if entry[0] == "frame" and start <= moment(entry[1]) <= stop and quality in (2, entry[2])]
     items = [(archive[place], continuity(archive, before, place))
              for before, place in zip([None] + places, places)]
     buffers = [items[i:i + 2] for i in range(0, len(items), 2)]
-    if any(entry[1] > stop or entry[0] == "mark" and entry[1] == stop for entry in archive):
+    if any(entry[0] in ("frame", "mark") and moment(entry[1]) > stop or entry[0] == "mark" and moment(entry[1]) == stop
+           for entry in archive):
         buffers.append(["end"])
     elif len(items) % 2 == 1:
         buffers.pop()
@@ -203,48 +307,85 @@ def drill(script):
     """The exit code, the transcript, and the items of each buffer in it as a user reads them."""
     if len(script) > MOST_OCTETS:
         return 11, b"input too long\n", []
-    archive, written, read = [], b"", []
+    archive, written, read, full = [], b"", [], False
     lines = script.split(b"\n")
     if lines[-1] == b"":
         lines.pop()
-    for place, line in enumerate(lines, 1):
+    head, capacity, ended = head_of(lines)
+    if ended is not None:
+        return *ended, read
+    for place, line in enumerate(lines[head:], head + 1):
         try:
             says = line_of(line)
         except ValueError:
             return 3, written + b"bad line %d\n" % place, read
-        if says[0] == "start" and says[2] < says[1]:
+        if says is None or says[0] == "clock":
+            continue
+        if says[0] == "start" and moment(says[2]) < moment(says[1]):
             written += b"refused 3\n"
         elif says[0] == "start":
-            buffers = answer(archive, *says[1:])
+            buffers = answer(archive, moment(says[1]), moment(says[2]), says[3])
             written += b"".join(map(sent, buffers))
             read += [[said(item) for item in buffer] for buffer in buffers]
-        elif may_follow(archive, says):
-            archive.append(says)
         else:
-            written += b"backward\n"
-    return 0, written, read
+            why, is_full = refusal(archive, capacity, says)
+            written += why
+            full = full or is_full
+            if not why:
+                archive.append(says)
+    return 9 if full else 0, written, read
 
 
 # ---- random scripts
 
-SIZES = [1, 2, 3, 100, 126, 127, 128, 129, 200, 255, 256, 1_115, 32_767, 65_535, 65_536]
+SIZES = [1, 2, 3, 100, 126, 127, 128, 129, 200, 255, 256, 1_115, 32_767, 65_535, 65_536, 65_537]
 LOSSES = [0, 0, 0, 1, 127, 128, 255, 256, 32_767, 32_768, 70_000, 8_388_607, 8_388_608, 16_777_214, 16_777_215]
 BAD_LINES = [
-    b"", b" ", b"frame", b"Mark 0/0/0", b"mark 1/2", b"mark 1/2/3/4", b"mark 0/86400000/0", b"mark 0/0/1000", b"mark 65536/0/0",
-    b"mark 00/0/0", b"mark +0/0/0", b"mark 0/0/0 ", b"mark 0/0/0\r", b"mark 0/0/0p", b"# a comment", b"start 0/0/0  0/0/0 0",
+    b" ", b" # no comment", b"frame", b"Mark 0/0/0", b"site", b"end", b"capacity 64", b"open 1", b"crash 0 old", b"fault 1", b"done",
+    b"clock 0/0", b"clock 0/0/0 0/0/0", b"production 3", b"production 00", b"loss 0/0/0 0 0", b"loss 0/0/0 0 4 0", b"mark 0/0/01p",
+    b"mark 0/0/1000000000p", b"mark 0/0/1P", b"mark 1/2", b"mark 1/2/3/4", b"mark 0/86400000/0", b"mark 0/0/1000", b"mark 65536/0/0",
+    b"mark 00/0/0", b"mark +0/0/0", b"mark 0/0/0 ", b"mark 0/0/0\r", b"mark 0/0/p", b"start 0/0/0  0/0/0 0",
     b"start 0/0/0 0/0/0 3", b"start 0/0/0 0/0/0", b"frame 0/0/0 3 41 0 00", b"frame 0/0/0 0 4 0 00", b"frame 0/0/0 0 41 0 0",
     b"frame 0/0/0 0 41 0 0g", b"frame 0/0/0 0  0 00", b"frame 0/0/0 0 41 16777216 00", b"frame 0/0/0 0 41 0 00 00",
-    b"frame 0/0/0 0 " + b"41" * 17 + b" 0 00", b"frame 0/0/0 0 41 0 " + b"00" * 65_537, b"\xff\x00",
+    b"frame 0/0/0 0 " + b"41" * 17 + b" 0 00", b"\xff\x00",
 ]
+
+
+HEAD_LINES = [
+    b"", b"# a station", b"provider STATION1", b"password 000000000000", b"heartbeat 5 5 2 100", b"versions 4 5 4",
+    b"capacity 268435456",
+]
+BAD_HEAD_LINES = [
+    b"fly", b" ", b"site", b"capacity", b"capacity 63", b"capacity 268435457", b"capacity 64 64", b"capacity 064", b"provider AB",
+    b"password 0000000000", b"heartbeat 6 5 2 2", b"heartbeat 5 6 2", b"versions", b"versions 4 5 6 7 8", b"versions 3",
+    b"frame 0/0/0 0 41 0 00",
+]
+
+
+def random_head(pick):
+    if pick.random() < 0.5:
+        return []
+    lines = pick.sample(HEAD_LINES[:6], pick.randrange(4))
+    if pick.random() < 0.7:
+        lines.append(b"capacity %d" % pick.choice([64, 71, 100, 300, 2_000, 70_000]))
+    if pick.random() < 0.1:
+        lines.append(pick.choice(HEAD_LINES))
+    if pick.random() < 0.1:
+        lines.append(pick.choice(BAD_HEAD_LINES))
+    pick.shuffle(lines)
+    return [b"site", *lines] + ([b"end"] if pick.random() < 0.96 else [])
 
 
 def random_script(seed):
     pick = random.Random(seed)
-    stamps = sorted((pick.choice([0, 20_000, 65_535]), pick.randrange(86_400_000), pick.choice([0, 1, 999])) for _ in range(12))
-    lines = []
+    stamps = sorted((pick.choice([0, 20_000, 65_535]), pick.randrange(86_400_000), pick.choice([0, 1, 999, 999.5])) for _ in range(12))
+    lines = random_head(pick)
 
     def stamp(at):
-        return b"%d/%d/%d" % stamps[at]
+        days, millis, micros = stamps[at]
+        if micros == 999.5 or pick.random() < 0.1:
+            return b"%d/%d/%dp" % (days, millis, int(micros * PICOS))
+        return b"%d/%d/%d" % (days, millis, micros)
 
     for at in range(pick.randrange(2, len(stamps))):
         for _ in range(pick.randrange(1, 5)):
@@ -258,6 +399,12 @@ def random_script(seed):
                     pick.choice(LOSSES), (digits.upper() if pick.random() < 0.2 else digits).encode()))
             elif kind < 0.66:
                 lines.append(b"mark " + stamp(place))
+            elif kind < 0.7:
+                lines.append(b"loss %s %d %d %d" % (stamp(place), *(pick.randrange(4) for _ in range(3))))
+            elif kind < 0.73:
+                lines.append(b"production %d" % pick.randrange(3))
+            elif kind < 0.76:
+                lines.append(pick.choice([b"", b"#", b"# " + stamp(place), b"#fly\xff", b"clock " + stamp(place)]))
             elif kind < 0.985:
                 start, stop = pick.choice([(0, at), (0, at), (pick.randrange(12), pick.randrange(12))])
                 lines.append(b"start %s %s %d" % (stamp(start), stamp(stop), pick.choice([0, 0, 1, 2])))

@@ -21,6 +21,7 @@ TWO = (b"sent 0 010000000000003ea83ca01c800080084e20000003e800008101410201ff0201
        b"a01c800080084e20000007d00000810141020100020100800004030010a2\n")
 ONE = b"sent 0 0100000000000020a81ea01c800080084e2000000bb80000810141020100020100800004030010a3\n"
 END = b"sent 0 0100000000000008a806a10480008300\n"
+FIRST = b"sent 0 0100000000000020a81ea01c800080084e20000003e800008101410201ff020100800004030010a1\n"
 
 passed = failed = 0
 
@@ -73,7 +74,24 @@ def statuses():
         ("done, an entry that goes back", FRAMES + FRAMES[:33], 0, b"backward\n"),
         ("done, a refused START", b"start 20000/2/0 20000/1/0 0\n", 0, b"refused 3\n"),
         ("bad line 1", b"fly\n", 3, b"bad line 1\n"),
-        ("bad line, empty", b"\n", 3, b"bad line 1\n"),
+        ("done, empty lines and comments", b"\n# fly\n" + FRAMES + b"\n#" + SEAL + SEAL + START, 0, TWO + ONE + END),
+        ("done, entries of other kinds", b"loss 0/0/0 3 2 1\nproduction 2\nclock 65535/86399999/999999999p\n", 0, b""),
+        ("done, a head with no line", b"site\nend\n", 0, b""),
+        ("done, a time in picoseconds", b"frame 20000/1000/5p 0 41 0 0010a1\nmark 20000/1000/5p\n"
+         b"start 20000/1000/0 20000/1000/5p 0\n", 0, b"sent 0 0100000000000022a820a01e8000810a4e20000003e800000005"
+         b"8101410201ff020100800004030010a1\n" + END),
+        ("done, a frame that is too long", b"frame 0/0/0 0 41 0 " + b"00" * 65_537 + b"\n", 0, b"too long\n"),
+        ("archive full", b"site\ncapacity 71\nend\n" + FRAMES[:66] + b"mark 20000/2000/0\nstart 20000/0/0 20000/1000/0 0\n",
+         9, b"full 17 0\n" + FIRST + END),
+        ("archive full, then a bad line", b"site\ncapacity 64\nend\n" + FRAMES[:66] + b"fly\n", 3, b"full 31 24\nbad line 6\n"),
+        ("bad site", b"site\ncapacity 63\nend\n", 4, b"bad site 2 3\n"),
+        ("bad site, an unknown word", b"site\n\n# end\nfly\nend\nfly\n", 4, b"bad site 4 1\n"),
+        ("bad site, in a head that isn't ended", b"site\ncapacity 64\ncapacity 64", 4, b"bad site 3 4\n"),
+        ("bad line, a head that isn't ended", b"site\ncapacity 64\n", 3, b"bad line 3\n"),
+        ("bad line, a head of one word", b"site", 3, b"bad line 2\n"),
+        ("bad line, a head that isn't first", b"\nsite\nend\n", 3, b"bad line 2\n"),
+        ("bad line, behind a head", b"site\nend\nend\n", 3, b"bad line 3\n"),
+        ("bad line, an event that isn't built", b"open 1\n", 3, b"bad line 1\n"),
         ("bad line 5, after a START", FRAMES + START + b"fly\n" + FRAMES, 3, TWO + b"bad line 5\n"),
         ("bad line, a carriage return", FRAMES[:32] + b"\r\n", 3, b"bad line 1\n"),
         ("bad line, octets that aren't UTF-8", b"\xff\xfe\n", 3, b"bad line 1\n"),

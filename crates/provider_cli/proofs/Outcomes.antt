@@ -1,21 +1,27 @@
 -- How a drill ends, by what became of its script.
-use Rattle.std.proofs.Common.{◌≡◌, ℕ, ◌⊎◌, ◌≤◌, IsTrue, IsFalse, List, length, Option, Some, None}
-use Rattle.std.proofs.Common.{Result, Ok, Err, subst, ap, inl, inr, refl, ⊎_elim}
+use Rattle.std.proofs.Common.{◌≡◌, ℕ, ◌⊎◌, ◌≤◌, Bool, true, false, List, length, Option, Some}
+use Rattle.std.proofs.Common.{None, Result, Ok, Err, subst, ap, inl, inr, refl, sym, ◌∙◌, ⊎_elim}
 use Rattle.std.specs.Result.{IfErr}
 use Rattle.std.specs.Option.{IfSome}
 use Rattle.octet_core.specs.Fault.{count_up}
 use Rattle.octet_core.specs.Written.{Gains, GainsFront}
 use Rattle.octet_core.specs.Writing.{gains_front-none}
-use Rattle.provider_cli.specs.declared.transcript.Stop.{Stop}
-use Rattle.provider_cli.specs.declared.transcript.Stop.TheVariants as stops
-use Rattle.provider_cli.specs.Command.{code, EndsAs}
-use Rattle.provider_cli.specs.Grammar.{lines_of}
-use Rattle.provider_cli.specs.Output.{Wrote}
-use Rattle.provider_cli.specs.Outside.{showing}
-use Rattle.provider_cli.specs.Transcript.{is_script}
+use Rattle.station_law.specs.declared.stop.Stop.{Stop}
+use Rattle.station_law.specs.declared.stop.Stop.TheVariants as stops
+use Rattle.station_law.specs.Output.{Wrote}
+use Rattle.station_law.specs.State.{start}
+use Rattle.station_law.specs.Lines.{step_text}
+use Rattle.station_law.specs.Runs.{in_order, all_fine}
 use Rattle.provider_cli.specs.declared.status.Status.{Status}
-use Rattle.provider_cli.specs.declared.status.Status.TheVariants.{Done, BadLine, WriteFault, Memory}
-use Rattle.provider_cli.specs.Script.{most_octets, script_transcript, Drilled}
+use Rattle.provider_cli.specs.declared.status.Status.TheVariants.{Done, BadLine, BadSite, Full}
+use Rattle.provider_cli.specs.declared.status.Status.TheVariants.{WriteFault, Memory}
+use Rattle.provider_cli.specs.Command.{code, EndsAs}
+use Rattle.provider_cli.specs.Drilled.{text_by, status_by, IsOf, Drilled}
+use Rattle.provider_cli.specs.Lines.{lines_of}
+use Rattle.provider_cli.specs.Outside.{showing}
+use Rattle.provider_cli.specs.Script.{Script, bad_site, no_end, runs, script_of, most_octets}
+use Rattle.provider_cli.specs.Script.{status_of}
+use Rattle.provider_cli.specs.Script as script
 
 -- the octets that were read are those that the input had left, where it tells
 of_input : (left : Option (List ℕ)) (read : List ℕ) (IsSo : List ℕ → Type 0)
@@ -30,41 +36,89 @@ unraised : {T : Type 0} (before after : Option (List ℕ)) (f g : ℕ) (text : L
 unraised before after f g text result wrote other =
     ⊎_elim (λ is. absurd (other is)) (λ same. same) wrote.kept
 
+-- a script ends with one of four statuses
+end_by : (P : Status → Type 0) → P Done → P BadLine → P Full → (good fine : Bool)
+    → P (script.status_by good fine)
+end_by P done bad full false fine = bad
+end_by P done bad full true true = done
+end_by P done bad full true false = full
+
+an_end : (P : Status → Type 0) → P Done → P BadLine → P BadSite → P Full → (s : Script)
+    → P (status_of s)
+an_end P done bad site full (bad_site refusal) = site
+an_end P done bad site full (no_end number) = bad
+an_end P done bad site full (runs capacity lines) =
+    end_by P done bad full (in_order step_text (start capacity) lines)
+    (all_fine step_text (start capacity) lines)
+
 module _ (left left_now before after : Option (List ℕ)) (r s f g : ℕ) (script : List ℕ)
     (read : IfSome left (λ octets. script ≡ octets)) (short : length script ≤ most_octets)
     (kept : s ≡ r) where
-  -- each of its lines was run, up to one that is none
-  pub ran : (status : Status) → Wrote {T = Status} before after f g (script_transcript script)
-      (Ok status)
-      → (status ≡ Done) ⊎ (status ≡ BadLine)
-      → (status ≡ Done → IsTrue (is_script (lines_of script)))
-      → (status ≡ BadLine → IsFalse (is_script (lines_of script)))
+  -- all of its text was written, at a status that it ends with
+  abbrev AllWritten : Status → Type 0
+  AllWritten status =
+      Wrote {T = Status} before after f g (text_by script) (Ok status)
+      → status_by script ≡ status
       → Drilled (showing left r before f) (showing left_now s after g) status
-  ran status wrote (inl done) good bad = rw done (record {
-    text = of_input left script (λ script. Gains before after (script_transcript script)) read
-        wrote.all;
+
+  count_kept : (status : Status) → Wrote {T = Status} before after f g (text_by script) (Ok status)
+      → g ≡ f
+  count_kept status wrote = unraised before after f g (text_by script) (Ok status) wrote
+      (λ is. absurd cc)
+
+  text_is : (status : Status) → Wrote {T = Status} before after f g (text_by script) (Ok status)
+      → IfSome left (λ script. Gains before after (text_by script))
+  text_is status wrote = of_input left script (λ script. Gains before after (text_by script)) read
+      wrote.all
+
+  script_is : (status : Status) → status_by script ≡ status → IfSome left (IsOf status)
+  script_is status is = of_input left script (IsOf status) read (short, is)
+
+  done : AllWritten Done
+  done = λ wrote is. record {
+    text = text_is Done wrote;
     reads = kept;
-    writes = unraised before after f g (script_transcript script) (Ok status) wrote
-        (λ is. absurd cc);
-    script = of_input left script (λ script. (length script ≤ most_octets)
-        × IsTrue (is_script (lines_of script))) read (short, good done);
-  })
-  ran status wrote (inr is_bad) good bad = rw is_bad (record {
-    text = of_input left script (λ script. Gains before after (script_transcript script)) read
-        wrote.all;
+    writes = count_kept Done wrote;
+    script = script_is Done is;
+  }
+
+  bad : AllWritten BadLine
+  bad = λ wrote is. record {
+    text = text_is BadLine wrote;
     reads = kept;
-    writes = unraised before after f g (script_transcript script) (Ok status) wrote
-        (λ is. absurd cc);
-    script = of_input left script (λ script. (length script ≤ most_octets)
-        × IsFalse (is_script (lines_of script))) read (short, bad is_bad);
-  })
+    writes = count_kept BadLine wrote;
+    script = script_is BadLine is;
+  }
+
+  site : AllWritten BadSite
+  site = λ wrote is. record {
+    text = text_is BadSite wrote;
+    reads = kept;
+    writes = count_kept BadSite wrote;
+    script = script_is BadSite is;
+  }
+
+  full : AllWritten Full
+  full = λ wrote is. record {
+    text = text_is Full wrote;
+    reads = kept;
+    writes = count_kept Full wrote;
+    script = script_is Full is;
+  }
+
+  pub ran : (status : Status) → Wrote {T = Status} before after f g (text_by script) (Ok status)
+      → status ≡ status_by script
+      → Drilled (showing left r before f) (showing left_now s after g) status
+  ran status wrote is =
+      subst AllWritten (sym is) (an_end AllWritten done bad site full (script_of (lines_of script)))
+      wrote (sym is)
 
   -- the output failed
-  pub cut_off : Wrote {T = Status} before after f g (script_transcript script)
+  pub cut_off : Wrote {T = Status} before after f g (text_by script)
       (Err stops.WriteFault) → Drilled (showing left r before f) (showing left_now s after g)
       WriteFault
   cut_off wrote = record {
-    text = of_input left script (λ script. GainsFront before after (script_transcript script)) read
+    text = of_input left script (λ script. GainsFront before after (text_by script)) read
         wrote.front;
     reads = kept;
     writes = wrote.raised refl;
@@ -72,13 +126,13 @@ module _ (left left_now before after : Option (List ℕ)) (r s f g : ℕ) (scrip
   }
 
   -- memory was refused while it ran
-  pub given_up : Wrote {T = Status} before after f g (script_transcript script) (Err stops.Memory)
+  pub given_up : Wrote {T = Status} before after f g (text_by script) (Err stops.Memory)
       → Drilled (showing left r before f) (showing left_now s after g) Memory
   given_up wrote = record {
-    text = of_input left script (λ script. GainsFront before after (script_transcript script)) read
+    text = of_input left script (λ script. GainsFront before after (text_by script)) read
         wrote.front;
     reads = kept;
-    writes = unraised before after f g (script_transcript script) (Err stops.Memory) wrote
+    writes = unraised before after f g (text_by script) (Err stops.Memory) wrote
         (λ is. absurd cc);
     script = tt;
   }
@@ -102,9 +156,9 @@ line_count before after f g line result wrote =
 
 -- memory was refused before any line was run
 begins : (left written : Option (List ℕ))
-    → IfSome left (λ script. GainsFront written written (script_transcript script))
+    → IfSome left (λ script. GainsFront written written (text_by script))
 begins None written = tt
-begins (Some script) written = gains_front-none written (script_transcript script)
+begins (Some script) written = gains_front-none written (text_by script)
 
 pub not_run : (left left_now written : Option (List ℕ)) (r s f : ℕ) → s ≡ r
     → Drilled (showing left r written f) (showing left_now s written f) Memory

@@ -1,185 +1,239 @@
 -- From the exact transcript to the headline and to completeness.
-use Rattle.std.proofs.Common.{◌≡◌, ◌⊎◌, ℕ, ◌<◌, ◌≤◌, Bool, true, false, IsTrue, IsFalse}
-use Rattle.std.proofs.Common.{if◌then◌else◌, List, [], ◌∷◌, ◌++◌, length, map, take, Option, Some}
-use Rattle.std.proofs.Common.{None, refl, sym, ap, subst, ◌∙◌, append_assoc, arith, inl, inr}
-use Rattle.std.proofs.Common.{⊎_elim}
+use Rattle.std.proofs.Common.{◌≡◌, ◌⊎◌, ℕ, ◌+◌, ◌<◌, ◌≤◌, true, List, [], ◌∷◌, ◌++◌, length, map}
+use Rattle.std.proofs.Common.{take, drop, Option, Some, None, refl, sym, ap, subst, ◌∙◌, nat_lt}
+use Rattle.std.proofs.Common.{append_assoc, append-nil, length-append, length-take, arith, inl, inr}
+use Rattle.std.proofs.Common.{⊎_elim, false, zero, suc}
+use Rattle.std.proofs.Math.Seq.{take-append-add}
 use Rattle.std.proofs.lemmas.Bool.Decides.{leb_tells}
-use Rattle.std.proofs.lemmas.List.{append-nil, take_all}
-use Rattle.std.specs.Option.{option_map_or, IfSome}
+use Rattle.std.proofs.lemmas.List.{take_all, take-append-drop, take-append-le}
+use Rattle.std.specs.List.{flat_map}
+use Rattle.std.specs.Option.{IfSome}
 use Rattle.octet_core.specs.Fault.{last_count, count_up, Rose}
-use Rattle.archive_terms.specs.Archive as terms
-use Rattle.archive_terms.specs.Archive.{is_archive, IsArchive, may_follow, is_closed}
+use Rattle.archive_terms.specs.Archive.{Entry, IsArchive, is_closed}
 use Rattle.archive_terms.specs.Selection.{picked}
-use Rattle.archive_terms.specs.Delivery.{Item, all_items, offline_buffers}
-use Rattle.provider_cli.specs.declared.entry.Entry.{Entry}
-use Rattle.provider_cli.specs.declared.grammar.ScriptLine.{ScriptLine}
-use Rattle.provider_cli.specs.declared.grammar.ScriptLine.TheVariants.{Offer, Desk}
+use Rattle.archive_terms.specs.Delivery.{Item, all_items}
+use Rattle.archive_terms.specs.Rounds.{to_hand_over}
+use Rattle.drill_text.specs.declared.script_line.ScriptLine.TheVariants.{Desk}
+use Rattle.station_law.specs.declared.step_done.StepDone.TheVariants.{Fine}
+use Rattle.station_law.specs.State.{State, moment, start as new_world}
+use Rattle.station_law.specs.Said.{Told, Handed, handed, buffer_message, texts, handed_by}
+use Rattle.archive_terms.specs.Continuity.{told_buffers}
+use Rattle.station_law.specs.Sound.{IsRight, AreRight, items_of, handed_items}
+use Rattle.station_law.specs.Desk.{selection, terms, desk}
+use Rattle.station_law.specs.Lines.{step_text}
+use Rattle.station_law.specs.LinesFacts as world
+use Rattle.station_law.specs.Runs.{IsAnswered, after, transcript, transcript_from, handed_after}
 use Rattle.provider_cli.specs.declared.status.Status.{Status}
-use Rattle.provider_cli.specs.declared.status.Status.TheVariants.{Done, Usage, BadLine, ReadFault}
-use Rattle.provider_cli.specs.declared.status.Status.TheVariants.{WriteFault, InputTooLong, Memory}
-use Rattle.provider_cli.specs.Grammar.{line_of, lines_of}
-use Rattle.provider_cli.specs.Entries.{moment, entry_of, archive_of}
-use Rattle.provider_cli.specs.Outside.{Outside}
-use Rattle.provider_cli.specs.Transcript.{selection, after_line, buffer_message, transcript}
-use Rattle.provider_cli.specs.Transcript.{is_script}
-use Rattle.provider_cli.specs.Script.{most_octets, script_transcript, GainsAll, GainsSome, HasText}
-use Rattle.provider_cli.specs.Script.{Drilled, Completes}
-use Rattle.provider_cli.specs.Start.{Start, IsStartOf, EachStart, archive_after, entries_at}
-use Rattle.provider_cli.specs.Start.{archive_at, told_by, messages_by, messages_of}
-use Rattle.provider_cli.specs.Headline.{terms_of, IsDelivered, HasRun, IsSent, IsStreamed, IsReadOf}
-use Rattle.provider_cli.specs.Headline.{items_in, IsRightFor, StaysRight, StaysTold}
+use Rattle.provider_cli.specs.declared.status.Status.TheVariants.{Done, Usage, BadLine, BadSite}
+use Rattle.provider_cli.specs.declared.status.Status.TheVariants.{ReadFault, WriteFault, Full}
+use Rattle.provider_cli.specs.declared.status.Status.TheVariants.{InputTooLong, Memory}
+use Rattle.provider_cli.specs.Drilled.{GainsAll, GainsSome, HasText, text_by, status_by, IsOf}
+use Rattle.provider_cli.specs.Drilled.{Drilled, Completes}
+use Rattle.provider_cli.specs.Headline.{HasHeadline, terms_of, IsDelivered, HasRun, IsSent, sent}
+use Rattle.provider_cli.specs.Headline.{IsStreamed, IsReadOf, items_in, IsRightFor, StaysRight}
+use Rattle.provider_cli.specs.Headline.{StaysTold}
 use Rattle.provider_cli.specs.Laws.{Laws}
-use Rattle.provider_cli.proofs.LastTimes.{archive-push}
-use Rattle.provider_cli.proofs.Around.{transcript_around, front_of_front, few_begin}
-use Rattle.provider_cli.proofs.Fitting.{fits_lines}
+use Rattle.provider_cli.specs.Lines.{lines_of}
+use Rattle.provider_cli.specs.Outside.{Outside}
+use Rattle.provider_cli.specs.Script.{most_octets, script_of, script_text}
+use Rattle.provider_cli.specs.Start.{Start, IsStartOf, EachStart, world_at, archive_at}
+use Rattle.provider_cli.specs.Start.{archive_then, buffers_of, told_by, messages_by, messages_of}
+use Rattle.provider_cli.proofs.Handed.{begun, hands_over, items_told, sound_after}
 use Rattle.provider_cli.proofs.Readable.{start_readable, are_messages}
 
--- the entries stay an archive, with more entries behind them
-pub record Extends (old new : List Entry) : Type 0 where
-  pub more : List terms.Entry
-  pub appended : archive_of new ≡ archive_of old ++ more
-  pub archive : IsArchive (archive_of new)
+-- ---- beginnings
 
-same : (entries : List Entry) → IsArchive (archive_of entries) → Extends entries entries
-same entries archive = record {
-  more = [];
-  appended = sym (append-nil (archive_of entries));
-  archive = archive;
+front_le : {X : Type 0} (front whole : List X) → take (length front) whole ≡ front
+    → length front ≤ length whole
+front_le front whole is = omega (arith, simp length-take at (ap length is))
+
+-- what begins a beginning begins the whole
+front_of_front : {X : Type 0} (front some all : List X) → take (length front) some ≡ front
+    → take (length some) all ≡ some → take (length front) all ≡ front
+front_of_front front some all is begins =
+    ap (take (length front)) (sym (take-append-drop (length some) all))
+    ∙ ap (λ (xs : List _). take (length front) (xs ++ drop (length some) all)) begins
+    ∙ take-append-le (length front) some (drop (length some) all) (front_le front some is) ∙ is
+
+-- the items of the first few buffers begin those of all
+few_begin : (few : ℕ) (buffers : List (List Item))
+    → take (length (items_in (take few buffers))) (items_in buffers) ≡ items_in (take few buffers)
+few_begin zero buffers = refl
+few_begin (suc few) [] = refl
+few_begin (suc few) (buffer ∷ buffers) =
+    rw length-append (take-append-add buffer (items_in buffers)
+    (length (items_in (take few buffers)))
+    ∙ ap (λ rest. buffer ++ rest) (few_begin few buffers))
+
+-- ---- a START's line
+
+-- the laws that each line's facts rest on
+world_laws : Laws → world.Laws
+world_laws laws = record {
+  grows = laws.grows;
+  delivers = record { holds = laws.holds; stays = laws.stays; told_stays = laws.told_stays };
 }
 
-extends_by : Laws → (entries : List Entry) (entry : Entry) (follows : Bool)
-    → follows ≡ may_follow (archive_of entries) (entry_of entry) → IsArchive (archive_of entries)
-    → Extends entries (if follows then entries ++ entry ∷ [] else entries)
-extends_by laws entries entry true is archive = record {
-  more = entry_of entry ∷ [];
-  appended = archive-push entries entry;
-  archive = rw (archive-push entries entry, laws.grows, ← is) (grind (arith, archive));
-}
-extends_by laws entries entry false is archive = same entries archive
+-- what is promised of any line, at this one
+at_line : Laws → (script : List ℕ) (s : Start) (is : IsStartOf script s)
+    → IsAnswered step_text (new_world s.capacity) s.earlier s.later is.line
+at_line laws script s is =
+    laws.headline s.capacity (s.earlier ++ is.line ∷ s.later) s.earlier s.later is.line refl is.good
 
-extends_line : Laws → (entries : List Entry) (says : ScriptLine) → IsArchive (archive_of entries)
-    → Extends entries (after_line entries says)
-extends_line laws entries (Offer entry) archive =
-    extends_by laws entries entry (may_follow (archive_of entries) (entry_of entry)) refl archive
-extends_line laws entries (Desk start stop quality) archive = same entries archive
+not_before : (a b : ℕ) → a ≤ b → nat_lt b a ≡ false
+not_before a b le = grind arith
 
-extends_option : Laws → (entries : List Entry) (says : Option ScriptLine)
-    → IsArchive (archive_of entries)
-    → Extends entries (option_map_or (after_line entries) says entries)
-extends_option laws entries None archive = same entries archive
-extends_option laws entries (Some says) archive = extends_line laws entries says archive
+module _ (laws : Laws) (script : List ℕ) (s : Start) (is : IsStartOf script s) where
+  abbrev answered : IsAnswered step_text (new_world s.capacity) s.earlier s.later is.line
+  answered = at_line laws script s is
 
-joined : (a b c : List Entry) → Extends a b → Extends b c → Extends a c
-joined a b c first second = record {
-  more = first.more ++ second.more;
-  appended = second.appended ∙ ap (λ xs. xs ++ second.more) first.appended
-      ∙ append_assoc (archive_of a) first.more second.more;
-  archive = second.archive;
-}
+  -- what it has handed over
+  abbrev its : Handed
+  its = begun (terms s.start s.stop s.quality) (told_by (archive_at s) s)
 
-pub extends_lines : Laws → (entries : List Entry) (lines : List (List ℕ))
-    → IsArchive (archive_of entries) → Extends entries (archive_after entries lines)
-extends_lines laws entries [] archive = same entries archive
-extends_lines laws entries (line ∷ lines) archive =
-    let first = extends_option laws entries (line_of line) archive in
-    joined entries (option_map_or (after_line entries) (line_of line) entries)
-    (archive_after entries (line ∷ lines)) first
-    (extends_lines laws (option_map_or (after_line entries) (line_of line) entries) lines
-    first.archive)
+  abbrev starts : List Handed
+  starts = handed_after step_text (new_world s.capacity) [] s.earlier
 
--- what begins the items of an archive begins those of a longer one, and is right for it
-right_for : Laws → (archive more : List terms.Entry) (s : Start) (few : ℕ)
-    → IsArchive (archive ++ more) →
-    IsRightFor (items_in (take few (offline_buffers 2
-    (picked archive (selection s.start s.stop s.quality)) (is_closed archive (moment s.stop)))))
-    (archive ++ more) s
-right_for laws archive more s few longer =
-    let entries : List (ℕ × terms.Entry) = picked archive (selection s.start s.stop s.quality) in
-    let closed : Bool = is_closed archive (moment s.stop) in
-    let buffers : List (List Item) = offline_buffers 2 entries closed in
-    let items : List Item = items_in (take few buffers) in
-    let now : take (length items) (all_items (picked (archive ++ more)
-    (selection s.start s.stop s.quality)) (is_closed (archive ++ more) (moment s.stop)))
-    ≡ items =
-    laws.stays (terms_of 0 s) archive more items longer
-    (front_of_front items (items_in buffers) (all_items entries closed) (few_begin few buffers)
-    (laws.holds 2 entries closed)) in
-    record { frames = laws.begins _ _ items now; end_of_data = laws.ends _ _ items now }
+  -- the published entries are an archive at its line and later
+  archive_later : (some : ℕ) → IsArchive (archive_then s (take some s.later))
+  archive_later some =
+      (sound_after (world_laws laws) (world_at s) (take some s.later)
+      (sound_after (world_laws laws) (new_world s.capacity) s.earlier
+      (record { archive = refl; settled = refl }))).archive
 
--- the archive at a START, and after some of the later lines
-at_line : Laws → (s : Start) → IsArchive (archive_at s)
-at_line laws s = (extends_lines laws [] s.earlier refl).archive
+  -- what it has handed over is right then and later
+  right_later : (some : ℕ) → IsRight (archive_then s (take some s.later)) its
+  right_later some =
+      let all : AreRight (archive_then s (take some s.later))
+      (handed_by starts (desk (world_at s) s.start s.stop s.quality).said) =
+      rw is.says at (answered.right some) in
+      (subst (AreRight (archive_then s (take some s.later)))
+      (hands_over (world_at s) s.start s.stop s.quality starts is.ordered) all).0
 
--- ---- what a START hands over
+  -- its buffers
+  items_are : items_of its.buffers ≡ buffers_of s
+  items_are = items_told (archive_at s) None (buffers_of s)
 
-pub delivered : Laws → (s : Start) → IsDelivered s
-delivered laws s = λ latency moments.
-    rw (take_all (length (archive_at s)) (archive_at s) (omega arith)) at
-    (laws.rounds (terms_of latency s) (archive_at s) (length (archive_at s)) moments
-    (omega arith) refl)
+  -- the items of all its buffers begin what it is to hand over
+  begins : (some : ℕ) → take (length (items_in (buffers_of s)))
+      (to_hand_over (terms s.start s.stop s.quality) (archive_then s (take some s.later)))
+      ≡ items_in (buffers_of s)
+  begins some =
+      let archive = archive_then s (take some s.later) in
+      let same : archive ++ [] ≡ archive = append-nil archive in
+      let right : take (length (handed_items its))
+      (to_hand_over (terms s.start s.stop s.quality) (archive ++ [])) ≡ handed_items its =
+      (right_later some).begins [] (subst IsArchive (sym same) (archive_later some)) in
+      let items : handed_items its ≡ items_in (buffers_of s) = ap items_in items_are in
+      subst (λ items. take (length items)
+      (to_hand_over (terms s.start s.stop s.quality) archive) ≡ items) items
+      (subst (λ entries. take (length (handed_items its))
+      (to_hand_over (terms s.start s.stop s.quality) entries) ≡ handed_items its) same right)
 
-pub read_of : Laws → (s : Start) → IsReadOf s
-read_of laws s =
-    start_readable laws.short laws.plain laws.ended laws.exact laws.spells laws.cuts s.start s.stop
-    s.quality (entries_at s) (is_closed (archive_at s) (moment s.stop)) (at_line laws s)
-    (fits_lines [] s.earlier tt)
-    (laws.holds 2 (picked (archive_at s) (selection s.start s.stop s.quality))
-    (is_closed (archive_at s) (moment s.stop)))
+  pub stays_right : StaysRight s
+  stays_right = λ few some.
+      let archive = archive_then s (take some s.later) in
+      let items : List Item = items_in (take few (buffers_of s)) in
+      let now : take (length items) (all_items (picked archive
+      (selection s.start s.stop s.quality)) (is_closed archive (moment s.stop))) ≡ items =
+      front_of_front items (items_in (buffers_of s)) _ (few_begin few (buffers_of s))
+      (begins some) in
+      record { frames = laws.begins _ _ items now; end_of_data = laws.ends _ _ items now }
 
-pub streamed : Laws → (s : Start) → IsStreamed s
-streamed laws s = λ place. laws.streams place (messages_of s)
-    (are_messages (told_by (archive_at s) s) (read_of laws s))
+  pub stays_told : StaysTold s
+  stays_told = λ some.
+      let archive = archive_then s (take some s.later) in
+      ap (map buffer_message)
+      (ap (λ entries. told_by entries s) (sym (append-nil archive))
+      ∙ ap (told_buffers (archive ++ []) None) (sym items_are)
+      ∙ (right_later some).told [])
 
-pub stays_right : Laws → (s : Start) → StaysRight s
-stays_right laws s = λ few some.
-    let longer = extends_lines laws (entries_at s) (take some s.later) (at_line laws s) in
-    rw longer.appended (right_for laws (archive_at s) longer.more s few
-    (rw (← longer.appended) longer.archive))
+  pub read_of : IsReadOf s
+  read_of =
+      start_readable laws.short laws.plain laws.ended laws.exact laws.spells laws.cuts s.start
+      s.stop s.quality (archive_at s) (is_closed (archive_at s) (moment s.stop)) (archive_later 0)
+      (laws.holds 2 (picked (archive_at s) (selection s.start s.stop s.quality))
+      (is_closed (archive_at s) (moment s.stop)))
 
-pub stays_told : Laws → (s : Start) → StaysTold s
-stays_told laws s = λ some.
-    let longer = extends_lines laws (entries_at s) (take some s.later) (at_line laws s) in
-    ap (λ archive. messages_by archive s) longer.appended
-    ∙ ap (map buffer_message) (laws.told_stays 2 (archive_at s) longer.more
-    (selection s.start s.stop s.quality) (is_closed (archive_at s) (moment s.stop)))
+  pub streamed : IsStreamed s
+  streamed = λ place. laws.streams place (messages_of s)
+      (are_messages (told_by (archive_at s) s) read_of)
 
--- the exact transcript, as the text that each status has written
+  pub delivered : IsDelivered s
+  delivered = λ latency moments.
+      rw (take_all (length (archive_at s)) (archive_at s) (omega arith)) at
+      (laws.rounds (terms_of latency s) (archive_at s) (length (archive_at s)) moments
+      (omega arith) refl)
+
+  -- ---- where its messages stand
+
+  messages_sent : (told : List Told)
+      → texts (map (handed 0) told) ≡ flat_map sent (map buffer_message told)
+  messages_sent [] = refl
+  messages_sent (buffer ∷ told) =
+      ap (λ rest. sent (buffer_message buffer) ++ rest) (messages_sent told)
+
+  text_at : (number : ℕ)
+      → transcript_from step_text number (world_at s) (is.line ∷ s.later)
+      ≡ flat_map sent (messages_of s)
+      ++ transcript_from step_text (number + 1) (world_at s) s.later
+  text_at number =
+      rw (is.says, not_before (moment s.start) (moment s.stop) is.ordered)
+      (ap (λ text. text ++ transcript_from step_text (number + 1) (world_at s) s.later)
+      (messages_sent (told_by (archive_at s) s)))
+
+  pub stands_sent : script_text (script_of (lines_of script))
+      ≡ transcript step_text (new_world s.capacity) s.earlier ++ flat_map sent (messages_of s)
+      ++ transcript_from step_text (length s.earlier + 2) (world_at s) s.later
+  stands_sent =
+      let before = transcript step_text (new_world s.capacity) s.earlier in
+      let count : length s.earlier + 1 + 1 ≡ length s.earlier + 2 = omega arith in
+      ap script_text is.stands ∙ answered.text
+      ∙ ap (λ text. before ++ text)
+      (text_at (length s.earlier + 1)
+      ∙ ap (λ n. flat_map sent (messages_of s)
+      ++ transcript_from step_text n (world_at s) s.later) count)
+      ∙ sym (append_assoc before (flat_map sent (messages_of s))
+      (transcript_from step_text (length s.earlier + 2) (world_at s) s.later))
+
+-- the exact text, as what each status has written
 written_as : (script : List ℕ) (before after : Outside) (status : Status) (text : List ℕ)
-    → before.left ≡ Some script → script_transcript script ≡ text
+    → before.left ≡ Some script → text_by script ≡ text
     → HasText before after status → HasRun before after text status
 written_as script before after Done text tells is has =
     subst (GainsAll before after) is (rw tells at has)
 written_as script before after BadLine text tells is has =
     subst (GainsAll before after) is (rw tells at has)
+written_as script before after Full text tells is has =
+    subst (GainsAll before after) is (rw tells at has)
 written_as script before after WriteFault text tells is has =
     subst (GainsSome before after) is (rw tells at has)
 written_as script before after Memory text tells is has =
     subst (GainsSome before after) is (rw tells at has)
+written_as script before after BadSite text tells is has = tt
 written_as script before after Usage text tells is has = tt
 written_as script before after ReadFault text tells is has = tt
 written_as script before after InputTooLong text tells is has = tt
 
-sent_of : (script : List ℕ) (before after : Outside) (status : Status) → before.left ≡ Some script
-    → HasText before after status → (s : Start) → IsStartOf script s → IsSent before after status s
-sent_of script before after status tells has s is =
-    written_as script before after status _ tells (ap transcript is.stands
-    ∙ transcript_around s.earlier s.later is.line s.start s.stop s.quality is.good is.says
-    is.ordered) has
-
 -- each START of what the input has left
-pub each_sent : (before after : Outside) (status : Status) → HasText before after status
+pub each_sent : Laws → (before after : Outside) (status : Status) → HasText before after status
     → EachStart before.left (IsSent before after status)
-each_sent before after status has = by_input before.left refl
+each_sent laws before after status has = by_input before.left refl
   where
     by_input : (left : Option (List ℕ)) → before.left ≡ left
         → EachStart left (IsSent before after status)
     by_input None tells = tt
-    by_input (Some script) tells = λ s is. sent_of script before after status tells has s is
+    by_input (Some script) tells = λ s is.
+        written_as script before after status _ tells (stands_sent laws script s is) has
 
-pub each_start : (input : Option (List ℕ)) (IsSo : Start → Type 0) → ((s : Start) → IsSo s)
-    → EachStart input IsSo
+pub each_start : (input : Option (List ℕ)) (IsSo : Start → Type 0)
+    → ((script : List ℕ) (s : Start) → IsStartOf script s → IsSo s) → EachStart input IsSo
 each_start None IsSo so = tt
-each_start (Some script) IsSo so = λ s _. so s
+each_start (Some script) IsSo so = λ s is. so script s is
+
+pub has_headline : Laws → (input : Option (List ℕ)) → HasHeadline input
+has_headline laws None = tt
+has_headline laws (Some script) = λ capacity lines _. laws.headline capacity lines
 
 -- ---- completeness
 
@@ -187,30 +241,30 @@ rose_up : (n : ℕ) → Rose n (count_up n)
 rose_up n = ⊎_elim (λ last. inr (let most : last_count ≤ n = last.1 in omega arith))
     (λ below. inl (let less : n < last_count = below.1 in omega arith)) (leb_tells last_count n)
 
--- a good script is done, or memory is wanted
-contradicts : (script : List ℕ) → IsTrue (is_script (lines_of script))
-    → IsFalse (is_script (lines_of script)) → ⊥
-contradicts script good bad = grind (arith, good, bad)
-
+-- where no count rises, a script ends with its own status, or memory is wanted
 completes_with : (script : List ℕ) (before after : Outside) (status : Status)
     → before.left ≡ Some script → Drilled before after status
-    → length script ≤ most_octets → IsTrue (is_script (lines_of script))
+    → length script ≤ most_octets
     → ¬ Rose before.read_faults after.read_faults → ¬ Rose before.write_faults after.write_faults
-    → (status ≡ Done) ⊎ (status ≡ Memory)
-completes_with script before after Done tells drilled short good unread unwritten = inl refl
-completes_with script before after Memory tells drilled short good unread unwritten = inr refl
-completes_with script before after Usage tells drilled short good unread unwritten =
+    → (status ≡ status_by script) ⊎ (status ≡ Memory)
+completes_with script before after Done tells drilled short unread unwritten =
+    let found : IsOf Done script = rw tells at drilled.script in inl (sym found.1)
+completes_with script before after BadLine tells drilled short unread unwritten =
+    let found : IsOf BadLine script = rw tells at drilled.script in inl (sym found.1)
+completes_with script before after BadSite tells drilled short unread unwritten =
+    let found : IsOf BadSite script = rw tells at drilled.script in inl (sym found.1)
+completes_with script before after Full tells drilled short unread unwritten =
+    let found : IsOf Full script = rw tells at drilled.script in inl (sym found.1)
+completes_with script before after Memory tells drilled short unread unwritten = inr refl
+completes_with script before after Usage tells drilled short unread unwritten =
     absurd drilled.text
-completes_with script before after BadLine tells drilled short good unread unwritten =
-    let found : (length script ≤ most_octets) × IsFalse (is_script (lines_of script)) =
-    rw tells at drilled.script in absurd (contradicts script good found.1)
-completes_with script before after InputTooLong tells drilled short good unread unwritten =
+completes_with script before after InputTooLong tells drilled short unread unwritten =
     let long : most_octets < length script = rw tells at drilled.script in
     absurd (omega (arith, short, long))
-completes_with script before after ReadFault tells drilled short good unread unwritten =
+completes_with script before after ReadFault tells drilled short unread unwritten =
     absurd (unread (subst (Rose before.read_faults) (sym drilled.reads)
     (rose_up before.read_faults)))
-completes_with script before after WriteFault tells drilled short good unread unwritten =
+completes_with script before after WriteFault tells drilled short unread unwritten =
     absurd (unwritten (subst (Rose before.write_faults) (sym drilled.writes)
     (rose_up before.write_faults)))
 
@@ -219,9 +273,9 @@ pub completes : (before after : Outside) (status : Status) → Drilled before af
 completes before after status drilled = by_input before.left refl
   where
     by_input : (left : Option (List ℕ)) → before.left ≡ left
-        → IfSome left (λ script. length script ≤ most_octets → IsTrue (is_script (lines_of script))
+        → IfSome left (λ script. length script ≤ most_octets
         → ¬ Rose before.read_faults after.read_faults
         → ¬ Rose before.write_faults after.write_faults
-        → (status ≡ Done) ⊎ (status ≡ Memory))
+        → (status ≡ status_by script) ⊎ (status ≡ Memory))
     by_input None tells = tt
     by_input (Some script) tells = completes_with script before after status tells drilled

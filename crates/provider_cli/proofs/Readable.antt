@@ -1,11 +1,12 @@
 -- Whoever reads the messages of a START reads its frames, and nothing else.
 use Rattle.std.proofs.Common.{◌≡◌, ℕ, ℤ, suc, pos, negsuc, ◌≤ℤ◌, ◌+◌, ◌*◌, ◌≤◌, ◌&&◌, nat_le, Bool}
-use Rattle.std.proofs.Common.{true, false, cond, if◌then◌else◌, List, [], ◌∷◌, length, map, take}
+use Rattle.std.proofs.Common.{true, false, IsTrue, cond, if◌then◌else◌, List, [], ◌∷◌, length, map, take}
 use Rattle.std.proofs.Common.{Option, Some, None, refl, sym, ap, subst, length-append, arith}
-use Rattle.std.proofs.lemmas.Bool.{and_parts, leb-true}
+use Rattle.std.proofs.lemmas.Bool.{and_parts, and_from, leb-true}
+use Rattle.std.proofs.lemmas.Bool.Decides.{nat_tests}
 use Rattle.std.proofs.lemmas.Int.{ints}
 use Rattle.std.proofs.lemmas.List.Elements.{All-get_or}
-use Rattle.std.specs.List.{AllByRecursion, flat_map}
+use Rattle.std.specs.List.{AllByRecursion, flat_map, filter, enumerate_from, list_all}
 use Rattle.ber_core.specs.Length.{shortest_length}
 use Rattle.ber_core.specs.Parts.{length-constructed, spelled-trees, few-shortest_length}
 use Rattle.ber_core.specs.Spelling.{element, canonical, canonical_all, Spells, CanonicalSpells}
@@ -20,31 +21,86 @@ use Rattle.return_pdu.specs.TransferItem as said
 use Rattle.return_pdu.specs.TransferItem.{raf_item, BuffersAreExact}
 use Rattle.return_pdu.specs.Plain.{FramesArePlain, EndIsPlain, FramesAreShort}
 use Rattle.archive_terms.specs.Archive.{frame, loss_of_sync, production, seal, is_moment}
-use Rattle.archive_terms.specs.Archive.{is_storable, is_archive}
+use Rattle.archive_terms.specs.Archive.{is_storable, is_archive, is_ordered, may_precede}
 use Rattle.archive_terms.specs.Archive as terms
-use Rattle.archive_terms.specs.Selection.{is_picked}
+use Rattle.archive_terms.specs.Selection.{is_picked, picked}
 use Rattle.archive_terms.specs.Delivery.{Item, archived, backlog, end_of_data, archived_items}
 use Rattle.archive_terms.specs.Delivery.{all_items, is_complete, IsBuffer, cut, offline_buffers}
 use Rattle.archive_terms.specs.Continuity.{continuity, gap, last_frame, told_items, told_buffers}
 use Rattle.cds_time.specs.Octets.{FieldsFit}
 use Rattle.cds_time.specs.declared.cds.Cds.{Cds}
-use Rattle.provider_cli.specs.declared.entry.Entry.{Entry}
-use Rattle.provider_cli.specs.declared.entry.Entry.TheVariants.{Frame, Seal}
-use Rattle.provider_cli.specs.Entries.{entry_of, archive_of}
-use Rattle.provider_cli.specs.Transcript.{selection, item_tree, buffer_message}
+use Rattle.cds_time.specs.declared.cds.Rest.{Rest}
+use Rattle.cds_time.specs.declared.cds.Rest.TheVariants.{Micros, Picos}
+use Rattle.station_law.specs.Said.{Told, item_tree, buffer_message}
+use Rattle.station_law.specs.Desk.{selection}
 use Rattle.provider_cli.specs.Laws.{CutsAreBuffers}
 use Rattle.provider_cli.specs.Readable.{item_said, IsReadable, AreReadable}
 use Rattle.provider_cli.specs.Headline.{items_in}
 use Rattle.provider_cli.proofs.Each.{each_joined, each_taken, each_split, each_filtered, each_at}
-use Rattle.provider_cli.proofs.Fitting.{AllFit}
-use Rattle.provider_cli.proofs.Pass.{picks, first_storable}
 
 -- ---- which items the buffers have
+
+-- the fields of a time that names a moment fit in their octets
+abbrev made : ℕ → ℕ → Rest → Cds
+made days millis rest = record { days = days; millis = millis; rest = rest }
+
+fields_micros : (days millis n : ℕ) → IsTrue (is_moment (made days millis (Micros n)))
+    → (days ≤ 65535) × (millis ≤ 86399999) × (n ≤ 999)
+fields_micros days millis n is = (
+  grind (arith, nat_tests),
+  grind (arith, nat_tests),
+  grind (arith, nat_tests),
+)
+
+fields_picos : (days millis n : ℕ) → IsTrue (is_moment (made days millis (Picos n)))
+    → (days ≤ 65535) × (millis ≤ 86399999) × (n ≤ 999999999)
+fields_picos days millis n is = (
+  grind (arith, nat_tests),
+  grind (arith, nat_tests),
+  grind (arith, nat_tests),
+)
+
+fields_by : (days millis : ℕ) (rest : Rest) → IsTrue (is_moment (made days millis rest))
+    → FieldsFit (made days millis rest)
+fields_by days millis (Micros n) is =
+    let h = fields_micros days millis n is in
+    record {
+      days = omega (arith, h.0);
+      millis = omega (arith, h.1);
+      rest = omega (arith, h.2);
+    }
+fields_by days millis (Picos n) is =
+    let h = fields_picos days millis n is in
+    record {
+      days = omega (arith, h.0);
+      millis = omega (arith, h.1);
+      rest = omega (arith, h.2);
+    }
+
+fields_fit : (time : Cds) → IsTrue (is_moment time) → FieldsFit time
+fields_fit time is = fields_by time.days time.millis time.rest is
 
 -- a frame that may be archived, whose fields fit in their octets
 record MayStand (f : terms.Frame) : Type 0 where
   storable : is_storable (frame f) ≡ true
   ert : FieldsFit f.ert
+
+may_stand : (f : terms.Frame) → is_storable (frame f) ≡ true → MayStand f
+may_stand f storable =
+    let antenna = f.antenna in
+    let octets = f.octets in
+    let time = is_moment f.ert in
+    let q = nat_le f.quality 2 in
+    let a = nat_le 1 (length antenna) in
+    let b = nat_le (length antenna) 16 in
+    let l = nat_le f.lost 16777215 in
+    let o = nat_le 1 (length octets) in
+    let p1 = and_parts (time && q && a && b && l && o) (nat_le (length octets) 65536) storable in
+    let p2 = and_parts (time && q && a && b && l) o p1.0 in
+    let p3 = and_parts (time && q && a && b) l p2.0 in
+    let p4 = and_parts (time && q && a) b p3.0 in
+    let p5 = and_parts (time && q) a p4.0 in
+    record { storable = storable; ert = fields_fit f.ert (and_parts time q p5.0).0 }
 
 -- an offline delivery hands over frames and the end of data
 abbrev IsOffline : Item → Type 0
@@ -62,22 +118,42 @@ one_picked : (place : ℕ) (entry : terms.Entry) (later : List (ℕ × terms.Ent
 one_picked place entry later is all true = (is, all)
 one_picked place entry later is all false = all
 
-picks_are : (start stop : Cds) (quality : ℕ) (entries : List Entry) (n : ℕ) (rest : List Entry)
-    → is_archive (archive_of rest) ≡ true → AllFit rest
+first_storable : (entry : terms.Entry) (later : List terms.Entry)
+    → is_archive (entry ∷ later) ≡ true → (is_storable entry ≡ true) × (is_archive later ≡ true)
+first_storable entry later archive =
+    let parts : ((is_storable entry && list_all is_storable later) ≡ true)
+    × ((list_all (may_precede entry) later && is_ordered later) ≡ true) =
+    and_parts (is_storable entry && list_all is_storable later) (list_all (may_precede entry) later
+    && is_ordered later) archive in
+    let stored : (is_storable entry ≡ true) × (list_all is_storable later ≡ true) =
+    and_parts (is_storable entry) (list_all is_storable later) parts.0 in (
+      stored.0,
+      and_from (list_all is_storable later) (is_ordered later) stored.1
+          (and_parts (list_all (may_precede entry) later) (is_ordered later) parts.1).1,
+    )
+
+-- the picked ones of the entries from a place on
+abbrev picks : Cds → Cds → ℕ → List terms.Entry → ℕ → List terms.Entry → List (ℕ × terms.Entry)
+picks start stop quality entries n rest =
+    filter (λ x. is_picked (selection start stop quality) entries x.0 x.1) (enumerate_from n rest)
+
+picks_are : (start stop : Cds) (quality : ℕ) (entries : List terms.Entry) (n : ℕ)
+    (rest : List terms.Entry) → is_archive rest ≡ true
     → AreOffline (archived_items (picks start stop quality entries n rest))
-picks_are start stop quality entries n [] archive fits = tt
-picks_are start stop quality entries n (Seal at ∷ rest) archive fits =
+picks_are start stop quality entries n [] archive = tt
+picks_are start stop quality entries n (frame f ∷ rest) archive =
+    let parts = first_storable (frame f) rest archive in
+    one_picked n (frame f) (picks start stop quality entries (n + 1) rest)
+    (may_stand f parts.0) (picks_are start stop quality entries (n + 1) rest parts.1)
+    (is_picked (selection start stop quality) entries n (frame f))
+picks_are start stop quality entries n (loss_of_sync l ∷ rest) archive =
     picks_are start stop quality entries (n + 1) rest
-    (first_storable (entry_of (Seal at)) (archive_of rest) archive).1 fits.1
-picks_are start stop quality entries n (Frame ert found antenna lost octets ∷ rest) archive fits =
-    let parts = first_storable (entry_of (Frame ert found antenna lost octets)) (archive_of rest)
-    archive in
-    one_picked n (entry_of (Frame ert found antenna lost octets))
-    (picks start stop quality entries (n + 1) rest)
-    (record { storable = parts.0; ert = fits.0.0 })
-    (picks_are start stop quality entries (n + 1) rest parts.1 fits.1)
-    (is_picked (selection start stop quality) (archive_of entries) n
-    (entry_of (Frame ert found antenna lost octets)))
+    (first_storable (loss_of_sync l) rest archive).1
+picks_are start stop quality entries n (production status ∷ rest) archive =
+    picks_are start stop quality entries (n + 1) rest
+    (first_storable (production status) rest archive).1
+picks_are start stop quality entries n (seal at ∷ rest) archive =
+    picks_are start stop quality entries (n + 1) rest (first_storable (seal at) rest archive).1
 
 -- ---- the buffers of a START
 
@@ -246,27 +322,27 @@ module _ (short : FramesAreShort) (plain : FramesArePlain) (ended : EndIsPlain)
   )
 
   pub start_readable : CutsAreBuffers
-      → (start stop : Cds) (quality : ℕ) (entries : List Entry) (closed : Bool)
-      → is_archive (archive_of entries) ≡ true → AllFit entries
-      → (let picked = picks start stop quality entries 0 entries in
-      let items = items_in (offline_buffers 2 picked closed) in
-      take (length items) (all_items picked closed) ≡ items)
-      → AreReadable (told_buffers (archive_of entries) None
-      (offline_buffers 2 (picks start stop quality entries 0 entries) closed))
-  start_readable cuts start stop quality entries closed archive fits begins =
-      let picked = picks start stop quality entries 0 entries in
-      let buffers = offline_buffers 2 picked closed in
-      let all : AreOffline (all_items picked closed)
-      = each_joined IsOffline (archived_items picked) (if closed then end_of_data ∷ [] else [])
-      (picks_are start stop quality entries 0 entries archive fits) (end_is closed) in
+      → (start stop : Cds) (quality : ℕ) (entries : List terms.Entry) (closed : Bool)
+      → is_archive entries ≡ true
+      → (let chosen = picked entries (selection start stop quality) in
+      let items = items_in (offline_buffers 2 chosen closed) in
+      take (length items) (all_items chosen closed) ≡ items)
+      → AreReadable (told_buffers entries None
+      (offline_buffers 2 (picked entries (selection start stop quality)) closed))
+  start_readable cuts start stop quality entries closed archive begins =
+      let chosen = picked entries (selection start stop quality) in
+      let buffers = offline_buffers 2 chosen closed in
+      let all : AreOffline (all_items chosen closed)
+      = each_joined IsOffline (archived_items chosen) (if closed then end_of_data ∷ [] else [])
+      (picks_are start stop quality entries 0 entries archive) (end_is closed) in
       let items : AreOffline (items_in buffers) =
       subst AreOffline begins (each_taken IsOffline (length (items_in buffers))
-      (all_items picked closed) all) in
-      buffers_readable (archive_of entries) None buffers (each_split IsOffline buffers items)
-      (buffers_few cuts picked closed)
+      (all_items chosen closed) all) in
+      buffers_readable entries None buffers (each_split IsOffline buffers items)
+      (buffers_few cuts chosen closed)
 
 -- each message of a START is one that the transport reads
-pub are_messages : (told : List (List (Item × Option ℤ))) → AreReadable told
+pub are_messages : (told : List Told) → AreReadable told
     → AllByRecursion IsMessage (map buffer_message told)
 are_messages [] readable = tt
 are_messages (buffer ∷ told) readable = (readable.0.fits, are_messages told readable.1)

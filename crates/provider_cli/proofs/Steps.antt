@@ -4,9 +4,9 @@ use Rattle.std.proofs.Common.{refl, append_assoc, inr, ⊎_elim}
 use Rattle.std.proofs.lemmas.List.{append-nil}
 use Rattle.std.specs.Result.{IsErrAnd}
 use Rattle.octet_core.specs.Writing.{writes-none, writes-append, writes-stopped, writes-refused}
-use Rattle.provider_cli.specs.declared.transcript.Stop.{Stop}
-use Rattle.provider_cli.specs.declared.transcript.Stop.TheVariants.{Memory, WriteFault}
-use Rattle.provider_cli.specs.Output.{Wrote}
+use Rattle.station_law.specs.declared.stop.Stop.{Stop}
+use Rattle.station_law.specs.declared.stop.Stop.TheVariants.{Memory, WriteFault}
+use Rattle.station_law.specs.Output.{Wrote}
 
 -- an output that held `start` holds `now`, and the rest is what is still to be written of the whole
 pub record Behind (start now : Option (List ℕ)) (faults_start faults_now : ℕ)
@@ -35,6 +35,11 @@ at_start output faults whole = record {
   splits = refl;
   wrote = writes-none WriteFault output faults tt;
 }
+
+-- the same text, as another term
+pub behind_as : (start now : Option (List ℕ)) (f g : ℕ) (whole text other : List ℕ) → text ≡ other
+    → Behind start now f g whole text → Behind start now f g whole other
+behind_as start now f g whole text other is behind = subst (Behind start now f g whole) is behind
 
 -- a text was written
 pub step_on : {T : Type 0} (start now next : Option (List ℕ)) (f g h : ℕ) (whole text rest : List ℕ)

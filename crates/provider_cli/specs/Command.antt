@@ -6,8 +6,9 @@ use Rattle.octet_core.specs.Written.{Gains, GainsFront}
 use Rattle.provider_cli.specs.declared.words.Plan.{Plan}
 use Rattle.provider_cli.specs.declared.words.Plan.TheVariants.{Drill}
 use Rattle.provider_cli.specs.declared.status.Status.{Status}
-use Rattle.provider_cli.specs.declared.status.Status.TheVariants.{Done, Usage, BadLine, ReadFault}
-use Rattle.provider_cli.specs.declared.status.Status.TheVariants.{WriteFault, InputTooLong, Memory}
+use Rattle.provider_cli.specs.declared.status.Status.TheVariants.{Done, Usage, BadLine, BadSite}
+use Rattle.provider_cli.specs.declared.status.Status.TheVariants.{ReadFault, WriteFault, Full}
+use Rattle.provider_cli.specs.declared.status.Status.TheVariants.{InputTooLong, Memory}
 use Rattle.provider_cli.specs.Outside.{Outside}
 
 -- the one command is the word `drill`
@@ -20,8 +21,10 @@ abbrev pub code : Status → ℕ
 code Done = 0
 code Usage = 2
 code BadLine = 3
+code BadSite = 4
 code ReadFault = 6
 code WriteFault = 7
+code Full = 9
 code InputTooLong = 11
 code Memory = 70
 

@@ -1,7 +1,8 @@
 -- What a drill promises of each START of its script, one fact each.
-use Rattle.std.specs.Prelude.{◌≡◌, ℕ, ◌+◌, IsTrue, None, List, [], ◌∷◌, ◌++◌, length, map, take}
+use Rattle.std.specs.Prelude.{◌≡◌, ℕ, ◌+◌, IsTrue, IfSome, Option, None, List, [], ◌∷◌, ◌++◌}
+use Rattle.std.specs.Prelude.{length, map, take}
 use Rattle.std.specs.List.{list_any, flat_map}
-use Rattle.isp1_tml.specs.Message.{spellings}
+use Rattle.isp1_tml.specs.Message.{Content, spelling, spellings}
 use Rattle.isp1_tml.specs.Stream.{IsStream}
 use Rattle.archive_terms.specs.Archive as terms
 use Rattle.archive_terms.specs.Archive.{is_closed}
@@ -10,14 +11,28 @@ use Rattle.archive_terms.specs.Delivery.{Item, Terms, offline, started, entries_
 use Rattle.archive_terms.specs.Delivery.{end_of_data, is_end_of_data}
 use Rattle.archive_terms.specs.Rounds.{free_round, outcomes, handed_buffers}
 use Rattle.provider_cli.specs.declared.status.Status.{Status}
-use Rattle.provider_cli.specs.declared.status.Status.TheVariants.{Done, BadLine, WriteFault, Memory}
-use Rattle.provider_cli.specs.Entries.{moment}
+use Rattle.provider_cli.specs.declared.status.Status.TheVariants.{Done, BadLine, WriteFault, Full}
+use Rattle.provider_cli.specs.declared.status.Status.TheVariants.{Memory}
+use Rattle.station_law.specs.State.{moment, start as new_world}
+use Rattle.station_law.specs.Said.{sent_text}
+use Rattle.station_law.specs.Desk.{selection}
+use Rattle.station_law.specs.Lines.{step_text}
+use Rattle.station_law.specs.Runs.{transcript, transcript_from, Headline}
+use Rattle.provider_cli.specs.Lines.{lines_of}
+use Rattle.provider_cli.specs.Script.{script_of, runs}
 use Rattle.provider_cli.specs.Outside.{Outside}
-use Rattle.provider_cli.specs.Transcript.{selection, sent, transcript, transcript_from}
-use Rattle.provider_cli.specs.Start.{Start, entries_at, archive_at, archive_then, buffers_of}
+use Rattle.provider_cli.specs.Start.{Start, world_at, archive_at, archive_then, buffers_of}
 use Rattle.provider_cli.specs.Start.{told_by, messages_by, messages_of}
 use Rattle.provider_cli.specs.Readable.{AreReadable}
-use Rattle.provider_cli.specs.Script.{GainsAll, GainsSome}
+use Rattle.provider_cli.specs.Drilled.{GainsAll, GainsSome}
+
+-- What station_law promises of any lines holds of those that run: at each line behind others in
+-- order, whatever its form is.
+abbrev pub HasHeadline : Option (List ℕ) → Type 0
+HasHeadline input =
+    IfSome input (λ script. (capacity : ℕ) (lines : List (List ℕ))
+    → script_of (lines_of script) ≡ runs capacity lines
+    → Headline step_text (new_world capacity) lines)
 
 -- what a START of the desk asks for, in buffers of two items
 abbrev pub terms_of : ℕ → Start → Terms
@@ -42,16 +57,21 @@ IsDelivered s =
 abbrev pub HasRun : Outside → Outside → List ℕ → Status → Type 0
 HasRun before after text Done = GainsAll before after text
 HasRun before after text BadLine = GainsAll before after text
+HasRun before after text Full = GainsAll before after text
 HasRun before after text WriteFault = GainsSome before after text
 HasRun before after text Memory = GainsSome before after text
 HasRun before after text status = Unit {0}
+
+-- connection 0 was handed a message
+abbrev pub sent : Content → List ℕ
+sent message = sent_text 0 (spelling message)
 
 -- Its messages stand behind the text of the earlier lines, and before that of the later ones.
 abbrev pub IsSent : Outside → Outside → Status → Start → Type 0
 IsSent before after status s =
     HasRun before after
-    (transcript s.earlier ++ flat_map sent (messages_of s)
-    ++ transcript_from (length s.earlier + 2) (entries_at s) s.later)
+    (transcript step_text (new_world s.capacity) s.earlier ++ flat_map sent (messages_of s)
+    ++ transcript_from step_text (length s.earlier + 2) (world_at s) s.later)
     status
 
 -- Its messages are a stream of the transport, from any place of the connection's octets on.

@@ -1,7 +1,7 @@
--- The laws that the headline rests on: of archives and deliveries, of buffers, of the octets that
+-- The laws that the headline rests on: of scripts, of deliveries, of buffers, of the octets that
 -- spell them, and of streams.
-use Rattle.std.specs.Prelude.{◌≡◌, ℕ, ◌<◌, ◌&&◌, Bool, IsTrue, IsFalse, List, [], ◌∷◌, ◌++◌, length}
-use Rattle.std.specs.Prelude.{map, take, None}
+use Rattle.std.specs.Prelude.{◌≡◌, ℕ, ◌<◌, ◌&&◌, Bool, IsTrue, IsFalse, List, [], ◌∷◌, ◌++◌}
+use Rattle.std.specs.Prelude.{length, map, take, None}
 use Rattle.std.specs.List.{All, AllByRecursion, list_any, flat_map}
 use Rattle.ber_core.specs.Spelling.{CanonicalSpells}
 use Rattle.isp1_tml.specs.Message.{Content, IsMessage, spellings}
@@ -16,13 +16,14 @@ use Rattle.archive_terms.specs.Delivery.{IsBuffer, cut, offline_buffers}
 use Rattle.archive_terms.specs.Rounds.{to_hand_over, free_round, picked_at, outcomes}
 use Rattle.archive_terms.specs.Rounds.{handed_buffers}
 use Rattle.archive_terms.specs.Continuity.{told_buffers}
+use Rattle.station_law.specs.State.{start as new_world}
+use Rattle.station_law.specs.Lines.{step_text}
+use Rattle.station_law.specs.Runs.{Headline}
 
 abbrev pub CutsAreBuffers : Type 0
 CutsAreBuffers = (size : ℕ) (items : List Item) → 0 < size → All (IsBuffer size) (cut size items)
 
 pub record Laws : Type 0 where
-  pub grows : (a : List Entry) (e : Entry) → is_archive (a ++ e ∷ [])
-      ≡ (is_archive a && may_follow a e)
   pub holds : (size : ℕ) (entries : List (ℕ × Entry)) (closed : Bool)
       → let items = flat_map (λ b. b) (offline_buffers size entries closed) in
       take (length items) (all_items entries closed) ≡ items
@@ -33,14 +34,18 @@ pub record Laws : Type 0 where
       → take (length items) (all_items entries closed) ≡ items
       → IsTrue (list_any is_end_of_data items)
       → IsTrue closed × (items ≡ archived_items entries ++ end_of_data ∷ [])
-  pub stays : (t : Terms) (a b : List Entry) (items : List Item) → IsArchive (a ++ b)
-      → take (length items) (to_hand_over t a) ≡ items
-      → take (length items) (to_hand_over t (a ++ b)) ≡ items
   pub rounds : (t : Terms) (entries : List Entry) (front : ℕ) (moments : List ℕ) → 0 < t.size
       → IsFalse (is_online t.mode)
       → handed_buffers (outcomes t entries (map (free_round front) moments) started)
       ≡ take (length moments) (offline_buffers t.size (picked_at t entries front)
       (is_stop_closed t.selection (take front entries)))
+  pub headline : (capacity : ℕ) (lines : List (List ℕ))
+      → Headline step_text (new_world capacity) lines
+  pub grows : (a : List Entry) (e : Entry) → is_archive (a ++ e ∷ [])
+      ≡ (is_archive a && may_follow a e)
+  pub stays : (t : Terms) (a b : List Entry) (items : List Item) → IsArchive (a ++ b)
+      → take (length items) (to_hand_over t a) ≡ items
+      → take (length items) (to_hand_over t (a ++ b)) ≡ items
   pub told_stays : (size : ℕ) (a b : List Entry) (s : Selection) (closed : Bool)
       → let buffers = offline_buffers size (picked a s) closed in
       told_buffers (a ++ b) None buffers ≡ told_buffers a None buffers

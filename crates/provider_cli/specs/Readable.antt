@@ -10,7 +10,7 @@ use Rattle.return_pdu.specs.TransferItem.{ItemContent, buffer}
 use Rattle.return_pdu.specs.Plain.{plain_item, plain_end}
 use Rattle.archive_terms.specs.Archive.{frame}
 use Rattle.archive_terms.specs.Delivery.{Item, archived}
-use Rattle.provider_cli.specs.Transcript.{item_tree, buffer_message}
+use Rattle.station_law.specs.Said.{Told, item_tree, buffer_message}
 
 -- an item as a user reads it: a frame with its fields as it was received, and its continuity; or
 -- the end of data. An offline delivery has no other.
@@ -21,7 +21,7 @@ item_said _ = plain_end
 
 -- A buffer as it is told fits in a message of the transport. A user who decodes its octets as a
 -- buffer of RAF gets these items, each with its fields in their ranges; they spell no others.
-pub record IsReadable (told : List (Item × Option ℤ)) : Type 0 where
+pub record IsReadable (told : Told) : Type 0 where
   pub fits : IsMessage (buffer_message told)
   pub read : whole (buffer Raf).read (canonical (transfer_buffer (map item_tree told)))
       ≡ Ok (map item_said told)
@@ -33,5 +33,5 @@ pub record IsReadable (told : List (Item × Option ℤ)) : Type 0 where
       → others ≡ map item_said told
 
 -- So is each of the buffers that are handed over.
-abbrev pub AreReadable : List (List (Item × Option ℤ)) → Type 0
+abbrev pub AreReadable : List Told → Type 0
 AreReadable told = AllByRecursion IsReadable told

@@ -1,100 +1,58 @@
--- How a drill ends: by its status what it has written, which call failed, and what its script is.
--- This product's own rules.
-use Rattle.std.specs.Prelude.{◌≡◌, ◌⊎◌, ℕ, ◌<◌, ◌≤◌, IsTrue, IsFalse, IfSome, List, ◌∷◌, ◌++◌, []}
-use Rattle.std.specs.Prelude.{length, codes}
-use Rattle.octet_core.specs.Fault.{count_up, Rose}
-use Rattle.octet_core.specs.Written.{Gains, GainsFront}
-use Rattle.archive_terms.specs.Archive.{is_storable}
-use Rattle.provider_cli.specs.declared.status.Status.{Status}
-use Rattle.provider_cli.specs.declared.status.Status.TheVariants.{Done, Usage, BadLine, ReadFault}
-use Rattle.provider_cli.specs.declared.status.Status.TheVariants.{WriteFault, InputTooLong, Memory}
-use Rattle.provider_cli.specs.declared.grammar.ScriptLine.{ScriptLine}
-use Rattle.provider_cli.specs.declared.grammar.ScriptLine.TheVariants.{Offer, Desk}
+-- What a script says: its text and the status that it ends with, where its output takes all and
+-- memory suffices. This product's own rules.
+use Rattle.std.specs.Prelude.{ℕ, ◌+◌, Bool, true, false, Option, Some, None, Result, Ok, Err, List}
+use Rattle.std.specs.Prelude.{[], ◌∷◌, ◌++◌, length, codes}
+use Rattle.std.specs.Fmt.{decimal}
+use Rattle.station_config.specs.Drafts.{Refusal}
+use Rattle.station_config.specs.declared.site.Site.{Site}
+use Rattle.station_law.specs.State.{start}
+use Rattle.station_law.specs.Lines.{step_text}
+use Rattle.station_law.specs.Runs.{bad_line, transcript, in_order, all_fine}
 use Rattle.provider_cli.specs.declared.drill.TheConstants.{SCRIPT_OCTETS}
-use Rattle.provider_cli.specs.Grammar.{lines_of}
-use Rattle.provider_cli.specs.Entries.{entry_of}
-use Rattle.provider_cli.specs.Outside.{Outside}
-use Rattle.provider_cli.specs.Transcript.{transcript, is_script}
-
--- an entry of a line may be archived as far as its fields go
-abbrev pub IsValidLine : ScriptLine → Type 0
-IsValidLine (Offer entry) = IsTrue (is_storable (entry_of entry))
-IsValidLine (Desk start stop quality) = Unit {0}
+use Rattle.provider_cli.specs.declared.status.Status.{Status}
+use Rattle.provider_cli.specs.declared.status.Status.TheVariants.{Done, BadLine, BadSite, Full}
+use Rattle.provider_cli.specs.Head.{site_of, running}
 
 -- the most octets of a script
 abbrev pub most_octets : ℕ
 most_octets = SCRIPT_OCTETS
 
-abbrev pub script_transcript : List ℕ → List ℕ
-script_transcript script = transcript (lines_of script)
+-- A line of the head is refused; the head isn't ended, and a line of this number is missing; or
+-- lines run, in a world with an archive of this capacity.
+pub data Script : Type 0 where
+  bad_site : Refusal → Script
+  no_end : ℕ → Script
+  runs : ℕ → List (List ℕ) → Script
 
--- all of a text was written, or what begins it
-abbrev pub GainsAll : Outside → Outside → List ℕ → Type 0
-GainsAll before after text = Gains before.written after.written text
+abbrev pub by_site : Result Site Refusal → Option (List (List ℕ)) → ℕ → Script
+by_site (Err refusal) lines next = bad_site refusal
+by_site (Ok site) None next = no_end next
+by_site (Ok site) (Some lines) next = runs site.capacity lines
 
-abbrev pub GainsSome : Outside → Outside → List ℕ → Type 0
-GainsSome before after text = GainsFront before.written after.written text
+-- the script of these lines
+abbrev pub script_of : List (List ℕ) → Script
+script_of lines = by_site (site_of lines) (running lines) (length lines + 1)
 
--- a status's own line was written, or what begins it by a call that failed
-abbrev pub GainsLine : Outside → Outside → List ℕ → Type 0
-GainsLine before after line =
-    (GainsAll before after line × (after.write_faults ≡ before.write_faults))
-    ⊎ (GainsSome before after line × (after.write_faults ≡ count_up before.write_faults))
+-- the number of a refused line of the head, and its cause
+abbrev pub bad_site_line : ℕ → ℕ → List ℕ
+bad_site_line number cause =
+    codes "bad site " ++ decimal number ++ 32 ∷ (decimal cause ++ 10 ∷ [])
 
--- What was written: with 0 and 3 the transcript, with 7 and 70 what begins it, with 6 and 11 a
--- line, which stands alone.
-abbrev pub HasText : Outside → Outside → Status → Type 0
-HasText before after Done =
-    IfSome before.left (λ script. GainsAll before after (script_transcript script))
-HasText before after BadLine =
-    IfSome before.left (λ script. GainsAll before after (script_transcript script))
-HasText before after WriteFault =
-    IfSome before.left (λ script. GainsSome before after (script_transcript script))
-HasText before after Memory =
-    IfSome before.left (λ script. GainsSome before after (script_transcript script))
-HasText before after ReadFault = GainsLine before after (codes "read fault" ++ 10 ∷ [])
-HasText before after InputTooLong = GainsLine before after (codes "input too long" ++ 10 ∷ [])
-HasText before after Usage = ⊥
+-- its text: the transcript of the lines that run, up to the first bad one
+abbrev pub script_text : Script → List ℕ
+script_text (bad_site refusal) = bad_site_line refusal.number refusal.cause
+script_text (no_end number) = bad_line number
+script_text (runs capacity lines) = transcript step_text (start capacity) lines
 
--- How often a read failed, by the input's count of faults: with 6 once, else never.
-abbrev pub HasReads : Outside → Outside → Status → Type 0
-HasReads before after ReadFault = after.read_faults ≡ count_up before.read_faults
-HasReads before after status = after.read_faults ≡ before.read_faults
+-- the status, by whether each line is in the grammar and in a right state, and whether none has an
+-- entry that is refused as Full
+abbrev pub status_by : Bool → Bool → Status
+status_by false fine = BadLine
+status_by true true = Done
+status_by true false = Full
 
--- How often a write failed, by the output's count of faults: with 7 once, with 6 and 11 perhaps
--- once, at the status's own line, else never.
-abbrev pub HasWrites : Outside → Outside → Status → Type 0
-HasWrites before after WriteFault = after.write_faults ≡ count_up before.write_faults
-HasWrites before after ReadFault =
-    (after.write_faults ≡ before.write_faults) ⊎ (after.write_faults ≡ count_up before.write_faults)
-HasWrites before after InputTooLong =
-    (after.write_faults ≡ before.write_faults) ⊎ (after.write_faults ≡ count_up before.write_faults)
-HasWrites before after status = after.write_faults ≡ before.write_faults
-
--- What the script is: with 11 it is too long, and with 0, 3 and 7 it isn't; with 0 each of its
--- lines is in the grammar, and with 3 one isn't.
-abbrev pub HasScript : Outside → Status → Type 0
-HasScript before Done =
-    IfSome before.left
-    (λ script. (length script ≤ most_octets) × IsTrue (is_script (lines_of script)))
-HasScript before BadLine =
-    IfSome before.left
-    (λ script. (length script ≤ most_octets) × IsFalse (is_script (lines_of script)))
-HasScript before WriteFault = IfSome before.left (λ script. length script ≤ most_octets)
-HasScript before InputTooLong = IfSome before.left (λ script. most_octets < length script)
-HasScript before status = Unit {0}
-
--- Completeness: a script that is short enough and all of whose lines are in the grammar is done, or
--- memory is wanted, where no count rises.
-abbrev pub Completes : Outside → Outside → Status → Type 0
-Completes before after status =
-    IfSome before.left (λ script. length script ≤ most_octets → IsTrue (is_script (lines_of script))
-    → ¬ Rose before.read_faults after.read_faults → ¬ Rose before.write_faults after.write_faults
-    → (status ≡ Done) ⊎ (status ≡ Memory))
-
--- all of it
-pub record Drilled (before after : Outside) (status : Status) : Type 0 where
-  pub text : HasText before after status
-  pub reads : HasReads before after status
-  pub writes : HasWrites before after status
-  pub script : HasScript before status
+abbrev pub status_of : Script → Status
+status_of (bad_site refusal) = BadSite
+status_of (no_end number) = BadLine
+status_of (runs capacity lines) =
+    status_by (in_order step_text (start capacity) lines) (all_fine step_text (start capacity) lines)

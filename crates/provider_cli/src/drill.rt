@@ -1,27 +1,18 @@
 // `drill`: runs a script, and writes what a user would be handed.
-ghost use Rattle.std.specs.Prelude.{◌≡◌, ◌<◌, ◌≤◌, ◌⊎◌, IsTrue, IsFalse, IsErrOf, IfOk, OnOk};
-ghost use Rattle.std.specs.Prelude.{IfSome, length};
+ghost use Rattle.std.specs.Prelude.{◌≡◌, ◌<◌, ◌≤◌, ◌⊎◌, IsErrOf, IfOk, IfSome, length};
 ghost use Rattle.octet_core.specs.Fault.{count_up};
 ghost use Rattle.provider_cli.specs.Command.{EndsAs};
-ghost use Rattle.provider_cli.specs.Grammar.{lines_of};
-ghost use Rattle.provider_cli.specs.Output.{Wrote};
 ghost use Rattle.provider_cli.specs.Outside.{showing};
-ghost use Rattle.provider_cli.specs.Script.{IsValidLine, HasText, HasReads, HasWrites, HasScript};
-ghost use Rattle.provider_cli.specs.Script.{Completes, Drilled};
+ghost use Rattle.provider_cli.specs.Drilled.{HasText, HasReads, HasWrites, HasScript, Completes};
+ghost use Rattle.provider_cli.specs.Drilled.{Drilled};
 ghost use Rattle.provider_cli.specs.Start.{EachStart};
-ghost use Rattle.provider_cli.specs.Headline.{IsDelivered, IsSent, IsStreamed, IsReadOf};
-ghost use Rattle.provider_cli.specs.Headline.{StaysRight, StaysTold};
+ghost use Rattle.provider_cli.specs.Headline.{HasHeadline, IsDelivered, IsSent, IsStreamed};
+ghost use Rattle.provider_cli.specs.Headline.{IsReadOf, StaysRight, StaysTold};
 ghost use Rattle.provider_cli.specs.Laws.{Laws};
-ghost use Rattle.provider_cli.specs.Transcript.{line_text, after_line, bad_line, transcript};
-ghost use Rattle.provider_cli.specs.Transcript.{is_script};
 
-use crate::archive::{Archive, OfferFault};
-use crate::desk::answer_start;
-use crate::entry::moment;
-use crate::grammar::{LineFault, ScriptLine, parse_line};
-use crate::lines::split_line;
+use crate::put::put_line;
+use crate::run::run_script;
 use crate::status::Status;
-use crate::transcript::{Stop, put_line};
 use archive_terms::laws::{
     archive_grows, continuity_stays, cut_into_buffers, handed_over_stays_a_prefix,
     offline_buffers_hold_a_prefix, offline_rounds, prefix_of_all_items,
@@ -30,6 +21,8 @@ use ber_core::laws::canonical_spells;
 use isp1_tml::laws::spelled_is_read;
 use octet_core::{Sink, Source};
 use return_pdu::laws::{buffers_are_exact, end_is_plain, frames_are_plain, frames_are_short};
+use station_law::Stop;
+use station_law::laws::headline_law;
 use std::alloc::{AllocError, Global};
 
 /// The most octets that a script may have.
@@ -66,7 +59,8 @@ pub fn drill<I: Source, O: Sink>(alloc: Global, input: &mut I, output: &mut O) -
         (showing (I.left input.new) (I.faults input.new)
         (O.written output.new) (O.faults output.new))) }
 
-    // What it handed over at each START.
+    // What holds of each line that it ran, and what it handed over at each START.
+    ensures headline { HasHeadline (I.left input.old) }
     ensures delivered { EachStart (I.left input.old) IsDelivered }
     ensures sent { EndsAs result (λ status. EachStart (I.left input.old) (IsSent
         (showing (I.left input.old) (I.faults input.old)
@@ -87,12 +81,13 @@ pub fn drill<I: Source, O: Sink>(alloc: Global, input: &mut I, output: &mut O) -
 fn laws()
     ensures { Laws }
 {
+    headline_law();
     archive_grows();
+    handed_over_stays_a_prefix();
+    continuity_stays();
     offline_rounds();
     offline_buffers_hold_a_prefix();
     prefix_of_all_items();
-    handed_over_stays_a_prefix();
-    continuity_stays();
     cut_into_buffers();
     frames_are_short();
     frames_are_plain();
@@ -177,78 +172,4 @@ fn read_script<I: Source>(alloc: Global, input: &mut I) -> Result<Vec<u8>, Scrip
         script.extend_from_slice(&piece[..count])?;
     }
     Err(ScriptFault::TooLong)
-}
-
-// Runs a script line by line, up to the first line outside the grammar.
-fn run_script<O: Sink>(alloc: Global, script: &[u8], output: &mut O) -> Result<Status, Stop>
-    requires { length script.now ≤ SCRIPT_OCTETS }
-    ensures written { Wrote (O.written output.old) (O.written output.new)
-        (O.faults output.old) (O.faults output.new)
-        (transcript (lines_of script.now)) result }
-    ensures done { IfOk result (λ status. (status ≡ Status.Done) ⊎ (status ≡ Status.BadLine)) }
-    ensures all { IfOk result (λ status. status ≡ Status.Done →
-        IsTrue (is_script (lines_of script.now))) }
-    ensures bad { IfOk result (λ status. status ≡ Status.BadLine →
-        IsFalse (is_script (lines_of script.now))) }
-{
-    let mut archive = Archive::new(alloc);
-    let mut rest = script;
-    let mut number = 1u32;
-    while !rest.is_empty() {
-        let (line, after) = split_line(rest);
-        match parse_line(alloc, line) {
-            Ok(says) => run_line(alloc, &mut archive, says, output)?,
-            Err(LineFault::Bad) => {
-                put_bad_line(alloc, number, output)?;
-                return Ok(Status::BadLine);
-            }
-            Err(LineFault::Memory) => return Err(Stop::Memory),
-        }
-        rest = after;
-        number += 1;
-    }
-    Ok(Status::Done)
-}
-
-// Does what a line says.
-fn run_line<O: Sink>(
-    alloc: Global,
-    archive: &mut Archive,
-    says: ScriptLine,
-    output: &mut O,
-) -> Result<(), Stop>
-    requires { IsValidLine says }
-    ensures written { Wrote (O.written output.old) (O.written output.new)
-        (O.faults output.old) (O.faults output.new)
-        (line_text archive.old says) result }
-    ensures archive { OnOk result (archive.new ≡ after_line archive.old says) }
-{
-    match says {
-        ScriptLine::Offer(entry) => match archive.offer(entry) {
-            Ok(()) => Ok(()),
-            Err(OfferFault::Backward) => put_line(b"backward\n", output),
-            Err(OfferFault::Memory) => Err(Stop::Memory),
-        },
-        ScriptLine::Desk {
-            start,
-            stop,
-            quality,
-        } => {
-            if moment(&stop) < moment(&start) {
-                put_line(b"refused 3\n", output)
-            } else {
-                answer_start(alloc, archive, &start, &stop, quality, output)
-            }
-        }
-    }
-}
-
-// Says which line is outside the grammar.
-fn put_bad_line<O: Sink>(alloc: Global, number: u32, output: &mut O) -> Result<(), Stop>
-    ensures { Wrote (O.written output.old) (O.written output.new)
-        (O.faults output.old) (O.faults output.new)
-        (bad_line number) result }
-{
-    let line = format!(in alloc; "bad line {number}\n")?;
-    put_line(line.as_bytes(), output)
 }

@@ -1,7 +1,6 @@
-// The lines of a text, and the parts of a line.
-ghost use Rattle.std.specs.Prelude.{◌≡◌, ◌==◌, ◌≤◌, ◌∷◌, length};
+// The lines of a text.
+ghost use Rattle.std.specs.Prelude.{◌≡◌, ◌==◌, ◌≤◌, length};
 ghost use Rattle.std.specs.List.{position_or_len, before_first, after_first};
-ghost use Rattle.provider_cli.specs.Words.{parts, parts_behind};
 
 use memchr::memchr;
 
@@ -11,7 +10,7 @@ pub fn split_line(text: &[u8]) -> (&[u8], &[u8])
     ensures line { result.0.now ≡ before_first (λ octet. octet == 10) text.now }
     ensures rest { result.1.now ≡ after_first (λ octet. octet == 10) text.now }
 {
-    let end = place_of(b'\n', text);
+    let end = end_of(text);
     if end < text.len() {
         (&text[..end], &text[end + 1..])
     } else {
@@ -19,22 +18,10 @@ pub fn split_line(text: &[u8]) -> (&[u8], &[u8])
     }
 }
 
-/// The first part of a text, and what stands behind the `separator` that ends it, if there is one.
-pub fn split_part(separator: u8, text: &[u8]) -> (&[u8], Option<&[u8]>)
-    ensures { parts separator text.now ≡ result.0.now ∷ parts_behind separator result.1 }
-{
-    let end = place_of(separator, text);
-    if end < text.len() {
-        (&text[..end], Some(&text[end + 1..]))
-    } else {
-        (text, None)
-    }
-}
-
-// The place of the first such octet, or the text's length where there is none.
-fn place_of(octet: u8, text: &[u8]) -> usize
-    ensures place { result ≡ position_or_len (λ found. found == octet) text.now }
+// The place of the first line's end, or the text's length where it has none.
+fn end_of(text: &[u8]) -> usize
+    ensures place { result ≡ position_or_len (λ found. found == 10) text.now }
     ensures within { result ≤ length text.now }
 {
-    memchr(octet, text).unwrap_or(text.len())
+    memchr(b'\n', text).unwrap_or(text.len())
 }

@@ -1,25 +1,23 @@
 // The ground station's provider.
 //
-// `drill` reads a script of received frames, seals and STARTs of an offline return service, and
-// writes the transfer buffers that a user would be handed. `provide` is the program over any input
-// and output; `main` gives it the standard ones.
+// `drill` reads a script of received frames, other entries, clock readings and STARTs of an offline
+// return service, has its lines run in the world of `station_law`, and writes the transfer buffers
+// that a user would be handed. `provide` is the program over any input and output; `main` gives it
+// the standard ones.
 #![tactic(auto)]
 
-mod archive;
 mod command;
-mod desk;
 mod drill;
-mod entry;
-mod grammar;
+mod head;
 mod lines;
-mod numbers;
 #[cfg(test)]
 mod plain;
 mod provide;
+mod put;
+mod run;
 mod status;
 #[cfg(test)]
 mod tests;
-mod transcript;
 mod words;
 
 use crate::provide::{Equipment, provide};

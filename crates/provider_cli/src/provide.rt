@@ -3,15 +3,15 @@ ghost use Rattle.std.specs.Prelude.{◌≡◌, None, Some, map};
 ghost use Rattle.provider_cli.specs.declared.words.Plan.TheVariants.{Drill};
 ghost use Rattle.provider_cli.specs.Command.{plan_of, EndsAs, IsUsage, IsUnread};
 ghost use Rattle.provider_cli.specs.Outside.{showing};
-ghost use Rattle.provider_cli.specs.Script.{HasText, HasReads, HasWrites, HasScript, Completes};
+ghost use Rattle.provider_cli.specs.Drilled.{HasText, HasReads, HasWrites, HasScript, Completes};
 ghost use Rattle.provider_cli.specs.Start.{EachStart};
 ghost use Rattle.provider_cli.specs.Headline.{IsDelivered, IsSent, IsStreamed, IsReadOf};
-ghost use Rattle.provider_cli.specs.Headline.{StaysRight, StaysTold};
+ghost use Rattle.provider_cli.specs.Headline.{HasHeadline, StaysRight, StaysTold};
 
 use crate::command::plan;
 use crate::drill::drill;
+use crate::put::put_line;
 use crate::status::Status;
-use crate::transcript::put_line;
 use crate::words::Plan;
 use octet_core::{Sink, Source};
 use std::alloc::Global;
@@ -68,7 +68,9 @@ pub fn provide<I: Source, O: Sink>(alloc: Global, words: &[&str], kit: &mut Equi
         (showing (I.left kit.new.input) (I.faults kit.new.input)
         (O.written kit.new.output) (O.faults kit.new.output))) }
 
-    // What a drill handed over at each START.
+    // What holds of each line that a drill ran, and what it handed over at each START.
+    ensures headline { plan_of (map (λ word. word.now) words.now) ≡ Some Drill →
+        HasHeadline (I.left kit.old.input) }
     ensures delivered { plan_of (map (λ word. word.now) words.now) ≡ Some Drill →
         EachStart (I.left kit.old.input) IsDelivered }
     ensures sent { plan_of (map (λ word. word.now) words.now) ≡ Some Drill →

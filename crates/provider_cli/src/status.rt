@@ -9,12 +9,16 @@ pub enum Status {
     Done,
     /// The words are no command.
     Usage,
-    /// A line of the script is outside the grammar.
+    /// A line of the script is outside the grammar or in a wrong state.
     BadLine,
+    /// A line of the configuration is refused.
+    BadSite,
     /// The input failed.
     ReadFault,
     /// The output failed.
     WriteFault,
+    /// All was done, and an entry was refused as Full.
+    Full,
     /// The input holds more octets than a script may have.
     InputTooLong,
     /// Memory was refused.
@@ -30,8 +34,10 @@ impl Status {
             Status::Done => 0,
             Status::Usage => 2,
             Status::BadLine => 3,
+            Status::BadSite => 4,
             Status::ReadFault => 6,
             Status::WriteFault => 7,
+            Status::Full => 9,
             Status::InputTooLong => 11,
             Status::Memory => 70,
         }

@@ -1,12 +1,9 @@
 // The program over inputs and outputs in memory. The expected messages were spelled by hand (X.690,
 // and CCSDS 911.1-B for the fields of a transfer buffer).
-use crate::archive::Archive;
-use crate::desk::answer_start;
-use crate::entry::moment;
-use crate::grammar::{ScriptLine, parse_line};
 use crate::lines::split_line;
 use crate::plain;
 use crate::provide::{Equipment, provide};
+use drill_text::{ScriptLine, parse_line};
 use octet_core::{MemorySink, MemorySource, Octets};
 use std::process::Abort;
 use std::test::Fail;
@@ -25,7 +22,7 @@ sent 0 0100000000000008a806a10480008300
 ";
 
 // A script, the exit code, and what is written.
-const SCRIPTS: [(&[u8], u8, &[u8]); 10] = [
+const SCRIPTS: [(&[u8], u8, &[u8]); 11] = [
     (FIRST_PASS, 0, FIRST_PASS_SENT),
     (b"", 0, b""),
     // End of data alone, where the archive has only a seal.
@@ -90,8 +87,61 @@ fly
         3,
         b"backward\nrefused 3\nbad line 4\n",
     ),
-    (b"mark 20000/3000/0\n\n", 3, b"bad line 2\n"),
-    (b"site\nend\n", 3, b"bad line 1\n"),
+    // Lines that say nothing are counted, and entries of all kinds and clocks write nothing.
+    (
+        b"# a pass\n\nloss 20000/0/0 0 1 2\nproduction 2\nclock 20000/0/7p\nmark 0/0/0\nsite\n",
+        3,
+        b"bad line 7\n",
+    ),
+    // A time in picoseconds keeps its form.
+    (
+        b"frame 20000/1000/5p 0 41 0 0010a1\nmark 20000/1000/5p\nstart 20000/0/0 20000/1000/5p 0\n",
+        0,
+        b"sent 0 0100000000000022a820a01e8000810a4e20000003e8000000058101410201ff020100800004030010a1
+sent 0 0100000000000008a806a10480008300
+",
+    ),
+    // A line whose event isn't built.
+    (b"mark 0/0/0\nopen 1\n", 3, b"bad line 2\n"),
+];
+
+// Scripts with a head.
+const HEADS: [(&[u8], u8, &[u8]); 12] = [
+    (b"site\nend\nmark 0/0/0\n", 0, b""),
+    (
+        b"site\ncapacity 71\nend
+frame 20000/1000/0 0 41 0 0010a1
+frame 20000/2000/0 0 41 0 0010a2
+mark 20000/2000/0
+start 20000/0/0 20000/1000/0 0
+",
+        9,
+        b"full 17 0
+sent 0 0100000000000020a81ea01c800080084e20000003e800008101410201ff020100800004030010a1
+sent 0 0100000000000008a806a10480008300
+",
+    ),
+    // A bad line behind an entry that was refused.
+    (
+        b"site\n# the least\ncapacity 64\n\nend
+frame 20000/1000/0 0 41 0 0010a1
+frame 20000/2000/0 0 41 0 0010a2
+fly
+",
+        3,
+        b"full 31 24\nbad line 8\n",
+    ),
+    (b"site\ncapacity 63\nend\n", 4, b"bad site 2 3\n"),
+    (b"site\n\n# end\nfly\nend\nfly\n", 4, b"bad site 4 1\n"),
+    (b"site\ncapacity 64 64\nend", 4, b"bad site 2 2\n"),
+    // A refused line counts where the head isn't ended.
+    (b"site\ncapacity 64\ncapacity 64\n", 4, b"bad site 3 4\n"),
+    (b"site\ncapacity 64\n", 3, b"bad line 3\n"),
+    (b"site\ncapacity 64", 3, b"bad line 3\n"),
+    (b"site", 3, b"bad line 2\n"),
+    // A head stands first, and once.
+    (b"\nsite\nend\n", 3, b"bad line 2\n"),
+    (b"site\nend\nend\n", 3, b"bad line 3\n"),
 ];
 
 fn kit_of(
@@ -112,6 +162,31 @@ fn a_script_gives_its_transcript_and_status(rt: HostRuntime) -> Result<(), Fail>
     for (script, status, written) in SCRIPTS {
         let mut kit = kit_of(&rt, script, &[], &[])?;
         assert_eq!(rt; provide(rt.alloc(), &["drill"], &mut kit), status);
+        assert_eq!(rt; kit.output.written(), written);
+    }
+    Ok(())
+}
+
+#[test]
+fn a_head_gives_the_site_or_its_first_bad_line(rt: HostRuntime) -> Result<(), Fail> {
+    for (script, status, written) in HEADS {
+        let mut kit = kit_of(&rt, script, &[], &[])?;
+        assert_eq!(rt; provide(rt.alloc(), &["drill"], &mut kit), status);
+        assert_eq!(rt; kit.output.written(), written);
+    }
+    Ok(())
+}
+
+#[test]
+fn a_frame_has_at_most_65_536_octets(rt: HostRuntime) -> Result<(), Fail> {
+    for (octets, written) in [(65_536, b"".as_slice()), (65_537, b"too long\n".as_slice())] {
+        let mut script = Vec::from_slice(rt.alloc(), b"frame 0/0/0 0 41 0 ")?;
+        script.resize(19 + 2 * octets, b'0')?;
+        let mut kit = Equipment {
+            input: MemorySource::new(Octets::from_vec(rt.alloc(), script)?, Vec::new(rt.alloc())),
+            output: MemorySink::new(rt.alloc(), Vec::new(rt.alloc())),
+        };
+        assert_eq!(rt; provide(rt.alloc(), &["drill"], &mut kit), 0);
         assert_eq!(rt; kit.output.written(), written);
     }
     Ok(())
@@ -148,6 +223,8 @@ fn a_failing_output_leaves_what_begins_the_transcript(rt: HostRuntime) -> Result
         assert!(rt; kit.output.written().len() < FIRST_PASS_SENT.len());
         assert_eq!(rt; kit.output.faults(), 1);
     }
+    let mut kit = kit_of(&rt, b"site\nfly\nend\n", &[], &[1])?;
+    assert_eq!(rt; provide(rt.alloc(), &["drill"], &mut kit), 7);
     let mut kit = kit_of(&rt, b"", &[1], &[1])?;
     assert_eq!(rt; provide(rt.alloc(), &["drill"], &mut kit), 6);
     assert_eq!(rt; kit.output.written(), b"read ".as_slice());
@@ -301,17 +378,16 @@ start 20000/1001/0 20000/3000/0 0
     ),
 ];
 
-// What the plain program writes for the STARTs of a script, having compared the desk's own text of
-// each that isn't refused.
+// What the plain program writes for the STARTs of a script, none of whose entries is refused.
 fn plain_text(rt: &(impl Abort + AllocGlobal), script: &[u8]) -> Result<Vec<u8>, Fail> {
-    let mut archive = Archive::new(rt.alloc());
+    let mut entries = Vec::new(rt.alloc());
     let mut text = Vec::new(rt.alloc());
     let mut rest = script;
     while !rest.is_empty() {
         let (line, after) = split_line(rest);
         rest = after;
         match parse_line(rt.alloc(), line) {
-            Ok(ScriptLine::Offer(entry)) => assert_eq!(rt; archive.offer(entry), Ok(())),
+            Ok(ScriptLine::Offer(entry)) => entries.push(entry)?,
             Ok(
                 ScriptLine::Desk {
                     start,
@@ -319,24 +395,10 @@ fn plain_text(rt: &(impl Abort + AllocGlobal), script: &[u8]) -> Result<Vec<u8>,
                     quality,
                 },
             ) => {
-                let entries = archive.entries();
-                let plain = plain::start_text(rt.alloc(), entries, &start, &stop, quality)?;
-                if moment(&start) <= moment(&stop) {
-                    let mut sink = MemorySink::new(rt.alloc(), Vec::new(rt.alloc()));
-                    let answer = answer_start(
-                        rt.alloc(),
-                        &archive,
-                        &start,
-                        &stop,
-                        quality,
-                        &mut sink,
-                    );
-                    assert_eq!(rt; answer, Ok(()));
-                    assert_eq!(rt; sink.written(), plain.as_slice());
-                }
-                text.extend_from_slice(plain.as_slice())?;
+                let answer = plain::start_text(rt.alloc(), &entries, &start, &stop, quality)?;
+                text.extend_from_slice(answer.as_slice())?;
             }
-            Err(fault) => panic!(rt; "{fault:?}"),
+            says => panic!(rt; "{says:?}"),
         }
     }
     Ok(text)

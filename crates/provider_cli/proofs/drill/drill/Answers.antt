@@ -1,6 +1,6 @@
 use Rattle.provider_cli.specs.Outside.{showing}
 use Rattle.provider_cli.proofs.Promises.{delivered, read_of, streamed, stays_right, stays_told}
-use Rattle.provider_cli.proofs.Promises.{each_start, each_sent, completes}
+use Rattle.provider_cli.proofs.Promises.{each_start, each_sent, has_headline, completes}
 use Rattle.provider_cli.proofs.drill.drill.Goals as goal
 
 pub returns-clause-text : goal.returns-clause-text
@@ -45,7 +45,7 @@ pub returns-clause-sent : goal.returns-clause-sent
 returns-clause-sent g c = record {
   status = c.read_and_run.result;
   exit_is = c.code.ensures;
-  is_so = each_sent
+  is_so = each_sent c.laws.ensures
       (showing (g.I.Source.left c.args.input.now) (g.I.Source.faults c.args.input.now)
       (g.O.Sink.written c.args.output.now) (g.O.Sink.faults c.args.output.now))
       (showing (g.I.Source.left c.read_and_run.new.input)
@@ -65,3 +65,6 @@ returns-clause-stays_right g c = each_start _ _ (stays_right c.laws.ensures)
 
 pub returns-clause-stays_told : goal.returns-clause-stays_told
 returns-clause-stays_told g c = each_start _ _ (stays_told c.laws.ensures)
+
+pub returns-clause-headline : goal.returns-clause-headline
+returns-clause-headline g c = has_headline c.laws.ensures _

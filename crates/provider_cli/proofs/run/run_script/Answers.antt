@@ -1,0 +1,39 @@
+use Rattle.std.proofs.Common.{◌≡◌, ◌∙◌, ◌+◌, ◌++◌, Ok, Some, sym, ap}
+use Rattle.station_law.specs.Lines.{step_text}
+use Rattle.station_law.specs.Runs.{transcript_from, in_order, all_fine}
+use Rattle.provider_cli.specs.Lines.{lines_of}
+use Rattle.provider_cli.specs.Head.{site_of, running, empty_lines}
+use Rattle.provider_cli.specs.Script.{script_of, script_text, status_of, status_by}
+use Rattle.provider_cli.proofs.Running.{runs_text, runs_status}
+use Rattle.provider_cli.proofs.run.run_script.Goals as goal
+
+pub returns-in_ok-new-in-Some-clause-written : goal.returns-in_ok-new-in-Some-clause-written
+returns-in_ok-new-in-Some-clause-written g c =
+    let lines = lines_of c.args.script.now in
+    let rest = lines_of c.in-Some.rest.now in
+    let says : site_of lines ≡ Ok c.in-Ok.site =
+    sym c.split_head-head.ensures.site ∙ c.in-Ok.ensures.exact in
+    let runs : running lines ≡ Some (empty_lines c.split_head-head.result.lines ++ rest) =
+    rw c.in-Some.is at c.split_head-head.ensures.splits in
+    let is : script_text (script_of lines) ≡ transcript_from step_text
+    (c.split_head-head.result.lines + 1) c.in_ok-new-in-Some.field-0.state rest =
+    runs_text lines rest c.in-Ok.site c.split_head-head.result.lines says runs
+    ∙ ap (λ state. transcript_from step_text (c.split_head-head.result.lines + 1) state rest)
+    (sym c.in_ok-new-in-Some.ensures.state) in
+    rw is c.run_lines.ensures.written
+
+pub returns-in_ok-new-in-Some-clause-status : goal.returns-in_ok-new-in-Some-clause-status
+returns-in_ok-new-in-Some-clause-status g c =
+    let lines = lines_of c.args.script.now in
+    let rest = lines_of c.in-Some.rest.now in
+    let says : site_of lines ≡ Ok c.in-Ok.site =
+    sym c.split_head-head.ensures.site ∙ c.in-Ok.ensures.exact in
+    let runs : running lines ≡ Some (empty_lines c.split_head-head.result.lines ++ rest) =
+    rw c.in-Some.is at c.split_head-head.ensures.splits in
+    let is : status_of (script_of lines)
+    ≡ status_by (in_order step_text c.in_ok-new-in-Some.field-0.state rest)
+    (all_fine step_text c.in_ok-new-in-Some.field-0.state rest) =
+    runs_status lines rest c.in-Ok.site c.split_head-head.result.lines says runs
+    ∙ ap (λ state. status_by (in_order step_text state rest) (all_fine step_text state rest))
+    (sym c.in_ok-new-in-Some.ensures.state) in
+    rw is c.run_lines.ensures.status

@@ -1,0 +1,107 @@
+// A script is run line by line.
+ghost use Rattle.std.specs.Prelude.{◌≡◌, ◌+◌, ◌≤◌, true, not, IfOk, OnOk, length};
+ghost use Rattle.station_law.specs.Lines.{step_text};
+ghost use Rattle.station_law.specs.Output.{Wrote};
+ghost use Rattle.station_law.specs.Runs.{transcript_from, in_order, all_fine};
+ghost use Rattle.station_law.specs.Said.{texts};
+ghost use Rattle.provider_cli.specs.Lines.{lines_of};
+ghost use Rattle.provider_cli.specs.Script.{most_octets, script_of, script_text, status_of};
+ghost use Rattle.provider_cli.specs.Script.{status_by};
+
+use crate::head::split_head;
+use crate::lines::split_line;
+use crate::put::{put_bad_line, put_bad_site};
+use crate::status::Status;
+use drill_text::{LineFault, parse_line};
+use octet_core::Sink;
+use station_config::{Site, SiteFault};
+use station_law::{StepDone, Stop, World};
+use std::alloc::Global;
+
+/// Runs a script line by line, up to the first bad line.
+pub fn run_script<O: Sink>(alloc: Global, script: &[u8], output: &mut O) -> Result<Status, Stop>
+    requires { length script.now ≤ most_octets }
+    ensures written { Wrote (O.written output.old) (O.written output.new)
+        (O.faults output.old) (O.faults output.new)
+        (script_text (script_of (lines_of script.now))) result }
+    ensures status { IfOk result (λ status. status ≡ status_of (script_of (lines_of script.now))) }
+{
+    let head = split_head(script);
+    match Site::parse(alloc, head.settings) {
+        Ok(site) => match head.rest {
+            Some(rest) => run_lines(alloc, World::new(alloc, site)?, rest, head.lines, output),
+            None => {
+                put_bad_line(alloc, head.lines + 1, output)?;
+                Ok(Status::BadLine)
+            }
+        },
+        Err(SiteFault::BadLine { number, cause }) => {
+            put_bad_site(alloc, number, cause, output)?;
+            Ok(Status::BadSite)
+        }
+        Err(SiteFault::Memory) => Err(Stop::Memory),
+    }
+}
+
+// Runs the lines of a text, behind so many others.
+fn run_lines<O: Sink>(
+    alloc: Global,
+    world: World,
+    text: &[u8],
+    before: u32,
+    output: &mut O,
+) -> Result<Status, Stop>
+    requires { before + length text.now ≤ most_octets }
+    ensures written { Wrote (O.written output.old) (O.written output.new)
+        (O.faults output.old) (O.faults output.new)
+        (transcript_from step_text (before + 1) world.state (lines_of text.now)) result }
+    ensures status { IfOk result (λ status. status
+        ≡ status_by (in_order step_text world.state (lines_of text.now))
+        (all_fine step_text world.state (lines_of text.now))) }
+{
+    let mut world = world;
+    let mut rest = text;
+    let mut number = before + 1;
+    let mut full = false;
+    while !rest.is_empty() {
+        let (line, behind) = split_line(rest);
+        match run_line(alloc, &mut world, line, output)? {
+            StepDone::Fine => {}
+            StepDone::Full => full = true,
+            StepDone::WrongState => {
+                put_bad_line(alloc, number, output)?;
+                return Ok(Status::BadLine);
+            }
+        }
+        rest = behind;
+        number += 1;
+    }
+    Ok(status_at_end(full))
+}
+
+// The status of lines in order, by whether an entry of theirs was refused as Full.
+fn status_at_end(full: bool) -> Status
+    ensures { result ≡ status_by true (not full) }
+{
+    if full { Status::Full } else { Status::Done }
+}
+
+// Does what a line says. One outside the grammar is in a wrong state.
+fn run_line<O: Sink>(
+    alloc: Global,
+    world: &mut World,
+    line: &[u8],
+    output: &mut O,
+) -> Result<StepDone, Stop>
+    ensures written { Wrote (O.written output.old) (O.written output.new)
+        (O.faults output.old) (O.faults output.new)
+        (texts (step_text world.old.state line.now).said) result }
+    ensures next { OnOk result (world.new.state ≡ (step_text world.old.state line.now).next) }
+    ensures done { IfOk result (λ done. done ≡ (step_text world.old.state line.now).done) }
+{
+    match parse_line(alloc, line) {
+        Ok(says) => world.step(&says, output),
+        Err(LineFault::Bad) => Ok(StepDone::WrongState),
+        Err(LineFault::Memory) => Err(Stop::Memory),
+    }
+}
