@@ -1,0 +1,6 @@
+// Tests of the world behind a script: scripts with their transcripts, and how each ends. They stand
+// above the world, and are proved once.
+#![tactic(auto)]
+
+#[cfg(test)]
+mod tests;
