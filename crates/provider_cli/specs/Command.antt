@@ -3,8 +3,8 @@ use Rattle.std.specs.Prelude.{◌≡◌, ℕ, if◌then◌else◌, Option, Some,
 use Rattle.std.specs.Str.{bytes_eq}
 use Rattle.octet_core.specs.Fault.{count_up}
 use Rattle.octet_core.specs.Written.{Gains, GainsFront}
-use Rattle.provider_cli.specs.declared.words.Plan.{Plan}
-use Rattle.provider_cli.specs.declared.words.Plan.TheVariants.{Drill}
+use Rattle.provider_cli.specs.declared.plan.Plan.{Plan}
+use Rattle.provider_cli.specs.declared.plan.Plan.TheVariants.{Drill}
 use Rattle.provider_cli.specs.declared.status.Status.{Status}
 use Rattle.provider_cli.specs.declared.status.Status.TheVariants.{Done, Usage, BadLine, BadSite}
 use Rattle.provider_cli.specs.declared.status.Status.TheVariants.{ReadFault, WriteFault, Full}

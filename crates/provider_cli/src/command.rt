@@ -2,7 +2,7 @@
 ghost use Rattle.std.specs.Prelude.{◌≡◌, IsOkAnd, map};
 ghost use Rattle.provider_cli.specs.Command.{plan_of};
 
-use crate::words::Plan;
+use crate::plan::Plan;
 use octet_core::Memory;
 
 /// Reads the words of the command line, and answers none where they are no command.

@@ -12,13 +12,13 @@ mod head;
 mod lines;
 #[cfg(test)]
 mod plain;
+mod plan;
 mod provide;
 mod put;
 mod run;
 mod status;
 #[cfg(test)]
 mod tests;
-mod words;
 
 use crate::provide::{Equipment, provide};
 use crate::status::Status;

@@ -1,6 +1,6 @@
 // The provider's program over any input and output.
 ghost use Rattle.std.specs.Prelude.{◌≡◌, None, Some, map};
-ghost use Rattle.provider_cli.specs.declared.words.Plan.TheVariants.{Drill};
+ghost use Rattle.provider_cli.specs.declared.plan.Plan.TheVariants.{Drill};
 ghost use Rattle.provider_cli.specs.Command.{plan_of, EndsAs, IsUsage, IsUnread};
 ghost use Rattle.provider_cli.specs.Outside.{showing};
 ghost use Rattle.provider_cli.specs.Drilled.{HasText, HasReads, HasWrites, HasScript, Completes};
@@ -10,9 +10,9 @@ ghost use Rattle.provider_cli.specs.Headline.{HasHeadline, StaysRight, StaysTold
 
 use crate::command::plan;
 use crate::drill::drill;
+use crate::plan::Plan;
 use crate::put::put_line;
 use crate::status::Status;
-use crate::words::Plan;
 use octet_core::{Sink, Source};
 use std::alloc::Global;
 
