@@ -1,7 +1,7 @@
 -- What a START of the desk has handed over behind its line, and that its world's entries are an
 -- archive.
-use Rattle.std.proofs.Common.{◌≡◌, ℕ, ◌≤◌, Bool, true, false, nat_lt, List, [], ◌∷◌, ◌++◌, map}
-use Rattle.std.proofs.Common.{Option, None, refl, sym, ap, ◌∙◌, append_assoc, arith}
+use Rattle.std.proofs.Common.{◌≡◌, ℕ, ◌≤◌, false, nat_lt, List, [], ◌∷◌, ◌++◌, map}
+use Rattle.std.proofs.Common.{Option, refl, sym, ap, ◌∙◌, append_assoc, arith}
 use Rattle.std.proofs.lemmas.List.{append-nil}
 use Rattle.cds_time.specs.declared.cds.Cds.{Cds}
 use Rattle.archive_terms.specs.Archive.{Entry}
@@ -10,7 +10,7 @@ use Rattle.archive_terms.specs.Continuity.{told_items, told_buffers, last_frame}
 use Rattle.station_law.specs.State.{State, moment}
 use Rattle.station_law.specs.Said.{Told, Handed, handed, handed_by}
 use Rattle.station_law.specs.Sound.{IsSound, items_of}
-use Rattle.station_law.specs.Desk.{terms, desk_buffers, told_desk, desk}
+use Rattle.station_law.specs.Desk.{terms, told_desk, desk}
 use Rattle.station_law.specs.Lines.{step_text}
 use Rattle.station_law.specs.LinesFacts.{Laws, facts_text}
 use Rattle.station_law.specs.Runs.{after}

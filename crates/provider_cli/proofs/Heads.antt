@@ -1,14 +1,12 @@
 -- A script with a head, and one without.
 use Rattle.std.proofs.Common.{◌≡◌, ◌⊎◌, inl, inr, ℕ, suc, ◌+◌, ◌-◌, ◌<◌, true, false, List, []}
-use Rattle.std.proofs.Common.{◌∷◌, ◌++◌, length, length-drop, take, drop, max, Option, Some, None, refl, sym, ap, ◌∙◌}
+use Rattle.std.proofs.Common.{◌∷◌, ◌++◌, length, length-drop, take, drop, max, Some, None, refl}
+use Rattle.std.proofs.Common.{sym, ap, ◌∙◌}
 use Rattle.std.proofs.Common.{⊎_elim, arith, Bool, if◌then◌else◌}
 use Rattle.std.proofs.lemmas.Slice.Eq.{bytes_eq-Decides}
 use Rattle.std.proofs.lemmas.List.{take_all}
-use Rattle.std.specs.Option.{option_map}
 use Rattle.std.specs.Prelude.{codes}
-use denote.Ref.{Bor}
 use Rattle.station_config.specs.Drafts.{empty, told_from}
-use Rattle.words.specs.Reading.{lent}
 use Rattle.provider_cli.specs.Lines.{lines_of}
 use Rattle.provider_cli.specs.Head.{is_site, before_end, behind_end, settings, running, is_end}
 use Rattle.provider_cli.specs.Head.{empty_lines}

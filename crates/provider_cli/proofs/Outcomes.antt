@@ -1,6 +1,6 @@
 -- How a drill ends, by what became of its script.
 use Rattle.std.proofs.Common.{◌≡◌, ℕ, ◌⊎◌, ◌≤◌, Bool, true, false, List, length, Option, Some}
-use Rattle.std.proofs.Common.{None, Result, Ok, Err, subst, ap, inl, inr, refl, sym, ◌∙◌, ⊎_elim}
+use Rattle.std.proofs.Common.{None, Result, Ok, Err, subst, ap, inl, inr, refl, sym, ⊎_elim}
 use Rattle.std.specs.Result.{IfErr}
 use Rattle.std.specs.Option.{IfSome}
 use Rattle.octet_core.specs.Fault.{count_up}

@@ -1,5 +1,5 @@
 -- From the exact transcript to the headline and to completeness.
-use Rattle.std.proofs.Common.{◌≡◌, ◌⊎◌, ℕ, ◌+◌, ◌<◌, ◌≤◌, true, List, [], ◌∷◌, ◌++◌, length, map}
+use Rattle.std.proofs.Common.{◌≡◌, ◌⊎◌, ℕ, ◌+◌, ◌<◌, ◌≤◌, List, [], ◌∷◌, ◌++◌, length, map}
 use Rattle.std.proofs.Common.{take, drop, Option, Some, None, refl, sym, ap, subst, ◌∙◌, nat_lt}
 use Rattle.std.proofs.Common.{append_assoc, append-nil, length-append, length-take, arith, inl, inr}
 use Rattle.std.proofs.Common.{⊎_elim, false, zero, suc}
@@ -9,13 +9,11 @@ use Rattle.std.proofs.lemmas.List.{take_all, take-append-drop, take-append-le}
 use Rattle.std.specs.List.{flat_map}
 use Rattle.std.specs.Option.{IfSome}
 use Rattle.octet_core.specs.Fault.{last_count, count_up, Rose}
-use Rattle.archive_terms.specs.Archive.{Entry, IsArchive, is_closed}
+use Rattle.archive_terms.specs.Archive.{IsArchive, is_closed}
 use Rattle.archive_terms.specs.Selection.{picked}
 use Rattle.archive_terms.specs.Delivery.{Item, all_items}
 use Rattle.archive_terms.specs.Rounds.{to_hand_over}
-use Rattle.drill_text.specs.declared.script_line.ScriptLine.TheVariants.{Desk}
-use Rattle.station_law.specs.declared.step_done.StepDone.TheVariants.{Fine}
-use Rattle.station_law.specs.State.{State, moment, start as new_world}
+use Rattle.station_law.specs.State.{moment, start as new_world}
 use Rattle.station_law.specs.Said.{Told, Handed, handed, buffer_message, texts, handed_by}
 use Rattle.archive_terms.specs.Continuity.{told_buffers}
 use Rattle.station_law.specs.Sound.{IsRight, AreRight, items_of, handed_items}
@@ -30,14 +28,14 @@ use Rattle.provider_cli.specs.declared.status.Status.TheVariants.{InputTooLong, 
 use Rattle.provider_cli.specs.Drilled.{GainsAll, GainsSome, HasText, text_by, status_by, IsOf}
 use Rattle.provider_cli.specs.Drilled.{Drilled, Completes}
 use Rattle.provider_cli.specs.Headline.{HasHeadline, terms_of, IsDelivered, HasRun, IsSent, sent}
-use Rattle.provider_cli.specs.Headline.{IsStreamed, IsReadOf, items_in, IsRightFor, StaysRight}
+use Rattle.provider_cli.specs.Headline.{IsStreamed, IsReadOf, items_in, StaysRight}
 use Rattle.provider_cli.specs.Headline.{StaysTold}
 use Rattle.provider_cli.specs.Laws.{Laws}
 use Rattle.provider_cli.specs.Lines.{lines_of}
 use Rattle.provider_cli.specs.Outside.{Outside}
 use Rattle.provider_cli.specs.Script.{most_octets, script_of, script_text}
 use Rattle.provider_cli.specs.Start.{Start, IsStartOf, EachStart, world_at, archive_at}
-use Rattle.provider_cli.specs.Start.{archive_then, buffers_of, told_by, messages_by, messages_of}
+use Rattle.provider_cli.specs.Start.{archive_then, buffers_of, told_by, messages_of}
 use Rattle.provider_cli.proofs.Handed.{begun, hands_over, items_told, sound_after}
 use Rattle.provider_cli.proofs.Readable.{start_readable, are_messages}
 

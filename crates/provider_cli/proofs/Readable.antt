@@ -1,6 +1,7 @@
 -- Whoever reads the messages of a START reads its frames, and nothing else.
-use Rattle.std.proofs.Common.{◌≡◌, ℕ, ℤ, suc, pos, negsuc, ◌≤ℤ◌, ◌+◌, ◌*◌, ◌≤◌, ◌&&◌, nat_le, Bool}
-use Rattle.std.proofs.Common.{true, false, IsTrue, cond, if◌then◌else◌, List, [], ◌∷◌, length, map, take}
+use Rattle.std.proofs.Common.{◌≡◌, ℕ, suc, pos, negsuc, ◌≤ℤ◌, ◌+◌, ◌*◌, ◌≤◌, ◌&&◌, nat_le, Bool}
+use Rattle.std.proofs.Common.{true, false, IsTrue, cond, if◌then◌else◌, List, [], ◌∷◌, length, map}
+use Rattle.std.proofs.Common.{take}
 use Rattle.std.proofs.Common.{Option, Some, None, refl, sym, ap, subst, length-append, arith}
 use Rattle.std.proofs.lemmas.Bool.{and_parts, and_from, leb-true}
 use Rattle.std.proofs.lemmas.Bool.Decides.{nat_tests}

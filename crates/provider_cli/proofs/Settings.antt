@@ -1,11 +1,10 @@
 -- The lines of a head, up to the one that ends it.
-use Rattle.std.proofs.Common.{◌≡◌, ◌⊎◌, inl, inr, ℕ, suc, ◌+◌, ◌-◌, ◌<◌, Bool, true, false, List, []}
-use Rattle.std.proofs.Common.{◌∷◌, ◌++◌, length, take, drop, Option, Some, None, Result, Ok, Err}
-use Rattle.std.proofs.Common.{if◌then◌else◌, refl, sym, ap, subst, ◌∙◌, append_assoc, ⊎_elim, arith}
+use Rattle.std.proofs.Common.{◌≡◌, ℕ, suc, ◌+◌, ◌-◌, ◌<◌, true, false, List, []}
+use Rattle.std.proofs.Common.{◌∷◌, ◌++◌, length, take, drop, Some, None, Ok, Err}
+use Rattle.std.proofs.Common.{refl, sym, ap, ◌∙◌, append_assoc, ⊎_elim, arith}
 use Rattle.std.proofs.Common.{length-append}
 use Rattle.std.proofs.lemmas.List.{append-nil, drop-drop, drop_all, take_all, take-append-le}
 use Rattle.std.proofs.Math.Seq.{take-add}
-use Rattle.std.specs.Option.{option_map}
 use Rattle.station_config.specs.Drafts.{empty, told, onward, told_from, next}
 use Rattle.provider_cli.specs.Lines.{lines_of}
 use Rattle.provider_cli.specs.Head.{is_end, before_end, behind_end}
@@ -188,7 +187,8 @@ module _ (text rest : List ℕ) (count : ℕ) (some : 0 < length rest)
   pub end_counts : is_end (line_in rest) ≡ true → count ≡ length (before_end (lines_of text))
   end_counts ends = passed.counted ∙ ap length (sym (before_is ends))
 
-  pub end_splits : is_end (line_in rest) ≡ true → Some (lines_of (behind_in rest)) ≡ behind_end (lines_of text)
+  pub end_splits : is_end (line_in rest) ≡ true
+      → Some (lines_of (behind_in rest)) ≡ behind_end (lines_of text)
   end_splits ends = sym (ap behind_end all_lines ∙ passed.behind (line ∷ lines_of later)
       ∙ end_behind ends)
 

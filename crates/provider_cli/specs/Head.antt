@@ -1,7 +1,7 @@
 -- The head of a script: where its first line is `site`, the lines behind it up to a line `end` are
 -- the configuration of its station. This product's own format.
 use Rattle.std.specs.Prelude.{◌≡◌, ℕ, zero, suc, ◌+◌, Bool, if◌then◌else◌, Option, Some, None}
-use Rattle.std.specs.Prelude.{Result, Ok, List, [], ◌∷◌, ◌++◌, length, option_map, codes}
+use Rattle.std.specs.Prelude.{Result, List, [], ◌∷◌, ◌++◌, length, option_map, codes}
 use Rattle.std.specs.Str.{bytes_eq}
 use denote.Ref.{Bor}
 use Rattle.station_config.specs.Drafts.{Refusal, empty, told_from, finished}

@@ -55,4 +55,5 @@ abbrev pub status_of : Script → Status
 status_of (bad_site refusal) = BadSite
 status_of (no_end number) = BadLine
 status_of (runs capacity lines) =
-    status_by (in_order step_text (start capacity) lines) (all_fine step_text (start capacity) lines)
+    status_by (in_order step_text (start capacity) lines)
+    (all_fine step_text (start capacity) lines)

@@ -1,5 +1,5 @@
 -- The STARTs of a script, and what each one hands over.
-use Rattle.std.specs.Prelude.{◌≡◌, ℕ, ◌≤◌, ℤ, IsTrue, IfSome, Option, Some, None, List, [], ◌∷◌}
+use Rattle.std.specs.Prelude.{◌≡◌, ℕ, ◌≤◌, IsTrue, IfSome, Option, Some, None, List, ◌∷◌}
 use Rattle.std.specs.Prelude.{◌++◌, map}
 use Rattle.cds_time.specs.declared.cds.Cds.{Cds}
 use Rattle.isp1_tml.specs.Message.{Content}

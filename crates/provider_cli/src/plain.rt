@@ -91,15 +91,15 @@ fn continuity(entries: &[Entry], before: Option<usize>, place: usize) -> i32 {
     let Some(before) = before else {
         return -1;
     };
-    let mut sum = 0u128;
+    let mut sum = 0u64;
     for (at, entry) in entries.iter().enumerate() {
         if let Entry::Frame { lost, .. } = entry {
             if before < at && at <= place {
-                sum += u128::from(*lost);
+                sum = sum.saturating_add(u64::from(*lost));
             }
         }
     }
-    sum.min(u128::from(GREATEST_LOST)) as i32
+    sum.min(u64::from(GREATEST_LOST)) as i32
 }
 
 // The item of the frame at a place.

@@ -1,8 +1,8 @@
-use Rattle.std.proofs.Common.{◌≡◌, ◌+◌, ◌<◌, ◌≤◌, true, false, length, length-drop, rules, arith}
+use Rattle.std.proofs.Common.{◌≡◌, ◌<◌, true, false, length, length-drop, rules, arith}
 use Rattle.std.proofs.lemmas.Grind.{common_steps}
 use Rattle.provider_cli.specs.Head.{is_end}
 use Rattle.provider_cli.proofs.FirstLines.{line_in}
-use Rattle.provider_cli.proofs.Settings.{none_passed, one_passed, end_told, end_counts, end_splits}
+use Rattle.provider_cli.proofs.Settings.{none_passed, one_passed, end_told, end_splits}
 use Rattle.provider_cli.proofs.Settings.{all_told, none_left}
 use Rattle.provider_cli.proofs.head.find_end.Goals as goal
 

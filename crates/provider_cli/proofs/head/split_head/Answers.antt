@@ -1,4 +1,4 @@
-use Rattle.std.proofs.Common.{◌≡◌, true, false, ap, sym, rules, ◌∙◌}
+use Rattle.std.proofs.Common.{◌≡◌, false, ap, sym, rules, ◌∙◌}
 use Rattle.std.specs.Prelude.{codes}
 use Rattle.station_config.specs.Drafts.{empty, told_from, finished}
 use Rattle.provider_cli.specs.Head.{is_site}
