@@ -8,5 +8,4 @@ pub mod Read
 pub mod Outcomes
 pub mod Each
 pub mod Readable
-pub mod Handed
 pub mod Promises

@@ -17,9 +17,8 @@ use Rattle.station_law.specs.State.{moment, start as new_world}
 use Rattle.station_law.specs.Said.{Told, Handed, handed, buffer_message, texts, handed_by}
 use Rattle.archive_terms.specs.Continuity.{told_buffers}
 use Rattle.station_law.specs.Sound.{IsRight, AreRight, items_of, handed_items}
-use Rattle.station_law.specs.Desk.{selection, terms, desk}
+use Rattle.station_law.specs.Desk.{selection, terms, desk, handed_at_start}
 use Rattle.station_law.specs.Lines.{step_text}
-use Rattle.station_law.specs.LinesFacts as world
 use Rattle.station_law.specs.Runs.{IsAnswered, after, transcript, transcript_from, handed_after}
 use Rattle.provider_cli.specs.declared.status.Status.{Status}
 use Rattle.provider_cli.specs.declared.status.Status.TheVariants.{Done, Usage, BadLine, BadSite}
@@ -36,7 +35,6 @@ use Rattle.provider_cli.specs.Outside.{Outside}
 use Rattle.provider_cli.specs.Script.{most_octets, script_of, script_text}
 use Rattle.provider_cli.specs.Start.{Start, IsStartOf, EachStart, world_at, archive_at}
 use Rattle.provider_cli.specs.Start.{archive_then, buffers_of, told_by, messages_of}
-use Rattle.provider_cli.proofs.Handed.{begun, hands_over, items_told, sound_after}
 use Rattle.provider_cli.proofs.Readable.{start_readable, are_messages}
 
 -- ---- beginnings
@@ -65,13 +63,6 @@ few_begin (suc few) (buffer ∷ buffers) =
 
 -- ---- a START's line
 
--- the laws that each line's facts rest on
-world_laws : Laws → world.Laws
-world_laws laws = record {
-  grows = laws.grows;
-  delivers = record { holds = laws.holds; stays = laws.stays; told_stays = laws.told_stays };
-}
-
 -- what is promised of any line, at this one
 at_line : Laws → (script : List ℕ) (s : Start) (is : IsStartOf script s)
     → IsAnswered step_text (new_world s.capacity) s.earlier s.later is.line
@@ -87,17 +78,14 @@ module _ (laws : Laws) (script : List ℕ) (s : Start) (is : IsStartOf script s)
 
   -- what it has handed over
   abbrev its : Handed
-  its = begun (terms s.start s.stop s.quality) (told_by (archive_at s) s)
+  its = handed_at_start (archive_at s) s.start s.stop s.quality
 
   abbrev starts : List Handed
   starts = handed_after step_text (new_world s.capacity) [] s.earlier
 
   -- the published entries are an archive at its line and later
   archive_later : (some : ℕ) → IsArchive (archive_then s (take some s.later))
-  archive_later some =
-      (sound_after (world_laws laws) (world_at s) (take some s.later)
-      (sound_after (world_laws laws) (new_world s.capacity) s.earlier
-      (record { archive = refl; settled = refl }))).archive
+  archive_later some = rw is.says at (answered.archive some)
 
   -- what it has handed over is right then and later
   right_later : (some : ℕ) → IsRight (archive_then s (take some s.later)) its
@@ -106,11 +94,11 @@ module _ (laws : Laws) (script : List ℕ) (s : Start) (is : IsStartOf script s)
       (handed_by starts (desk (world_at s) s.start s.stop s.quality).said) =
       rw is.says at (answered.right some) in
       (subst (AreRight (archive_then s (take some s.later)))
-      (hands_over (world_at s) s.start s.stop s.quality starts is.ordered) all).0
+      (laws.hands (world_at s) s.start s.stop s.quality starts is.ordered) all).0
 
   -- its buffers
   items_are : items_of its.buffers ≡ buffers_of s
-  items_are = items_told (archive_at s) None (buffers_of s)
+  items_are = laws.items (archive_at s) s.start s.stop s.quality
 
   -- the items of all its buffers begin what it is to hand over
   begins : (some : ℕ) → take (length (items_in (buffers_of s)))

@@ -1,22 +1,24 @@
 -- The laws that the headline rests on: of scripts, of deliveries, of buffers, of the octets that
 -- spell them, and of streams.
-use Rattle.std.specs.Prelude.{◌≡◌, ℕ, ◌<◌, ◌&&◌, Bool, IsTrue, IsFalse, List, [], ◌∷◌, ◌++◌}
+use Rattle.std.specs.Prelude.{◌≡◌, ℕ, ◌<◌, ◌≤◌, Bool, IsTrue, IsFalse, List, [], ◌∷◌, ◌++◌}
 use Rattle.std.specs.Prelude.{length, map, take, None}
 use Rattle.std.specs.List.{All, AllByRecursion, list_any, flat_map}
+use Rattle.cds_time.specs.declared.cds.Cds.{Cds}
 use Rattle.ber_core.specs.Spelling.{CanonicalSpells}
 use Rattle.isp1_tml.specs.Message.{Content, IsMessage, spellings}
 use Rattle.isp1_tml.specs.Stream.{IsStream}
 use Rattle.return_pdu.specs.TransferItem.{BuffersAreExact}
 use Rattle.return_pdu.specs.Plain.{FramesArePlain, EndIsPlain, FramesAreShort}
-use Rattle.archive_terms.specs.Archive.{Entry, is_archive, IsArchive, may_follow}
-use Rattle.archive_terms.specs.Selection.{Selection, picked, is_stop_closed}
+use Rattle.archive_terms.specs.Archive.{Entry}
+use Rattle.archive_terms.specs.Selection.{is_stop_closed}
 use Rattle.archive_terms.specs.Delivery.{Item, Terms, is_online, started, entries_of}
 use Rattle.archive_terms.specs.Delivery.{archived_items, all_items, end_of_data, is_end_of_data}
 use Rattle.archive_terms.specs.Delivery.{IsBuffer, cut, offline_buffers}
-use Rattle.archive_terms.specs.Rounds.{to_hand_over, free_round, picked_at, outcomes}
-use Rattle.archive_terms.specs.Rounds.{handed_buffers}
-use Rattle.archive_terms.specs.Continuity.{told_buffers}
-use Rattle.station_law.specs.State.{start as new_world}
+use Rattle.archive_terms.specs.Rounds.{free_round, picked_at, outcomes, handed_buffers}
+use Rattle.station_law.specs.State.{State, moment, start as new_world}
+use Rattle.station_law.specs.Said.{Handed, handed_by}
+use Rattle.station_law.specs.Sound.{items_of}
+use Rattle.station_law.specs.Desk.{desk, desk_buffers, handed_at_start}
 use Rattle.station_law.specs.Lines.{step_text}
 use Rattle.station_law.specs.Runs.{Headline}
 
@@ -41,14 +43,13 @@ pub record Laws : Type 0 where
       (is_stop_closed t.selection (take front entries)))
   pub headline : (capacity : ℕ) (lines : List (List ℕ))
       → Headline step_text (new_world capacity) lines
-  pub grows : (a : List Entry) (e : Entry) → is_archive (a ++ e ∷ [])
-      ≡ (is_archive a && may_follow a e)
-  pub stays : (t : Terms) (a b : List Entry) (items : List Item) → IsArchive (a ++ b)
-      → take (length items) (to_hand_over t a) ≡ items
-      → take (length items) (to_hand_over t (a ++ b)) ≡ items
-  pub told_stays : (size : ℕ) (a b : List Entry) (s : Selection) (closed : Bool)
-      → let buffers = offline_buffers size (picked a s) closed in
-      told_buffers (a ++ b) None buffers ≡ told_buffers a None buffers
+  pub hands : (state : State) (start stop : Cds) (quality : ℕ) (starts : List Handed)
+      → moment start ≤ moment stop
+      → handed_by starts (desk state start stop quality).said
+      ≡ handed_at_start state.published start stop quality ∷ starts
+  pub items : (entries : List Entry) (start stop : Cds) (quality : ℕ)
+      → items_of (handed_at_start entries start stop quality).buffers
+      ≡ desk_buffers entries start stop quality
   pub cuts : CutsAreBuffers
   pub short : FramesAreShort
   pub plain : FramesArePlain

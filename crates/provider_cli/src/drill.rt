@@ -14,15 +14,14 @@ use crate::put::put_line;
 use crate::run::run_script;
 use crate::status::Status;
 use archive_terms::laws::{
-    archive_grows, continuity_stays, cut_into_buffers, handed_over_stays_a_prefix,
-    offline_buffers_hold_a_prefix, offline_rounds, prefix_of_all_items,
+    cut_into_buffers, offline_buffers_hold_a_prefix, offline_rounds, prefix_of_all_items,
 };
 use ber_core::laws::canonical_spells;
 use isp1_tml::laws::spelled_is_read;
 use octet_core::{Sink, Source};
 use return_pdu::laws::{buffers_are_exact, end_is_plain, frames_are_plain, frames_are_short};
 use station_law::Stop;
-use station_law::laws::headline_law;
+use station_law::laws::{a_start_hands_over, headline_law};
 use std::alloc::{AllocError, Global};
 
 /// The most octets that a script may have.
@@ -82,9 +81,7 @@ fn laws()
     ensures { Laws }
 {
     headline_law();
-    archive_grows();
-    handed_over_stays_a_prefix();
-    continuity_stays();
+    a_start_hands_over();
     offline_rounds();
     offline_buffers_hold_a_prefix();
     prefix_of_all_items();

@@ -8,7 +8,7 @@ use Rattle.archive_terms.specs.Delivery.{Item, Terms, offline, selection_of, off
 use Rattle.archive_terms.specs.Continuity.{told_buffers}
 use Rattle.drill_text.specs.Transcript.{refused}
 use Rattle.station_law.specs.State.{State, moment}
-use Rattle.station_law.specs.Said.{Told, told, begun, handed, Said}
+use Rattle.station_law.specs.Said.{Told, told, begun, handed, Said, Handed}
 use Rattle.station_law.specs.Answer.{Answer, says}
 
 abbrev pub selection : Cds → Cds → ℕ → Selection
@@ -34,6 +34,14 @@ told_desk entries start stop quality =
 abbrev pub said_at_start : List Entry → Cds → Cds → ℕ → List Said
 said_at_start entries start stop quality =
     begun 0 (terms start stop quality) ∷ map (handed 0) (told_desk entries start stop quality)
+
+-- what has been handed over then
+abbrev pub handed_at_start : List Entry → Cds → Cds → ℕ → Handed
+handed_at_start entries start stop quality = record {
+  connection = 0;
+  terms = terms start stop quality;
+  buffers = told_desk entries start stop quality;
+}
 
 -- what a START answers: one whose stop time lies before its start time is refused
 abbrev pub desk : State → Cds → Cds → ℕ → Answer

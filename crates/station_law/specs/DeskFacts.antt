@@ -1,7 +1,7 @@
 -- The facts of a START of the desk.
-use Rattle.std.proofs.Common.{◌≡◌, ℕ, Bool, true, false, nat_lt, if◌then◌else◌, None}
+use Rattle.std.proofs.Common.{◌≡◌, ℕ, ◌≤◌, Bool, true, false, nat_lt, if◌then◌else◌, None}
 use Rattle.std.proofs.Common.{List, [], ◌∷◌, ◌++◌, length, map, take, refl, sym, ap, ◌∙◌}
-use Rattle.std.proofs.Common.{append_assoc, Option}
+use Rattle.std.proofs.Common.{append_assoc, Option, arith}
 use Rattle.std.proofs.lemmas.List.{append-nil}
 use Rattle.std.specs.List.{flat_map}
 use Rattle.cds_time.specs.declared.cds.Cds.{Cds}
@@ -17,6 +17,7 @@ use Rattle.station_law.specs.Answer.{says}
 use Rattle.station_law.specs.Sound.{IsSound, IsRight, items_of, Keeps}
 use Rattle.station_law.specs.EntriesFacts.{leaves_all}
 use Rattle.station_law.specs.Desk.{selection, terms, desk_buffers, told_desk, said_at_start, desk}
+use Rattle.station_law.specs.Desk.{handed_at_start}
 
 -- The laws of what is handed over: buffers hold a prefix of what their START is to hand over; that
 -- stays a prefix as the archive grows; and so stays what is told of it.
@@ -37,7 +38,7 @@ items_with : (entries : List Entry) (before : Option ℕ) (items : List Item)
 items_with entries before [] = refl
 items_with entries before (item ∷ items) = ap (λ xs. item ∷ xs) (items_with entries _ items)
 
-items_told : (entries : List Entry) (before : Option ℕ) (buffers : List (List Item))
+pub items_told : (entries : List Entry) (before : Option ℕ) (buffers : List (List Item))
     → items_of (told_buffers entries before buffers) ≡ buffers
 items_told entries before [] = refl
 items_told entries before (buffer ∷ buffers) =
@@ -57,13 +58,21 @@ hands_more t some (one ∷ more) earlier =
     ∙ ap (λ bs. record { connection = 0; terms = t; buffers = bs } ∷ earlier)
     (append_assoc some (one ∷ []) more)
 
+not_before : (a b : ℕ) → a ≤ b → nat_lt b a ≡ false
+not_before a b le = grind arith
+
+-- a START that isn't refused is the last one then, with all that it hands over
+pub hands_over : (state : State) (start stop : Cds) (quality : ℕ) (starts : List Handed)
+    → moment start ≤ moment stop
+    → handed_by starts (desk state start stop quality).said
+    ≡ handed_at_start state.published start stop quality ∷ starts
+hands_over state start stop quality starts ordered =
+    rw (not_before (moment start) (moment stop) ordered)
+    (hands_more (terms start stop quality) [] (told_desk state.published start stop quality) starts)
+
 module _ (laws : Delivers) (state : State) (start stop : Cds) (quality : ℕ) where
   began : Handed
-  began = record {
-    connection = 0;
-    terms = terms start stop quality;
-    buffers = told_desk state.published start stop quality;
-  }
+  began = handed_at_start state.published start stop quality
 
   items_are : items_of (told_desk state.published start stop quality)
       ≡ desk_buffers state.published start stop quality

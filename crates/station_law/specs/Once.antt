@@ -184,6 +184,9 @@ module _ {L : Type 0} (step : State → L → Answer) (lawful : IsLawful step) w
       let begun : Course = record { found = first.published; given = [] } in
       record {
         text = split 1 first earlier (line ∷ later) good;
+        archive = λ some.
+            (stands (step before line).next (handed_by starts (step before line).said)
+            (take some later) one.sound (one.right starts here.right)).sound.archive;
         right = λ some.
             let then = stands (step before line).next (handed_by starts (step before line).said)
             (take some later) one.sound (one.right starts here.right) in

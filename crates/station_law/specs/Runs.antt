@@ -2,7 +2,7 @@
 use Rattle.std.specs.Prelude.{◌≡◌, ℕ, ◌+◌, Bool, true, false, ◌&&◌, IsTrue}
 use Rattle.std.specs.Prelude.{List, [], ◌∷◌, ◌++◌, length, take, codes}
 use Rattle.std.specs.Fmt.{decimal}
-use Rattle.archive_terms.specs.Archive.{Entry}
+use Rattle.archive_terms.specs.Archive.{Entry, IsArchive}
 use Rattle.station_law.specs.declared.step_done.StepDone.{StepDone}
 use Rattle.station_law.specs.declared.step_done.StepDone.TheVariants.{Fine, Full, WrongState}
 use Rattle.station_law.specs.State.{State}
@@ -116,12 +116,15 @@ pub record IsFound (course : Course) (before answer_given found : List Entry) : 
   pub is : found ≡ course.found ++ take count (course.given ++ answer_given)
 
 -- What is promised of a line that stands in a script behind others in order, with the world before
--- it and its answer: where its text stands; what each START has handed over up to it is right then
--- and after any first few of the later lines; and what it found, where it recovers the archive.
+-- it and its answer: where its text stands; what is published is an archive then and after any first
+-- few of the later lines, and what each START has handed over up to it is right for it; and what it
+-- found, where it recovers the archive.
 pub record IsAnswered {L : Type 0} (step : State → L → Answer) (first : State)
     (earlier later : List L) (line : L) : Type 0 where
   pub text : transcript step first (earlier ++ line ∷ later) ≡ transcript step first earlier
       ++ transcript_from step (length earlier + 1) (after step first earlier) (line ∷ later)
+  pub archive : (some : ℕ) → IsArchive
+      (after step (step (after step first earlier) line).next (take some later)).published
   pub right : (some : ℕ) → AreRight
       (after step (step (after step first earlier) line).next (take some later)).published
       (handed_by (handed_after step first [] earlier)

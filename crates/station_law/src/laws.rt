@@ -1,16 +1,21 @@
 // The promises of every script, each the contract of an empty function: a caller has it by the
 // call. They follow from the facts of each line alone.
-ghost use Rattle.std.specs.Prelude.{◌≡◌, ℕ, List};
+ghost use Rattle.std.specs.Prelude.{◌≡◌, ℕ, ◌≤◌, List, ◌∷◌};
+ghost use Rattle.cds_time.specs.declared.cds.Cds.{Cds};
 ghost use Rattle.drill_text.specs.declared.script_line.ScriptLine.{ScriptLine};
-ghost use Rattle.station_law.specs.State.{start};
+ghost use Rattle.station_law.specs.State.{State, start, moment};
+ghost use Rattle.station_law.specs.Said.{Handed, handed_by};
+ghost use Rattle.station_law.specs.Desk.{desk, desk_buffers, handed_at_start};
+ghost use Rattle.station_law.specs.Sound.{items_of};
+ghost use Rattle.archive_terms.specs.Archive.{Entry};
 ghost use Rattle.station_law.specs.Runs.{Headline, ending, ending_of, in_order, all_fine};
 ghost use Rattle.station_law.specs.Lines.{step, step_text};
 ghost use Rattle.station_law.specs.LinesFacts.{Laws};
 
 /// The headline: at each line of a script, behind others that are in order, its text stands between
-/// theirs and that of the later lines; what each START has handed over up to it is right for the
-/// archive then and after any further lines; and where it recovers the archive, it finds all that
-/// was acknowledged, and of the rest what was given first.
+/// theirs and that of the later lines; what is published is an archive then and after any further
+/// lines, and what each START has handed over up to it is right for it; and where it recovers the
+/// archive, it finds all that was acknowledged, and of the rest what was given first.
 pub fn headline_law()
     ensures lines { (capacity : ℕ) (lines : List ScriptLine)
         → Headline step (start capacity) lines }
@@ -19,6 +24,18 @@ pub fn headline_law()
 {
     lines_rest_on();
 }
+
+/// A START of the desk that isn't refused is the last one behind its line, with the buffers of its
+/// definition.
+pub fn a_start_hands_over()
+    ensures last { (state : State) (first last : Cds) (quality : ℕ) (starts : List Handed)
+        → moment first ≤ moment last
+        → handed_by starts (desk state first last quality).said
+        ≡ handed_at_start state.published first last quality ∷ starts }
+    ensures buffers { (entries : List Entry) (first last : Cds) (quality : ℕ)
+        → items_of (handed_at_start entries first last quality).buffers
+        ≡ desk_buffers entries first last quality }
+{}
 
 /// How a script ends: with a bad line exactly where one is in no right state or outside the
 /// grammar, else with an entry refused as Full exactly where one was, else with all done.
