@@ -1,10 +1,9 @@
 -- Each block that was made is handed over once.
 use Rattle.std.proofs.Common.{◌≡◌, ℕ, ◌≤◌, Bool, true, false, not, ◌&&◌, ◌||◌, if◌then◌else◌}
 use Rattle.std.proofs.Common.{Option}
-use Rattle.std.proofs.Common.{Some, None, List, [], ◌∷◌, ◌++◌, length, refl, sym, ap, subst, ◌∙◌}
+use Rattle.std.proofs.Common.{Some, None, List, [], ◌∷◌, ◌++◌, length, refl, sym, ap, ◌∙◌}
 use Rattle.std.proofs.Common.{append_assoc, arith, ◌==◌}
 use Rattle.std.proofs.lemmas.List.{append-nil}
-use Rattle.std.specs.Prelude.{is_some}
 use Rattle.octet_core.specs.declared.offer.Offer.{Offer}
 use Rattle.octet_core.specs.declared.offer.Offer.TheVariants.{Whole, Stalled, Failed as Refused}
 use Rattle.link_model.specs.declared.call.Call.{Call}
@@ -13,8 +12,6 @@ use Rattle.link_model.specs.declared.call.Heard.TheVariants.{Arrived, Nothing, C
 use Rattle.link_model.specs.Calls.{blocks_in}
 use Rattle.station_config.specs.declared.site.Site.{Site}
 use Rattle.cltu_queue.specs.declared.book_reply.BookReply.{BookReply}
-use Rattle.session_core.specs.declared.arrival.Arrival.{Arrival}
-use Rattle.session_core.specs.declared.arrival.Arrival.TheVariants.{Blocked}
 use Rattle.session_core.specs.declared.course.Course.{Course}
 use Rattle.session_core.specs.declared.course.Course.TheVariants.{Going, Closing as ClosingWith}
 use Rattle.session_core.specs.declared.course.Course.TheVariants.{Over, LinkFailed}
@@ -22,18 +19,18 @@ use Rattle.session_core.specs.declared.standing.Standing.{Standing}
 use Rattle.session_core.specs.Numbers.{communications_failure}
 use Rattle.session_core.specs.Course.{is_going, is_live, is_blocked}
 use Rattle.session_core.specs.Handling.{aborted}
-use Rattle.session_core.specs.Steps.{Next, has_message, has_block, round_begun, waits, may_poll}
+use Rattle.session_core.specs.Steps.{Next, has_message, has_block, round_begun, waits}
 use Rattle.session_core.specs.Steps.{at_moment, is_idle, pulse_of, is_dead, is_due, timed}
-use Rattle.session_core.specs.Steps.{with_heartbeat, after_step, course_at_end, may_speak}
+use Rattle.session_core.specs.Steps.{with_heartbeat, after_step, course_at_end}
 use Rattle.session_core.specs.Session.{State, Round, Told, at_first, next_of, cleared, listened}
 use Rattle.session_core.specs.Session.{stepped, standing_heard, Listens, Speaks, offer_calls}
 use Rattle.session_core.specs.Session.{poll_calls, listen_calls, poll_space, speak_calls}
 use Rattle.session_core.specs.Session.{spoken_state, before_step, before_speak, after_round}
 use Rattle.session_core.specs.Session.{after_rounds, IsRound, AreRounds, round_calls, session_calls}
-use Rattle.session_core.specs.Laws.{waiting, round_blocks, session_blocks, AreHandedOnce}
+use Rattle.session_core.specs.Laws.{waiting, round_blocks, session_blocks}
 use Rattle.session_core.specs.Laws.{EachBlockOnce}
-use Rattle.session_core.proofs.Tests.{and_false, none_of, Both, both_of, not_second}
-use Rattle.session_core.proofs.Ends.{IsStill, still_course, idle_acts_not}
+use Rattle.session_core.proofs.Truths.{and_false, none_of, both_of, not_second}
+use Rattle.session_core.proofs.Ends.{still_course, idle_acts_not}
 use Rattle.isp1_tml.specs.Message.{heartbeat, spelling}
 
 abbrev Blocks : Type 0
@@ -215,9 +212,9 @@ step_blocks t u = if is_live t.course && not (is_blocked t.arrival) then waiting
 
 no_more_heartbeat : (v : Standing) → has_block v ≡ true → with_heartbeat v ≡ v
 no_more_heartbeat v e =
-    ap (λ (has : Bool). if (is_live v.course && not has) && is_due (pulse_of v) v.now
+    ap (λ (has : Bool). if (is_live v.course && not has) && is_due (pulse_of v) v.moment
     then record v { block = spelling heartbeat } else v) e
-    ∙ ap (λ (b : Bool). if b && is_due (pulse_of v) v.now
+    ∙ ap (λ (b : Bool). if b && is_due (pulse_of v) v.moment
     then record v { block = spelling heartbeat } else v) (and_false (is_live v.course))
 
 stuck_times : (v : Standing) (dead : Bool) → has_block v ≡ true
@@ -236,7 +233,7 @@ stuck_step site t next now reply stuck has live =
     let same : after_step site t next now reply ≡ with_heartbeat (timed v) =
     ap (λ (x : Standing). with_heartbeat (timed x)) (idle_acts_not site v next reply idle) in
     ap (λ (x : Standing). x.block) same
-    ∙ stuck_times v (is_live v.course && is_dead (pulse_of v) v.now) has
+    ∙ stuck_times v (is_live v.course && is_dead (pulse_of v) v.moment) has
     (sym (ap (λ (x : Standing). is_live x.course) same) ∙ live)
 
 stuck_stepped : (site : Site) (s : State) (told : Option Told)

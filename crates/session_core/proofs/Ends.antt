@@ -1,7 +1,6 @@
 -- A session that ended, or whose link failed, stays so and calls its link no more.
 use Rattle.std.proofs.Common.{◌≡◌, ℕ, Bool, true, false, not, ◌&&◌, ◌||◌, if◌then◌else◌, Option}
-use Rattle.std.proofs.Common.{Some, None, List, [], ◌∷◌, ◌++◌, refl, sym, ap, subst, ◌∙◌}
-use Rattle.std.specs.Prelude.{is_some}
+use Rattle.std.proofs.Common.{Some, None, List, [], ◌∷◌, ◌++◌, refl, ap, ◌∙◌}
 use Rattle.octet_core.specs.declared.offer.Offer.{Offer}
 use Rattle.link_model.specs.declared.call.Call.{Call}
 use Rattle.link_model.specs.declared.call.Heard.{Heard}
@@ -16,17 +15,17 @@ use Rattle.session_core.specs.declared.standing.Standing.{Standing}
 use Rattle.session_core.specs.Numbers.{communications_failure}
 use Rattle.session_core.specs.Course.{is_going, is_live, is_over, is_blocked}
 use Rattle.session_core.specs.Handling.{aborted}
-use Rattle.session_core.specs.Steps.{Next, has_message, has_block, round_begun, may_poll, at_moment}
+use Rattle.session_core.specs.Steps.{Next, has_message, has_block, may_poll, at_moment}
 use Rattle.session_core.specs.Steps.{is_idle, with_next, acted, pulse_of, is_dead, is_due, timed}
 use Rattle.session_core.specs.Steps.{with_heartbeat, after_step, course_at_end}
 use Rattle.isp1_tml.specs.Message.{heartbeat, spelling}
 use Rattle.session_core.specs.Session.{State, Round, Told, next_of, cleared, listened, stepped}
-use Rattle.session_core.specs.Session.{before_step, before_speak, after_round, after_rounds}
+use Rattle.session_core.specs.Session.{before_step, before_speak, after_round}
 use Rattle.session_core.specs.Session.{IsRound}
-use Rattle.session_core.specs.Session.{AreRounds, round_calls, round_events, session_calls}
+use Rattle.session_core.specs.Session.{round_calls, round_events, session_calls}
 use Rattle.session_core.specs.Session.{session_events, spoken_of}
-use Rattle.session_core.specs.Laws.{RepeatEnd, EndsRepeat, LeaveLink, FaultsRepeat}
-use Rattle.session_core.proofs.Tests.{or_true, none_of}
+use Rattle.session_core.specs.Laws.{EndsRepeat, FaultsRepeat}
+use Rattle.session_core.proofs.Truths.{or_true, none_of}
 
 -- a round with these answers
 abbrev pub made : Option Offer → Option Heard → Option Told → Option Offer → Round
@@ -79,12 +78,12 @@ still_is_idle s still =
 
 still_times_not : (s : Standing) → IsStill s.course → timed s ≡ s
 still_times_not s still =
-    ap (λ (live : Bool). if live && is_dead (pulse_of s) s.now
+    ap (λ (live : Bool). if live && is_dead (pulse_of s) s.moment
     then aborted s communications_failure else s) still
 
 pub still_beats_not : (s : Standing) → IsStill s.course → with_heartbeat s ≡ s
 still_beats_not s still =
-    ap (λ (live : Bool). if (live && not (has_block s)) && is_due (pulse_of s) s.now
+    ap (λ (live : Bool). if (live && not (has_block s)) && is_due (pulse_of s) s.moment
     then record s { block = spelling heartbeat } else s) still
 
 pub still_step : (site : Site) (s : Standing) (next : Next) (now : ℕ) (reply : BookReply)

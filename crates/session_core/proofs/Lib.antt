@@ -1,5 +1,12 @@
-mod Tests
+mod Truths
 mod Messages
 mod Ends
 mod One
 mod Blocks
+mod Streams
+mod Rounds
+mod Sound
+mod Listed
+mod Fits
+mod Asks
+mod Advance

@@ -3,12 +3,12 @@ use Rattle.std.proofs.Common.{◌≡◌, ℕ, zero, suc, ◌+◌, ◌<◌, Bool,
 use Rattle.std.proofs.Common.{Option, Some, None, List, [], ◌∷◌, ◌++◌, length, refl, sym, ap, subst}
 use Rattle.std.proofs.Common.{◌∙◌, append_assoc, arith}
 use Rattle.std.proofs.lemmas.List.{append-nil, length-append}
-use Rattle.std.specs.Prelude.{slice_get, slice_index, is_some}
+use Rattle.std.specs.Prelude.{slice_get, slice_index}
 use Rattle.octet_core.specs.declared.offer.Offer.{Offer}
 use Rattle.isp1_tml.specs.declared.tml_fault.TmlFault.{TmlFault}
 use Rattle.isp1_tml.specs.Message.{Content}
 use Rattle.isp1_tml.specs.Stream.{IsStream}
-use Rattle.isp1_tml.specs.Reading.{Reading, reading, IsRead}
+use Rattle.isp1_tml.specs.Reading.{reading, IsRead}
 use Rattle.link_model.specs.declared.call.Call.{Call}
 use Rattle.link_model.specs.declared.call.Heard.{Heard}
 use Rattle.link_model.specs.declared.call.Heard.TheVariants.{Arrived, Nothing, Closed, Failed}
@@ -22,13 +22,13 @@ use Rattle.session_core.specs.declared.standing.Standing.{Standing}
 use Rattle.session_core.specs.Course.{is_going, is_over, is_blocked}
 use Rattle.session_core.specs.Steps.{Next, has_message, is_idle, handles}
 use Rattle.session_core.specs.Session.{State, Round, Told, at_first, next_by, next_of, listened}
-use Rattle.session_core.specs.Session.{counted, stepped, spoken_state, before_step, before_speak}
+use Rattle.session_core.specs.Session.{counted, stepped, before_step, before_speak}
 use Rattle.session_core.specs.Session.{after_round, after_rounds, AreRounds, IsHeard, AreOctets}
 use Rattle.session_core.specs.Session.{Asks, poll_space, offer_calls, poll_calls, listen_calls}
 use Rattle.session_core.specs.Session.{speak_calls, round_calls, session_calls, came_with}
-use Rattle.session_core.specs.Laws.{message_in, messages_by, round_messages, session_messages}
-use Rattle.session_core.specs.Laws.{AreFirst, HandledInOrder}
-use Rattle.session_core.proofs.Tests.{or_true}
+use Rattle.session_core.specs.Laws.{messages_by, round_messages, session_messages}
+use Rattle.session_core.specs.Laws.{HandledInOrder}
+use Rattle.session_core.proofs.Truths.{or_true}
 
 -- ---- what the layers below promise
 

@@ -13,17 +13,16 @@ use Rattle.station_book.specs.State.{Event, Answer, Call as BookCall, Reply, ans
 use Rattle.session_core.specs.declared.course.Course.{Course}
 use Rattle.session_core.specs.declared.course.Course.TheVariants.{Over}
 use Rattle.session_core.specs.declared.ended.Ended.{Ended}
-use Rattle.session_core.specs.declared.spoken.Spoken.{Spoken}
 use Rattle.session_core.specs.declared.standing.Standing.{Standing}
 use Rattle.session_core.specs.Course.{is_over}
-use Rattle.session_core.specs.Steps.{may_poll, may_speak, round_begun, after_wait, after_poll}
-use Rattle.session_core.specs.Session.{State, Round, Told, next_of, cleared, listened, stepped}
+use Rattle.session_core.specs.Steps.{may_poll, may_speak, round_begun}
+use Rattle.session_core.specs.Session.{State, Round, Told, next_of, cleared, listened}
 use Rattle.session_core.specs.Session.{standing_waited, standing_heard, before_step, before_speak}
 use Rattle.session_core.specs.Session.{after_round, IsRound, AreRounds, event_of, step_events}
 use Rattle.session_core.specs.Session.{round_calls, round_events, session_calls, session_events}
 use Rattle.session_core.specs.Session.{session_end, spoken_of}
-use Rattle.session_core.specs.Laws.{LinkAnswer, to_poll, to_offer, offer_answers, poll_answers}
-use Rattle.session_core.specs.Laws.{session_answers, RepeatEnd, DoSame, OneSession}
+use Rattle.session_core.specs.Laws.{LinkAnswer, offer_answers, poll_answers}
+use Rattle.session_core.specs.Laws.{session_answers, RepeatEnd, OneSession}
 use Rattle.session_core.proofs.Ends.{made, ends_repeat}
 
 -- ---- a session that asks nothing has ended

@@ -3,7 +3,7 @@ use Rattle.std.specs.Prelude.{Bool, true, false}
 use Rattle.session_core.specs.declared.arrival.Arrival.{Arrival}
 use Rattle.session_core.specs.declared.arrival.Arrival.TheVariants.{Blocked, Octets, Closed}
 use Rattle.session_core.specs.declared.course.Course.{Course}
-use Rattle.session_core.specs.declared.course.Course.TheVariants.{Going, Closing, Over, LinkFailed}
+use Rattle.session_core.specs.declared.course.Course.TheVariants.{Going, Closing, Over}
 
 -- it handles messages
 abbrev pub is_going : Course → Bool

@@ -1,6 +1,6 @@
 -- What a message asks the book, and what it leads to once the book has replied.
 use Rattle.std.specs.Prelude.{ℕ, ℤ, pos, Bool, true, false, ◌&&◌, ◌||◌, ◌==◌, nat_le}
-use Rattle.std.specs.Prelude.{if◌then◌else◌, Option, None, unwrap_or, List, [], slice_get}
+use Rattle.std.specs.Prelude.{if◌then◌else◌, Option, None, unwrap_or, [], slice_get}
 use Rattle.std.specs.Prelude.{Result, Ok, Err}
 use Rattle.std.specs.Option.{option_map_or}
 use Rattle.bind_pdu.specs.Binding.{BindContent}
@@ -9,7 +9,6 @@ use Rattle.station_config.specs.Validity.{is_forward}
 use Rattle.station_config.specs.declared.peer.Peer.{Peer}
 use Rattle.station_config.specs.declared.site.Site.{Site}
 use Rattle.assoc_core.specs.declared.bind_fault.BindFault.{BindFault}
-use Rattle.assoc_core.specs.declared.bind_fault.BindFault.TheVariants.{AccessDenied}
 use Rattle.assoc_core.specs.declared.outcome.Outcome.{Outcome}
 use Rattle.assoc_core.specs.declared.outcome.Outcome.TheVariants as outcome
 use Rattle.assoc_core.specs.declared.step.Step.{Step}
@@ -65,11 +64,6 @@ passed_ask site (bind b) = bind_ask (bind_judged site b)
 passed_ask site (unbind u) = ask.Unbind
 passed_ask site _ = ask.Nothing
 
--- the place of the instance of a BIND that passed
-abbrev pub said_place : Site → Said → Step → Result ℕ BindFault
-said_place site (bind b) Pass = bind_judged site b
-said_place site _ _ = Err AccessDenied
-
 abbrev pub said_ask : Site → Said → Step → Ask
 said_ask site said Pass = passed_ask site said
 said_ask site said _ = ask.Nothing
@@ -108,10 +102,11 @@ abbrev pub is_forward_at : Site → ℕ → Bool
 is_forward_at site place =
     option_map_or (λ instance. is_forward instance.service) (slice_get site.instances place) false
 
-abbrev pub bind_outcome : Site → BindContent → Result ℕ BindFault → BookReply → Outcome
-bind_outcome site b (Ok place) Bound =
-    outcome.Bound (unwrap_or (place_of b.initiator site.peers) 0) (is_forward_at site place)
-bind_outcome site b _ _ = outcome.Kept
+-- what a BIND of a peer at this place led to
+abbrev pub bind_outcome : Site → Option ℕ → Result ℕ BindFault → BookReply → Outcome
+bind_outcome site peer (Ok place) Bound =
+    outcome.Bound (unwrap_or peer 0) (is_forward_at site place)
+bind_outcome site peer _ _ = outcome.Kept
 
 -- the return of a BIND that passed is the round's block
 abbrev pub with_bind : Site → Standing → BindContent → BookReply → Standing
@@ -119,10 +114,12 @@ with_bind site s b reply =
     let peer : Option Peer = sender site.peers s.association kind.bind b.initiator in
     let judged = bind_judged site b in
     record s {
-      association = moved s.association (bind_outcome site b judged reply);
+      association =
+          moved s.association
+          (bind_outcome site (place_of b.initiator site.peers) judged reply);
       numbers = number_after peer kind.bind s.numbers;
       block =
-          bind_return_message site (own_credentials site peer kind.bind s.numbers s.now)
+          bind_return_message site (own_credentials site peer kind.bind s.numbers s.moment)
           (bind_result b judged reply);
     }
 
@@ -144,7 +141,7 @@ with_unbind site s =
       association = moved s.association outcome.Unbound;
       course = Closing ended.Unbound;
       numbers = number_after peer kind.unbind s.numbers;
-      block = unbind_return_message (own_credentials site peer kind.unbind s.numbers s.now);
+      block = unbind_return_message (own_credentials site peer kind.unbind s.numbers s.moment);
     }
 
 -- ---- what a message leads to

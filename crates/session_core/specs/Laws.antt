@@ -1,6 +1,6 @@
 -- What holds of every session.
 use Rattle.std.specs.Prelude.{◌≡◌, ℕ, ◌≤◌, Bool, true, false, not, ◌&&◌, if◌then◌else◌, Option}
-use Rattle.std.specs.Prelude.{Some, None, Result, Ok, List, [], ◌∷◌, ◌++◌, length}
+use Rattle.std.specs.Prelude.{Some, None, Ok, List, [], ◌∷◌, ◌++◌, length}
 use Rattle.octet_core.specs.declared.offer.Offer.{Offer}
 use Rattle.isp1_tml.specs.declared.tml_fault.TmlFault.{TmlFault}
 use Rattle.isp1_tml.specs.Message.{Content}

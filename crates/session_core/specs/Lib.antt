@@ -7,3 +7,5 @@ pub mod Handling
 pub mod Steps
 pub mod Session
 pub mod Laws
+pub mod Kept
+pub mod Lists

@@ -1,5 +1,5 @@
 -- What a user's message says, in a state of the association, and whether it passes.
-use Rattle.std.specs.Prelude.{ℕ, List, [], Option, Some, None, Result, Ok, Err}
+use Rattle.std.specs.Prelude.{ℕ, List, [], Option, None, Result, Ok, Err}
 use Rattle.ber_core.specs.declared.fault.BerFault.{BerFault}
 use Rattle.ber_shape.specs.Exact.{whole}
 use Rattle.isp1_tml.specs.Message.{Content, pdu}

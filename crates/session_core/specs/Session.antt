@@ -2,7 +2,7 @@
 -- answers of the link and of the book. It speaks of the whole stream that arrived and of the number
 -- of messages handled.
 use Rattle.std.specs.Prelude.{◌≡◌, ℕ, ◌+◌, ◌-◌, ◌<◌, ◌≤◌, min, Bool, true, false, not, Option, Some}
-use Rattle.std.specs.Prelude.{None, is_some, Result, Ok, Err, List, [], ◌∷◌, ◌++◌, length, take}
+use Rattle.std.specs.Prelude.{None, is_some, Ok, Err, List, [], ◌∷◌, ◌++◌, length, take}
 use Rattle.std.specs.Prelude.{slice_get, slice_index}
 use Rattle.octet_core.specs.declared.offer.Offer.{Offer}
 use Rattle.isp1_tml.specs.declared.octet_queue.TheConstants.{CAPACITY}
@@ -46,7 +46,7 @@ begun door draw entered =
       factor = 0;
       sent = entered;
       heard = entered;
-      now = entered;
+      moment = entered;
       numbers = first_number draw door;
       block = [];
       arrival = Nothing;

@@ -1,6 +1,6 @@
 -- The steps of a round, one after the other. Their order is this product's own.
 use Rattle.std.specs.Prelude.{ℕ, ◌-◌, ◌*◌, ◌==◌, nat_le, Bool, true, false, not, ◌&&◌, ◌||◌}
-use Rattle.std.specs.Prelude.{if◌then◌else◌, Option, Some, None, Result, Ok, Err, List, [], ◌++◌}
+use Rattle.std.specs.Prelude.{if◌then◌else◌, Option, Some, None, Result, Ok, Err, []}
 use Rattle.std.specs.Prelude.{length}
 use Rattle.octet_core.specs.declared.offer.Offer.{Offer}
 use Rattle.octet_core.specs.declared.offer.Offer.TheVariants.{Whole, Stalled, Failed as Refused}
@@ -15,14 +15,14 @@ use Rattle.cltu_queue.specs.declared.ask.Ask.TheVariants as ask
 use Rattle.cltu_queue.specs.declared.book_reply.BookReply.{BookReply}
 use Rattle.session_core.specs.declared.arrival.Arrival.TheVariants as arrival
 use Rattle.session_core.specs.declared.course.Course.{Course}
-use Rattle.session_core.specs.declared.course.Course.TheVariants.{Going, Closing as ClosingWith}
+use Rattle.session_core.specs.declared.course.Course.TheVariants.{Closing as ClosingWith}
 use Rattle.session_core.specs.declared.course.Course.TheVariants.{Over, LinkFailed}
 use Rattle.session_core.specs.declared.ended.Ended.TheVariants.{PeerClosed, Broken}
 use Rattle.session_core.specs.declared.standing.Standing.{Standing}
 use Rattle.session_core.specs.Numbers.{communications_failure}
-use Rattle.session_core.specs.Course.{is_going, is_live, is_over, is_blocked, has_arrived}
+use Rattle.session_core.specs.Course.{is_going, is_live, is_blocked, has_arrived}
 use Rattle.session_core.specs.Course.{has_closed}
-use Rattle.session_core.specs.Message.{Said, said_in, judged}
+use Rattle.session_core.specs.Message.{said_in, judged}
 use Rattle.session_core.specs.Handling.{ended_by, aborted, said_ask, after_message}
 
 -- what comes next of the stream: its next message, none yet, or its fault
@@ -56,8 +56,11 @@ after_wait s Refused = record s { course = LinkFailed }
 
 -- the link is polled where the round isn't blocked, no whole message is held and the session isn't
 -- closing
+abbrev pub may_poll_by : Standing → Bool → Bool
+may_poll_by s is_held = is_going s.course && not (is_blocked s.arrival) && not is_held
+
 abbrev pub may_poll : Standing → Next → Bool
-may_poll s next = is_going s.course && not (is_blocked s.arrival) && not (has_message next)
+may_poll s next = may_poll_by s (has_message next)
 
 abbrev pub after_poll : Standing → Heard → Standing
 after_poll s (Arrived _) = record s { arrival = arrival.Octets }
@@ -71,7 +74,7 @@ after_poll s Failed = record s { course = LinkFailed }
 abbrev pub at_moment : Standing → ℕ → Standing
 at_moment s now =
     record s {
-      now = now;
+      moment = now;
       sent = if s.relieved then now else s.sent;
       heard = if has_arrived s.arrival then now else s.heard;
     }
@@ -105,7 +108,7 @@ ask_of site s next now = if is_idle s then idle_ask s else next_ask site s next 
 abbrev pub with_message : Site → Standing → Content → BookReply → Standing
 with_message site s message reply =
     let said = said_in s.association message in
-    after_message site s said (judged site s.association said s.now) reply
+    after_message site s said (judged site s.association said s.moment) reply
 
 -- the stream's fault ends the session; a close ends it once no whole message is held; else at most
 -- one message is handled
@@ -132,13 +135,13 @@ is_due p now = not (p.interval == 0) && nat_le (picos p.interval) (now - p.sent)
 
 abbrev pub timed : Standing → Standing
 timed s =
-    if is_live s.course && is_dead (pulse_of s) s.now
+    if is_live s.course && is_dead (pulse_of s) s.moment
     then aborted s communications_failure else s
 
 -- a heartbeat, where the block is still empty
 abbrev pub with_heartbeat : Standing → Standing
 with_heartbeat s =
-    if is_live s.course && not (has_block s) && is_due (pulse_of s) s.now
+    if is_live s.course && not (has_block s) && is_due (pulse_of s) s.moment
     then record s { block = spelling heartbeat } else s
 
 -- the whole step of a session that hasn't ended, at a moment, where the book replied so
@@ -154,7 +157,7 @@ may_speak s = is_live s.course && has_block s && not (is_blocked s.arrival)
 -- taken whole the block is gone, and sets the moment sent; where it stalls it waits for the next
 -- round
 abbrev pub after_offer : Standing → Offer → Standing
-after_offer s Whole = record s { block = []; sent = s.now }
+after_offer s Whole = record s { block = []; sent = s.moment }
 after_offer s Stalled = s
 after_offer s Refused = record s { course = LinkFailed }
 

@@ -6,15 +6,22 @@
 // step of a round, `specs/Message.antt` and `specs/Handling.antt` what a message says and leads to,
 // `specs/Returns.antt` the returns. The module `laws` has what holds of every list of rounds.
 //
-// In code there are the parts of a session: what a user's message says, and the block that is to be
-// offered. A message of association is decoded in one pass over its octets.
+// `Session` does that, one method for each step. It takes its memory when it is made, and holds no
+// history: the octets that were not handled yet, the space of a poll, and how it stands. A round
+// costs what its octets and its message cost: a message is decoded in one pass, credentials that
+// are asked for cost a digest each, and a BIND goes over the site once.
 #![tactic(auto)]
 
 mod arrival;
+mod bind_places;
 mod block;
 mod course;
 mod ended;
+mod handling;
 pub mod laws;
+mod returns;
+mod session;
+mod signature;
 mod spoken;
 mod standing;
 mod user_message;
@@ -23,5 +30,6 @@ pub use arrival::Arrival;
 pub use block::Block;
 pub use course::Course;
 pub use ended::Ended;
+pub use session::Session;
 pub use spoken::Spoken;
 pub use standing::Standing;

@@ -1,6 +1,6 @@
--- What tests tell.
-use Rattle.std.proofs.Common.{◌≡◌, Bool, true, false, not, ◌&&◌, ◌||◌, Option, Some, None, refl}
-use Rattle.std.specs.Prelude.{is_some}
+-- What truth values tell.
+use Rattle.std.proofs.Common.{◌≡◌, Bool, true, false, ◌&&◌, ◌||◌, Option, Some, None, refl}
+use Rattle.std.specs.Prelude.{is_some, Result, Ok, Err, OnOk}
 
 pub or_true : (b : Bool) → (b || true) ≡ true
 or_true true = refl
@@ -29,3 +29,8 @@ both_of false b e = absurd (cc)
 pub not_second : (a b : Bool) → false ≡ (a && b) → a ≡ true → b ≡ false
 not_second true b e h = cc
 not_second false b e h = absurd (cc)
+
+-- what follows of a fact that holds where an answer is Ok
+pub on_ok : {X E P Q : Type 0} (r : Result X E) → (P → Q) → OnOk r P → OnOk r Q
+on_ok (Ok x) follows h = follows h
+on_ok (Err e) follows h = tt

@@ -1,0 +1,76 @@
+-- What a message asks, by what it is judged by.
+use Rattle.std.proofs.Common.{◌≡◌, ℕ, refl, sym, ap, ◌∙◌}
+use Rattle.isp1_tml.specs.Message.{Content}
+use Rattle.station_config.specs.declared.site.Site.{Site}
+use Rattle.assoc_core.specs.declared.step.Step.{Step}
+use Rattle.assoc_core.specs.declared.step.Step.TheVariants.{Pass, Denied, Abort}
+use Rattle.cltu_queue.specs.declared.ask.Ask.{Ask}
+use Rattle.cltu_queue.specs.declared.book_reply.BookReply.{BookReply}
+use Rattle.station_book.specs.State as book
+use Rattle.station_book.specs.History.{moment_at, reply_of}
+use Rattle.session_core.specs.declared.bind_places.BindPlaces.{BindPlaces}
+use Rattle.session_core.specs.declared.standing.Standing.{Standing}
+use Rattle.session_core.specs.Message.{Said, context, heartbeat, bind, unbind, peer_abort}
+use Rattle.session_core.specs.Message.{undecoded, out_of_place, said_in, judged}
+use Rattle.session_core.specs.Handling.{said_ask, invoked, after_judged}
+use Rattle.session_core.specs.Steps.{message_ask, with_message}
+use Rattle.session_core.specs.Seen.{ask_by, places_of}
+
+pub ask_same : (site : Site) (said : Said) (step : Step)
+    → ask_by said step (places_of site said step).instance ≡ said_ask site said step
+ask_same site (context interval factor) Pass = refl
+ask_same site (context interval factor) Denied = refl
+ask_same site (context interval factor) (Abort code) = refl
+ask_same site heartbeat Pass = refl
+ask_same site heartbeat Denied = refl
+ask_same site heartbeat (Abort code) = refl
+ask_same site (bind b) Pass = refl
+ask_same site (bind b) Denied = refl
+ask_same site (bind b) (Abort code) = refl
+ask_same site (unbind u) Pass = refl
+ask_same site (unbind u) Denied = refl
+ask_same site (unbind u) (Abort code) = refl
+ask_same site (peer_abort diagnostic) Pass = refl
+ask_same site (peer_abort diagnostic) Denied = refl
+ask_same site (peer_abort diagnostic) (Abort code) = refl
+ask_same site undecoded Pass = refl
+ask_same site undecoded Denied = refl
+ask_same site undecoded (Abort code) = refl
+ask_same site out_of_place Pass = refl
+ask_same site out_of_place Denied = refl
+ask_same site out_of_place (Abort code) = refl
+
+-- what the code asks of a message is what the definition does
+pub asked_by_message : (site : Site) (s : Standing) (content : Content) (said : Said) (step : Step)
+    (places : BindPlaces) (ask : Ask) → said ≡ said_in s.association content
+    → step ≡ judged site s.association said s.moment → places ≡ places_of site said step
+    → ask ≡ ask_by said step places.instance → ask ≡ message_ask site s content s.moment
+asked_by_message site s content said step places ask said_so step_so places_so ask_so =
+    ask_so
+    ∙ ap (λ (p : BindPlaces). ask_by said step p.instance) places_so
+    ∙ ask_same site said step
+    ∙ ap (λ (st : Step). said_ask site said st) step_so
+    ∙ ap (λ (x : Said). said_ask site x (judged site s.association x s.moment)) said_so
+
+-- and so is what it leads to
+pub led_by_message : (site : Site) (s t : Standing) (content : Content) (said : Said) (step : Step)
+    (ask : Ask) (reply : BookReply) (door reading : ℕ) (b : book.State)
+    → said ≡ said_in s.association content → step ≡ judged site s.association said s.moment
+    → ask ≡ message_ask site s content s.moment → s.moment ≡ moment_at b reading
+    → reply ≡ reply_of b door (moment_at b reading) ask
+    → t ≡ after_judged site (invoked s said step) said step reply
+    → t ≡ with_message site s content
+    (reply_of b door s.moment (message_ask site s content s.moment))
+led_by_message site s t content said st ask reply door reading b was judged_so ask_so now r is =
+    let replied : reply ≡ reply_of b door s.moment (message_ask site s content s.moment) =
+    r
+    ∙ ap (λ (n : ℕ). reply_of b door n ask) (sym now)
+    ∙ ap (reply_of b door s.moment) ask_so in
+    is
+    ∙ ap (λ (x : Step). after_judged site (invoked s said x) said x reply) judged_so
+    ∙ ap
+    (λ (x : Said).
+    after_judged site (invoked s x (judged site s.association x s.moment)) x
+    (judged site s.association x s.moment) reply)
+    was
+    ∙ ap (λ (r : BookReply). with_message site s content r) replied

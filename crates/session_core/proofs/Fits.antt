@@ -1,0 +1,105 @@
+-- The returns of association fit, and are few octets.
+use Rattle.std.proofs.Common.{◌≡◌, ℕ, pos, negsuc, ◌-◌, ◌^◌, ◌<◌, ◌≤◌, Bool, true, false}
+use Rattle.std.proofs.Common.{◌&&◌}
+use Rattle.std.proofs.Common.{nat_le, nat_lt, if◌then◌else◌}
+use Rattle.std.proofs.Common.{List, [], ◌∷◌, length, refl}
+use Rattle.std.proofs.Common.{sym, ap, ◌∙◌, arith}
+use Rattle.std.proofs.lemmas.Int.{ints}
+use Rattle.std.specs.Int.{w64, to_be_bytes}
+use Rattle.std.specs.List.{list_all}
+use Rattle.ber_core.specs.Integer.{integer_octets}
+use Rattle.ber_core.specs.Length.{shortest_length, long_form, without_zeros}
+use Rattle.ber_core.specs.Tree.{primitive, tree_and, no_trees}
+use Rattle.ber_core.specs.Spelling.{canonical, canonical_all}
+use Rattle.ber_core.specs.Parts.{length-primitive, length-constructed, length-tree_and}
+use Rattle.ber_core.specs.Reading.{is_visible}
+use Rattle.ber_shape.specs.Content.{InRange, IsVisible}
+use Rattle.bind_pdu.specs.Binding.{BindReturnContent, bind_return}
+use Rattle.bind_pdu.specs.Unbinding.{UnbindReturnContent, unbind_return}
+use Rattle.station_config.specs.Validity.{IsName}
+use Rattle.isp1_auth.specs.declared.secret.Secret.{Secret}
+use Rattle.isp1_auth.specs.Digest.{digest}
+use Rattle.isp1_auth.specs.Signed.{signed}
+use Rattle.session_core.proofs.Truths.{both_of}
+
+-- ---- few octets
+
+pub few_bind_return : (r : BindReturnContent) → bind_return.Fits r
+    → length (canonical (bind_return.tree r)) ≤ 4088
+few_bind_return r fits = omega (arith, bind_return.few r fits)
+
+pub few_unbind_return : (r : UnbindReturnContent) → unbind_return.Fits r
+    → length (canonical (unbind_return.tree r)) ≤ 4088
+few_unbind_return r fits = omega (arith, unbind_return.few r fits)
+
+-- ---- credentials have at least 8 octets: each of their four elements has a tag and a length
+
+some_length : (n : ℕ) → 1 ≤ length (shortest_length n)
+unfolding shortest_length
+some_length n = elim (nat_lt n 128) as (λ b.
+    1 ≤ length (if b then n ∷ [] else long_form (without_zeros (to_be_bytes w64 n))))
+    [ true ↦ omega arith | false ↦ omega arith ]
+
+some_primitive : (tag content : List ℕ) → 1 ≤ length tag
+    → 2 ≤ length (canonical (primitive tag content))
+some_primitive tag content one =
+    omega (arith, one, length-primitive tag content, some_length (length content))
+
+pub some_signed : (secret : Secret) (time : List ℕ) (number : ℕ)
+    → 8 ≤ length (signed secret time number)
+some_signed secret time number =
+    let t = primitive (0x04 ∷ []) time in
+    let n = primitive (0x02 ∷ []) (integer_octets (pos number)) in
+    let p = primitive (0x04 ∷ []) (digest secret time number) in
+    let trees = tree_and t (tree_and n (tree_and p no_trees)) in
+    omega (
+      arith,
+      length-constructed (0x30 ∷ []) trees,
+      some_length (length (canonical_all trees)),
+      length-tree_and t (tree_and n (tree_and p no_trees)),
+      length-tree_and n (tree_and p no_trees),
+      length-tree_and p no_trees,
+      some_primitive (0x04 ∷ []) time (omega arith),
+      some_primitive (0x02 ∷ []) (integer_octets (pos number)) (omega arith),
+      some_primitive (0x04 ∷ []) (digest secret time number) (omega arith),
+    )
+
+-- ---- what a return holds fits: a version, a diagnostic, and a name
+
+pub number_fits : (n : ℕ) → n < 2 ^ 16 → InRange (negsuc (2 ^ 63 - 1)) (pos (2 ^ 64 - 1)) (pos n)
+number_fits n small =
+    record {
+      bits = record { least = omega (arith, ints); greatest = omega (arith, ints, small) };
+      least_so = omega (arith, ints);
+      greatest_so = omega (arith, ints, small);
+    }
+
+-- 21 to 7E, as a name's characters are
+abbrev is_graphic : ℕ → Bool
+is_graphic c = nat_le 33 c && nat_le c 126
+
+graphic_visible : (c : ℕ) → is_graphic c ≡ true → is_visible c ≡ true
+graphic_visible c e = grind arith
+
+all_visible : (name : List ℕ) → list_all is_graphic name ≡ true → list_all is_visible name ≡ true
+all_visible [] e = refl
+all_visible (c ∷ name) e =
+    let both = both_of (is_graphic c) (list_all is_graphic name) (sym e) in
+    ap (λ (b : Bool). b && list_all is_visible name) (graphic_visible c both.first)
+    ∙ all_visible name both.second
+
+at_least : (least n : ℕ) → nat_le least n ≡ true → least ≤ n
+at_least least n e = grind arith
+
+pub name_fits : (name : List ℕ) → IsName name → IsVisible 3 16 name
+name_fits name is =
+    let parts = both_of (nat_le 3 (length name) && nat_le (length name) 16)
+    (list_all is_graphic name) (sym is) in
+    let lengths = both_of (nat_le 3 (length name)) (nat_le (length name) 16) (sym parts.first) in
+    record {
+      lengths = record {
+        least_so = at_least 3 (length name) lengths.first;
+        greatest_so = at_least (length name) 16 lengths.second;
+      };
+      visible_all = all_visible name parts.second;
+    }

@@ -1,0 +1,318 @@
+-- The calls of a round, for all states that a session shows.
+use Rattle.std.proofs.Common.{◌≡◌, ℕ, Bool, true, false, not, ◌&&◌, if◌then◌else◌, List, [], ◌∷◌}
+use Rattle.std.proofs.Common.{◌++◌, length, Option, Some, None, refl, sym, ap, subst, ◌∙◌}
+use Rattle.std.proofs.Common.{append_assoc, arith, zero, suc, min, ◌<◌, ◌≤◌, take}
+use Rattle.std.proofs.lemmas.List.{append-nil, length-take}
+use Rattle.ber_core.specs.Length.{IsOctets}
+use Rattle.std.specs.Prelude.{is_some}
+use Rattle.octet_core.specs.declared.offer.Offer.{Offer}
+use Rattle.octet_core.specs.declared.offer.Offer.TheVariants.{Whole, Stalled, Failed as Refused}
+use Rattle.isp1_tml.specs.Message.{Content}
+use Rattle.isp1_tml.specs.Reading.{reading}
+use Rattle.isp1_tml.specs.Feeding.{Feeding, StandsFor, room_of, next_of as next_held}
+use Rattle.link_model.specs.declared.call.Call.{Call}
+use Rattle.link_model.specs.declared.call.Call.TheVariants.{Polled, Offered}
+use Rattle.link_model.specs.declared.call.Heard.{Heard}
+use Rattle.link_model.specs.declared.call.Heard.TheVariants.{Arrived}
+use Rattle.link_model.specs.Calls.{Tells}
+use Rattle.station_config.specs.declared.site.Site.{Site}
+use Rattle.archive_terms.specs.Glimpse.{wants_nothing}
+use Rattle.cltu_queue.specs.declared.ask.Ask.{Ask}
+use Rattle.station_book.specs.State.{Event, answer, answered}
+use Rattle.station_book.specs.State as book
+use Rattle.session_core.specs.declared.standing.Standing.{Standing}
+use Rattle.session_core.specs.Course.{is_going, is_over, is_blocked}
+use Rattle.session_core.specs.Steps.{Next, has_message, round_begun, waits, may_poll, handles}
+use Rattle.session_core.specs.Steps.{may_poll_by, after_wait, after_poll, after_offer}
+use Rattle.session_core.specs.Steps.{is_idle, ask_of, after_step, may_speak, round_ended}
+use Rattle.session_core.specs.Session.{State, Told, next_of, counted, offer_calls, poll_calls}
+use Rattle.session_core.specs.Session.{standing_waited, standing_heard, standing_spoke, cleared}
+use Rattle.session_core.specs.Session.{Asks, stepped, event_of}
+use Rattle.session_core.specs.Session.{step_events, poll_space, IsArrival, IsHeard}
+use Rattle.session_core.specs.Session.{AreOctets}
+use Rattle.session_core.specs.Kept.{Kept, Shows, IsSound, space_of, Waited, PolledOnce, Listened}
+use Rattle.session_core.specs.Kept.{Hears, told_now, told_by, own_events, kept_after, Said, Spoke}
+use Rattle.session_core.proofs.Truths.{both_of}
+use Rattle.session_core.proofs.Streams.{WorkedOut, Gives, next_is, space_is, given_or_not}
+
+pub tells-nil : (a : Option (List Call)) → Tells a a []
+tells-nil None = tt
+tells-nil (Some there) = sym (append-nil there)
+
+pub tells-tells : (a b c : Option (List Call)) (xs ys : List Call) → Tells a b xs → Tells b c ys
+    → Tells a c (xs ++ ys)
+tells-tells a b None xs ys h k = tt
+tells-tells a None (Some now) xs ys h k = absurd k
+tells-tells None (Some mid) (Some now) xs ys h k = absurd h
+tells-tells (Some there) (Some mid) (Some now) xs ys h k =
+    k ∙ ap (λ (z : List Call). z ++ ys) h ∙ append_assoc there xs ys
+
+-- ---- listen
+
+-- a wait doesn't make a session go on
+pub still_going : (s : Standing) (waited : Option Offer)
+    → is_going (standing_waited (round_begun s) waited).course ≡ true
+    → is_going s.course ≡ true
+still_going s None e = e
+still_going s (Some Whole) e = e
+still_going s (Some Stalled) e = e
+still_going s (Some Refused) e = absurd (cc)
+
+-- a session that may poll goes on
+going_polls : (s : Standing) (next : Next) → true ≡ may_poll s next → is_going s.course ≡ true
+going_polls s next e =
+    let free = both_of (is_going s.course && not (is_blocked s.arrival))
+    (not (has_message next)) e in
+    (both_of (is_going s.course) (not (is_blocked s.arrival)) (sym free.first)).first
+
+-- a poll's space is that of the state, where the poll is made
+polled_so : (a b : ℕ) (heard : Option Heard) → (is_some heard ≡ true → a ≡ b)
+    → (poll_calls a heard ≡ poll_calls b heard) × (IsHeard a heard → IsHeard b heard)
+polled_so a b None same = (refl, λ h. h)
+polled_so a b (Some heard) same = (
+  ap (λ (n : ℕ). poll_calls n (Some heard)) (same refl),
+  λ h. subst (λ (n : ℕ). IsHeard n (Some heard)) (same refl) h,
+)
+
+-- listen, of a link that told a, then b, then c
+pub listened_by : WorkedOut → (a b c : Option (List Call)) (old between new : Kept)
+    → Waited a b old between → PolledOnce b c between new → Listened a c old new
+listened_by law a b c old between new w was =
+    let p = subst (λ (v : Kept). PolledOnce b c v new) w.new_is was in
+    let offers = offer_calls old.standing w.waited in
+    let space = space_of old.feeder in
+    let polls : (s : State) → Shows old s
+    → is_some p.heard ≡ may_poll (cleared s w.waited) (next_of s) =
+    λ s h.
+    p.polls
+    ∙ ap
+    (λ (t : Standing).
+    may_poll (standing_waited (round_begun t) w.waited) (next_held old.feeder))
+    h.standing
+    ∙ ap (may_poll (cleared s w.waited)) (next_is law old s h) in
+    let going : (s : State) → Shows old s → is_some p.heard ≡ true
+    → is_going s.standing.course ≡ true =
+    λ s h e.
+    still_going s.standing w.waited
+    (going_polls (cleared s w.waited) (next_of s) (sym e ∙ polls s h)) in
+    let same : (s : State) → Shows old s → IsSound s
+    → (poll_calls space p.heard ≡ poll_calls (poll_space s) p.heard)
+    × (IsHeard space p.heard → IsHeard (poll_space s) p.heard) =
+    λ s h sound.
+    polled_so space (poll_space s) p.heard
+    (λ e. space_is law old s h (sound (going s h e))) in
+    record {
+      waited = w.waited;
+      heard = p.heard;
+      own = offers ++ poll_calls space p.heard;
+      told = tells-tells a b c offers (poll_calls space p.heard) w.told p.told;
+      door = p.door;
+      own_is = λ s h sound.
+          ap (λ (t : Standing). offer_calls t w.waited ++ poll_calls space p.heard) h.standing
+          ∙ ap (λ (calls : List Call). offer_calls s.standing w.waited ++ calls)
+          (same s h sound).0;
+      listens = λ s h sound. record {
+        offers = w.offers ∙ ap waits h.standing;
+        polls = polls s h;
+        arrives = (same s h sound).1 p.arrives;
+      };
+      stands = λ s h. record {
+        standing =
+            p.standing
+            ∙ ap
+            (λ (t : Standing).
+            standing_heard (standing_waited (round_begun t) w.waited) p.heard)
+            h.standing;
+        given = h.given;
+        count = h.count;
+        stands = p.feeder s.came h.given h.stands;
+      };
+    }
+
+-- ---- step
+
+-- the ask by what is kept is the ask by the state
+asked_so : WorkedOut → (site : Site) (v : Kept) (s : State) (now : ℕ) → Shows v s
+    → ask_of site v.standing (next_held v.feeder) now ≡ ask_of site s.standing (next_of s) now
+asked_so law site v s now h =
+    ap (λ (t : Standing). ask_of site t (next_held v.feeder) now) h.standing
+    ∙ ap (λ (next : Next). ask_of site s.standing next now) (next_is law v s h)
+
+asks_unless : (over : Bool) (told : Told)
+    → is_some (if over then None else Some told) ≡ not over
+asks_unless true told = refl
+asks_unless false told = refl
+
+pub asks_by : (site : Site) (v : Kept) (b : book.State) (reading : ℕ) (s : State) → Shows v s
+    → Asks s (told_by site v b reading)
+asks_by site v b reading s h =
+    asks_unless (is_over v.standing.course) (told_now site v b reading)
+    ∙ ap (λ (t : Standing). not (is_over t.course)) h.standing
+
+stands_told : WorkedOut → Gives → (site : Site) (v : Kept) (told : Option Told) (s : State)
+    → Shows v s → Shows (kept_after site v told) (stepped site s told)
+stands_told law gives site v None s h = h
+stands_told law gives site v (Some told) s h =
+    let g = given_or_not gives (is_idle v.standing) v.feeder s.came h.given h.stands in
+    let next : next_held v.feeder ≡ next_of s = next_is law v s h in
+    record {
+      standing =
+          ap
+          (λ (t : Standing).
+          after_step site t (next_held v.feeder) told.moment told.answer.reply)
+          h.standing
+          ∙ ap
+          (λ (n : Next). after_step site s.standing n told.moment told.answer.reply)
+          next;
+      given = g.given;
+      count =
+          g.count
+          ∙ ap (λ (n : ℕ). counted (handles v.standing (next_held v.feeder)) n) h.count
+          ∙ ap
+          (λ (t : Standing). counted (handles t (next_held v.feeder)) s.handled)
+          h.standing
+          ∙ ap (λ (n : Next). counted (handles s.standing n) s.handled) next;
+      stands = g.stands;
+    }
+
+pub stands_by : WorkedOut → Gives → (site : Site) (v : Kept) (b : book.State) (reading : ℕ)
+    (s : State) → Shows v s
+    → Shows (kept_after site v (told_by site v b reading))
+    (stepped site s (told_by site v b reading))
+stands_by law gives site v b reading s h =
+    stands_told law gives site v (told_by site v b reading) s h
+
+events_unless : (site : Site) (door : ℕ) (s : State) (over : Bool) (told : Told) (e : Event)
+    → e ≡ event_of site door s told
+    → (if over then [] else e ∷ []) ≡ step_events site door s (if over then None else Some told)
+events_unless site door s true told e same = refl
+events_unless site door s false told e same = ap (λ (x : Event). x ∷ []) same
+
+-- the event by what is kept is the one by the state
+pub events_by : WorkedOut → (site : Site) (v : Kept) (b : book.State) (reading : ℕ) (s : State)
+    → Shows v s
+    → own_events site v b reading ≡ step_events site v.door s (told_by site v b reading)
+events_by law site v b reading s h =
+    let told = told_now site v b reading in
+    events_unless site v.door s (is_over v.standing.course) told _
+    (ap
+    (λ (ask : Ask).
+    record {
+      call = answer v.door reading ask wants_nothing;
+      moment = told.moment;
+      reply = answered told.answer;
+    })
+    (asked_so law site v s told.moment h))
+
+-- ---- speak
+
+pub spoke_by : (a b : Option (List Call)) (old mid new : Kept) → Said a b old mid
+    → new ≡ record mid { standing = round_ended mid.standing } → Spoke a b old new
+spoke_by a b old mid new w is =
+    let all : new ≡ record old { standing = round_ended (standing_spoke old.standing w.spoke) } =
+    is ∙ ap (λ (v : Kept). record v { standing = round_ended v.standing }) w.new_is in
+    record {
+      spoke = w.spoke;
+      own = offer_calls old.standing w.spoke;
+      told = w.told;
+      door = ap (λ (v : Kept). v.door) all;
+      own_is = λ s h. ap (λ (t : Standing). offer_calls t w.spoke) h.standing;
+      speaks = λ s h. w.offers ∙ ap may_speak h.standing;
+      stands = λ s h. record {
+        standing =
+            ap (λ (v : Kept). v.standing) all
+            ∙ ap (λ (t : Standing). round_ended (standing_spoke t w.spoke)) h.standing;
+        given = h.given;
+        count = h.count;
+        stands =
+            subst (λ (v : Kept). StandsFor v.feeder s.came h.given) (sym all) h.stands;
+      };
+    }
+
+-- ---- of parts of the code
+
+abbrev pub keeping : ℕ → Feeding → Standing → Kept
+keeping door f s = record { door = door; feeder = f; standing = s }
+
+pub waited_by : (a b : Option (List Call)) (door : ℕ) (f : Feeding) (s began after : Standing)
+    (said : Offer) → true ≡ waits s → began ≡ round_begun s
+    → Tells a b (Offered began.block said ∷ []) → after ≡ after_wait began said
+    → Waited a b (keeping door f s) (keeping door f after)
+waited_by a b door f s began after said may e told is = record {
+  waited = Some said;
+  told = subst (λ (t : Standing). Tells a b (Offered t.block said ∷ [])) e told;
+  offers = may;
+  new_is = ap (keeping door f) (is ∙ ap (λ (t : Standing). after_wait t said) e);
+}
+
+pub polled_by : (a b : Option (List Call)) (door : ℕ) (f g : Feeding) (s t : Standing)
+    (is_held : Bool) → Hears a b f g s t → true ≡ may_poll_by s is_held
+    → is_held ≡ has_message (next_held f) → PolledOnce a b (keeping door f s) (keeping door g t)
+polled_by a b door f g s t is_held h may held = record {
+  heard = Some h.heard;
+  told = h.told;
+  polls = may ∙ ap (may_poll_by s) held;
+  arrives = h.arrives;
+  door = refl;
+  standing = h.standing;
+  feeder = h.feeder;
+}
+
+pub said_by : (a b : Option (List Call)) (door : ℕ) (f : Feeding) (s after : Standing)
+    (said : Offer) → true ≡ may_speak s → Tells a b (Offered s.block said ∷ [])
+    → after ≡ after_offer s said → Said a b (keeping door f s) (keeping door f after)
+said_by a b door f s after said may told is = record {
+  spoke = Some said;
+  told = told;
+  offers = may;
+  new_is = ap (keeping door f) is;
+}
+
+-- a poll that heard octets
+pub heard_some : (a b : Option (List Call)) (f g : Feeding) (s t : Standing) (space : ℕ)
+    (octets : List ℕ) → space ≡ space_of f → Tells a b (Polled space (Arrived octets) ∷ [])
+    → IsArrival space octets → t ≡ after_poll s (Arrived octets)
+    → ((came : List ℕ) (given : List Content) → StandsFor f came given
+    → StandsFor g (came ++ octets) given)
+    → Hears a b f g s t
+heard_some a b f g s t space octets same told arrives is feeder = record {
+  heard = Arrived octets;
+  told = subst (λ (n : ℕ). Tells a b (Polled n (Arrived octets) ∷ [])) same told;
+  arrives = subst (λ (n : ℕ). IsArrival n octets) same arrives;
+  standing = is;
+  feeder = feeder;
+}
+
+-- ---- the space and the octets of a poll
+
+pub space_so : (f : Feeding) (room n : ℕ) (space : List ℕ) → n ≡ min room (length space)
+    → room ≡ room_of f → length space ≡ 65536 → length (take n space) ≡ space_of f
+space_so f room n space n_so room_so long =
+    omega (arith, n_so, room_so, long, length-take n space)
+
+pub each_octet : (octets : List ℕ) → IsOctets octets → AreOctets octets
+each_octet [] h i = omega arith
+each_octet (x ∷ octets) h zero = h.0
+each_octet (x ∷ octets) h (suc i) = each_octet octets h.1 i
+
+pub piece_so : (f : Feeding) (room n count : ℕ) (space filled : List ℕ)
+    → n ≡ min room (length space) → room ≡ room_of f → length filled ≡ length (take n space)
+    → 0 < count → count ≤ length (take n space) → length (take count filled) ≤ room_of f
+piece_so f room n count space filled n_so room_so same some few =
+    omega (
+      arith,
+      n_so,
+      room_so,
+      same,
+      few,
+      length-take n space,
+      length-take count filled,
+    )
+
+pub arrival_so : (count size : ℕ) (filled : List ℕ) → length filled ≡ size → 0 < count
+    → count ≤ size → IsOctets (take count filled) → IsArrival size (take count filled)
+arrival_so count size filled same some few octets = record {
+  some = omega (arith, same, some, few, length-take count filled);
+  within = omega (arith, same, few, length-take count filled);
+  each = each_octet (take count filled) octets;
+}

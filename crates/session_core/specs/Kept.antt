@@ -1,0 +1,145 @@
+-- What a session keeps, as contracts see it, and which states it shows.
+use Rattle.std.specs.Prelude.{◌≡◌, ℕ, min, true, if◌then◌else◌, Option, Some, None, is_some, List}
+use Rattle.std.specs.Prelude.{[], ◌∷◌, length}
+use Rattle.octet_core.specs.declared.offer.Offer.{Offer}
+use Rattle.isp1_tml.specs.Message.{Content}
+use Rattle.isp1_tml.specs.Reading.{reading}
+use Rattle.isp1_tml.specs.Feeding.{Feeding, StandsFor, room_of}
+use Rattle.isp1_tml.specs.Feeding.{next_of as next_held, after_next as after_given}
+use Rattle.link_model.specs.declared.call.Call.{Call}
+use Rattle.link_model.specs.declared.call.Heard.{Heard}
+use Rattle.link_model.specs.Calls.{Tells}
+use Rattle.archive_terms.specs.Glimpse.{wants_nothing}
+use Rattle.station_config.specs.declared.site.Site.{Site}
+use Rattle.cltu_queue.specs.declared.ask.Ask.{Ask}
+use Rattle.station_book.specs.State.{Event, answer}
+use Rattle.station_book.specs.State as book
+use Rattle.station_book.specs.History.{moment_at, answer_to, event_at}
+use Rattle.session_core.specs.declared.standing.Standing.{Standing}
+use Rattle.session_core.specs.Course.{is_going, is_over}
+use Rattle.session_core.specs.Numbers.{longest_piece}
+use Rattle.session_core.specs.Steps.{round_begun, waits, may_poll, is_idle, ask_of, after_step}
+use Rattle.session_core.specs.Steps.{may_speak}
+use Rattle.session_core.specs.Session.{State, Told, IsHeard, Listens, Speaks, offer_calls}
+use Rattle.session_core.specs.Session.{poll_calls}
+use Rattle.session_core.specs.Session.{listen_calls, speak_calls, standing_waited, standing_heard}
+use Rattle.session_core.specs.Session.{standing_spoke, came_with, listened, spoken_state}
+
+-- the number of its door, what its feeder holds, and how it stands
+pub record Kept : Type 0 where
+  pub door : ℕ
+  pub feeder : Feeding
+  pub standing : Standing
+
+-- The session has come to this state: of these octets it was given so many messages.
+pub record Shows (v : Kept) (s : State) : Type 0 where
+  pub standing : v.standing ≡ s.standing
+  pub given : List Content
+  pub count : length given ≡ s.handled
+  pub stands : StandsFor v.feeder s.came given
+
+-- where a round begins and the session goes on, its stream has no fault
+abbrev pub IsSound : State → Type 0
+IsSound s = is_going s.standing.course ≡ true → (reading 0 s.came).fault ≡ None
+
+-- ---- listen, from a link that told `before` to one that tells `after`
+
+-- the space of a poll
+abbrev pub space_of : Feeding → ℕ
+space_of f = min (room_of f) longest_piece
+
+-- the block that waited was offered, if there was one
+pub record Waited (before after : Option (List Call)) (old new : Kept) : Type 0 where
+  pub waited : Option Offer
+  pub told : Tells before after (offer_calls old.standing waited)
+  pub offers : is_some waited ≡ waits old.standing
+  pub new_is : new ≡ record old { standing = standing_waited (round_begun old.standing) waited }
+
+-- the link was polled, if it may be
+pub record PolledOnce (before after : Option (List Call)) (old new : Kept) : Type 0 where
+  pub heard : Option Heard
+  pub told : Tells before after (poll_calls (space_of old.feeder) heard)
+  pub polls : is_some heard ≡ may_poll old.standing (next_held old.feeder)
+  pub arrives : IsHeard (space_of old.feeder) heard
+  pub door : new.door ≡ old.door
+  pub standing : new.standing ≡ standing_heard old.standing heard
+  pub feeder : (came : List ℕ) (given : List Content) → StandsFor old.feeder came given
+      → StandsFor new.feeder (came_with came heard) given
+
+-- the link was polled, with what that makes of feeder and standing
+pub record Hears (before after : Option (List Call)) (f g : Feeding) (s t : Standing) : Type 0 where
+  pub heard : Heard
+  pub told : Tells before after (poll_calls (space_of f) (Some heard))
+  pub arrives : IsHeard (space_of f) (Some heard)
+  pub standing : t ≡ standing_heard s (Some heard)
+  pub feeder : (came : List ℕ) (given : List Content) → StandsFor f came given
+      → StandsFor g (came_with came (Some heard)) given
+
+-- listen's own calls, and for each state that the session showed, what they are
+pub record Listened (before after : Option (List Call)) (old new : Kept) : Type 0 where
+  pub waited : Option Offer
+  pub heard : Option Heard
+  pub own : List Call
+  pub told : Tells before after own
+  pub door : new.door ≡ old.door
+  pub own_is : (s : State) → Shows old s → IsSound s → own ≡ listen_calls s waited heard
+  pub listens : (s : State) → Shows old s → IsSound s → Listens s waited heard
+  pub stands : (s : State) → Shows old s → Shows new (listened s waited heard)
+
+-- ---- step
+
+-- what it asks of a book at a reading
+abbrev pub asked : Site → Kept → book.State → ℕ → Ask
+asked site v b reading = ask_of site v.standing (next_held v.feeder) (moment_at b reading)
+
+-- what the book tells it
+abbrev pub told_now : Site → Kept → book.State → ℕ → Told
+told_now site v b reading =
+    record {
+      reading = reading;
+      moment = moment_at b reading;
+      answer = answer_to b v.door (moment_at b reading) (asked site v b reading) wants_nothing;
+    }
+
+abbrev pub told_by : Site → Kept → book.State → ℕ → Option Told
+told_by site v b reading =
+    if is_over v.standing.course then None else Some (told_now site v b reading)
+
+-- its answer event, unless it has ended
+abbrev pub own_events : Site → Kept → book.State → ℕ → List Event
+own_events site v b reading =
+    if is_over v.standing.course then []
+    else event_at b (answer v.door reading (asked site v b reading) wants_nothing) ∷ []
+
+-- a message is given, unless the round is idle
+abbrev pub feeder_after : Standing → Feeding → Feeding
+feeder_after s f = if is_idle s then f else after_given f
+
+-- what it keeps after its step
+abbrev pub kept_after : Site → Kept → Option Told → Kept
+kept_after site v None = v
+kept_after site v (Some told) =
+    record v {
+      feeder = feeder_after v.standing v.feeder;
+      standing =
+          after_step site v.standing (next_held v.feeder) told.moment told.answer.reply;
+    }
+
+-- ---- speak
+
+-- the block was offered, if it may be
+pub record Said (before after : Option (List Call)) (old new : Kept) : Type 0 where
+  pub spoke : Option Offer
+  pub told : Tells before after (offer_calls old.standing spoke)
+  pub offers : is_some spoke ≡ may_speak old.standing
+  pub new_is : new ≡ record old { standing = standing_spoke old.standing spoke }
+
+-- speak's own calls, and for each state that the session showed, what they are
+pub record Spoke (before after : Option (List Call)) (old new : Kept) : Type 0 where
+  pub spoke : Option Offer
+  pub own : List Call
+  pub told : Tells before after own
+  pub door : new.door ≡ old.door
+  pub own_is : (s : State) → Shows old s → own ≡ speak_calls s spoke
+  pub speaks : (s : State) → Shows old s → Speaks s spoke
+  pub stands : (s : State) → Shows old s → Shows new (spoken_state s spoke)

@@ -1,0 +1,105 @@
+-- What a session stands for: the calls of its link and the events of its book since it began, over
+-- whole lists, within a round too.
+use Rattle.std.specs.Prelude.{◌≡◌, ℕ, List, [], ◌++◌, Option}
+use Rattle.octet_core.specs.declared.offer.Offer.{Offer}
+use Rattle.link_model.specs.declared.call.Call.{Call}
+use Rattle.link_model.specs.declared.call.Heard.{Heard}
+use Rattle.link_model.specs.Calls.{Tells}
+use Rattle.station_config.specs.declared.site.Site.{Site}
+use Rattle.station_book.specs.State.{Event}
+use Rattle.station_book.specs.State as book
+use Rattle.station_book.specs.History.{IsLegal, replay}
+use Rattle.session_core.specs.Session.{State, Told, at_first, Listens, listened, listen_calls, Asks}
+use Rattle.session_core.specs.Session.{stepped, step_events, after_rounds, AreRounds, session_calls}
+use Rattle.session_core.specs.Session.{session_events, Round}
+use Rattle.session_core.specs.Kept.{Kept, Shows}
+
+-- how far a round has come: the next call is listen, step or speak
+pub data Stage : Type 0 where
+  to_listen : Stage
+  to_step : Stage
+  to_speak : Stage
+
+-- the part of a round that was made, by its answers
+pub data Part : Type 0 where
+  none_made : Part
+  made_listen : Option Offer → Option Heard → Part
+  made_step : Option Offer → Option Heard → Option Told → Part
+
+abbrev pub stage_of : Part → Stage
+stage_of none_made = to_listen
+stage_of (made_listen waited heard) = to_step
+stage_of (made_step waited heard told) = to_speak
+
+abbrev pub part_state : Site → State → Part → State
+part_state site s none_made = s
+part_state site s (made_listen waited heard) = listened s waited heard
+part_state site s (made_step waited heard told) = stepped site (listened s waited heard) told
+
+abbrev pub IsPart : State → Part → Type 0
+IsPart s none_made = Unit {0}
+IsPart s (made_listen waited heard) = Listens s waited heard
+IsPart s (made_step waited heard told) =
+    Listens s waited heard × Asks (listened s waited heard) told
+
+abbrev pub part_calls : State → Part → List Call
+part_calls s none_made = []
+part_calls s (made_listen waited heard) = listen_calls s waited heard
+part_calls s (made_step waited heard told) = listen_calls s waited heard
+
+abbrev pub part_events : Site → ℕ → State → Part → List Event
+part_events site door s none_made = []
+part_events site door s (made_listen waited heard) = []
+part_events site door s (made_step waited heard told) =
+    step_events site door (listened s waited heard) told
+
+-- what a session is: its site, its door, the program's draw, and the moment at which it began
+pub record Began : Type 0 where
+  pub site : Site
+  pub door : ℕ
+  pub draw : ℕ
+  pub entered : ℕ
+
+abbrev pub start_of : Began → State
+start_of b = at_first b.door b.draw b.entered
+
+abbrev pub state_after : Began → List Round → State
+state_after b rounds = after_rounds b.site (start_of b) rounds
+
+-- The calls of the link and the events of the book are *Session* of each other, up to this stage of
+-- a round, and the session keeps what they leave.
+pub record StandsAt (stage : Stage) (b : Began) (v : Kept) (calls : List Call)
+    (events : List Event) : Type 0 where
+  pub rounds : List Round
+  pub part : Part
+  pub stage_is : stage_of part ≡ stage
+  pub door_is : v.door ≡ b.door
+  pub right : AreRounds b.site (start_of b) rounds
+  pub part_right : IsPart (state_after b rounds) part
+  pub calls_are : calls ≡ session_calls b.site (start_of b) rounds
+      ++ part_calls (state_after b rounds) part
+  pub events_are : events ≡ session_events b.site b.door (start_of b) rounds
+      ++ part_events b.site b.door (state_after b rounds) part
+  pub shows : Shows v (part_state b.site (state_after b rounds) part)
+
+-- A call of a session made these calls of a link that told `before` and tells `after`. For all
+-- lists for which the session stood, it stands for these with the call's own behind them.
+pub record Goes (from to : Stage) (before after : Option (List Call))
+    (old new : Kept) : Type 0 where
+  pub own : List Call
+  pub told : Tells before after own
+  pub stands : (b : Began) (calls : List Call) (events : List Event)
+      → StandsAt from b old calls events → StandsAt to b new (calls ++ own) events
+
+-- A round made these calls of a link and these events of a book, and the session stands for them
+-- behind all for which it stood.
+pub record GoesRound (site : Site) (before after : Option (List Call)) (book_before
+    book_after : book.State) (old new : Kept) : Type 0 where
+  pub own : List Call
+  pub told : Tells before after own
+  pub gained : List Event
+  pub legal : IsLegal book_before gained
+  pub book_is : book_after ≡ replay book_before gained
+  pub stands : (b : Began) (calls : List Call) (events : List Event) → b.site ≡ site
+      → StandsAt to_listen b old calls events
+      → StandsAt to_listen b new (calls ++ own) (events ++ gained)

@@ -1,0 +1,201 @@
+// What a message leads to, once the book has replied.
+ghost use Rattle.std.specs.Prelude.{◌≡◌, ◌<◌, option_copied};
+ghost use Rattle.cds_time.specs.declared.cds.TheConstants.{MOMENT_END};
+ghost use Rattle.bind_pdu.specs.Seen.{bind_of};
+ghost use Rattle.station_config.specs.Validity.{IsSite};
+ghost use Rattle.assoc_core.specs.declared.step.Step.TheVariants.{Pass};
+ghost use Rattle.session_core.specs.Returns.{own_credentials, number_after};
+ghost use Rattle.session_core.specs.Handling.{is_from, is_agreed, with_context, with_bind};
+ghost use Rattle.session_core.specs.Handling.{with_denial, with_unbind, after_passing};
+ghost use Rattle.session_core.specs.Handling.{invoked, after_judged};
+ghost use Rattle.session_core.specs.Message.{judged};
+ghost use Rattle.session_core.specs.Seen.{said_of, kind_answered, places_of_bind, places_of};
+ghost use Rattle.session_core.specs.Seen.{ask_by, peer_at, bound_place};
+
+use crate::bind_places::BindPlaces;
+use crate::course::Course;
+use crate::ended::Ended;
+use crate::returns::{bind_outcome, bind_result, bind_return, unbind_return};
+use crate::signature::{Answered, Signature};
+use crate::standing::Standing;
+use crate::user_message::UserMessage;
+use assoc_core::{Outcome, Step};
+use bind_pdu::Bind;
+use station_book::{Ask, BookReply};
+use station_config::{Peer, Site};
+
+// The diagnostic of PEER-ABORT where the book has lost what a session bound (CCSDS 911.1-B, annex
+// A).
+const OTHER_REASON: u8 = 127;
+
+// The diagnostic of a BIND that is denied (CCSDS 911.1-B, annex A).
+const ACCESS_DENIED: u8 = 0;
+
+// What a message that was judged so asks the book.
+pub(crate) fn said_ask(said: &UserMessage<'_>, step: Step, places: BindPlaces) -> Ask
+    ensures { result ≡ ask_by (said_of said.now) step places.instance }
+{
+    if step != Step::Pass {
+        return Ask::Nothing;
+    }
+    match (said, places.instance) {
+        (UserMessage::Bind(_), Ok(instance)) => Ask::Bind { instance },
+        (UserMessage::Unbind(_), _) => Ask::Unbind,
+        _ => Ask::Nothing,
+    }
+}
+
+// Whether a number is from the least to the greatest.
+fn is_from(least: u16, greatest: u16, number: u16) -> bool
+    ensures { result ≡ is_from least greatest number }
+{
+    least <= number && number <= greatest
+}
+
+// Whether a site takes a context with these numbers.
+fn is_agreed(site: &Site, interval: u16, factor: u16) -> bool
+    ensures { result ≡ is_agreed site.now interval factor }
+{
+    (interval == 0 || is_from(site.interval_from, site.interval_to, interval))
+        && is_from(site.factor_from, site.factor_to, factor)
+}
+
+// The peer at a place, if there is one.
+fn peer_at(site: &Site, place: Option<u32>) -> Option<&Peer>
+    ensures { option_copied result ≡ peer_at site.now.peers place }
+{
+    site.peers.as_slice().get(place? as usize)
+}
+
+impl Standing {
+    // Judges a message at the round's moment, by the association.
+    pub(crate) fn judge(&mut self, site: &Site, said: &UserMessage<'_>) -> Step
+        ensures step { result ≡ judged site.now self.old.association (said_of said.now)
+            self.old.moment }
+        ensures after { self.new ≡ invoked self.old (said_of said.now) result }
+    {
+        self.association
+            .invoke(site, said.kind(), &said.credentials(), self.moment)
+    }
+
+    // This provider's credentials for a return, where the peer's level asks for them.
+    fn sign(&mut self, site: &Site, peer: Option<&Peer>, answered: Answered) -> Option<Signature>
+        requires { self.old.moment < MOMENT_END }
+        ensures made { result ≡ own_credentials site.now (option_copied peer.entry)
+            (kind_answered answered) self.old.numbers self.old.moment }
+        ensures numbers { self.new ≡ record self.old {
+          numbers =
+              number_after (option_copied peer.entry) (kind_answered answered)
+              self.old.numbers;
+        } }
+    {
+        let peer = peer?;
+        if !answered.is_asked(peer.level) {
+            return None;
+        }
+        let number = self.numbers.next_number();
+        Some(Signature::of(site, peer, self.moment, number))
+    }
+
+    // A context was taken, or its numbers are out of the site's range.
+    fn take_context(&mut self, site: &Site, interval: u16, factor: u16)
+        ensures { self.new ≡ with_context site.now self.old interval factor }
+    {
+        if is_agreed(site, interval, factor) {
+            self.association.moved(Outcome::Context);
+            self.interval = interval;
+            self.factor = factor;
+        } else {
+            self.end(Ended::Range { interval, factor });
+        }
+    }
+
+    // A BIND that passed is answered, where the book replied so.
+    fn answer_bind(&mut self, site: &Site, bind: &Bind<'_>, places: BindPlaces, reply: BookReply)
+        requires site { IsSite site.now }
+        requires moment { self.old.moment < MOMENT_END }
+        requires places { places ≡ places_of_bind site.now (bind_of bind.now) }
+        ensures { self.new ≡ with_bind site.now self.old (bind_of bind.now) reply }
+    {
+        let signature = self.sign(site, peer_at(site, places.peer), Answered::Bind);
+        let bound = bind_result(bind, places, reply);
+        self.association.moved(bind_outcome(site, places, reply));
+        self.block
+            .put_bind_return(&bind_return(site, &signature, bound));
+    }
+
+    // A BIND with failing credentials is answered without any.
+    fn deny(&mut self, site: &Site)
+        requires { IsSite site.now }
+        ensures { self.new ≡ with_denial site.now self.old }
+    {
+        self.course = Course::Closing(Ended::Denied);
+        self.block
+            .put_bind_return(&bind_return(site, &None, Err(ACCESS_DENIED)));
+    }
+
+    // The place of the peer that is bound.
+    fn bound_peer(&self) -> Option<u32>
+        ensures { result ≡ bound_place self.now.association }
+    {
+        Some(self.association.state().binding()?.peer)
+    }
+
+    // An UNBIND that passed is answered.
+    fn answer_unbind(&mut self, site: &Site)
+        requires { self.old.moment < MOMENT_END }
+        ensures { self.new ≡ with_unbind site.now self.old }
+    {
+        let peer = peer_at(site, self.bound_peer());
+        let signature = self.sign(site, peer, Answered::Unbind);
+        self.association.moved(Outcome::Unbound);
+        self.course = Course::Closing(Ended::Unbound);
+        self.block.put_unbind_return(&unbind_return(&signature));
+    }
+
+    // A message that passed leads to this, where the book replied so.
+    fn pass(&mut self, site: &Site, said: &UserMessage<'_>, places: BindPlaces, reply: BookReply)
+        requires site { IsSite site.now }
+        requires moment { self.old.moment < MOMENT_END }
+        requires places { places ≡ places_of site.now (said_of said.now) Pass }
+        ensures { self.new ≡ after_passing site.now self.old (said_of said.now) reply }
+    {
+        match said {
+            UserMessage::Context { interval, factor } => {
+                self.take_context(site, *interval, *factor);
+            }
+            UserMessage::Bind(bind) => self.answer_bind(site, bind, places, reply),
+            UserMessage::Unbind(_) => self.answer_unbind(site),
+            UserMessage::PeerAbort(abort) => {
+                let diagnostic = abort.diagnostic;
+                self.end(Ended::PeerAborted { diagnostic });
+            }
+            UserMessage::Heartbeat | UserMessage::Undecoded | UserMessage::OutOfPlace => {}
+        }
+    }
+
+    // A message that was judged so leads to this, where the book replied so.
+    pub(crate) fn conclude(
+        &mut self,
+        site: &Site,
+        said: &UserMessage<'_>,
+        step: Step,
+        places: BindPlaces,
+        reply: BookReply,
+    )
+        requires site { IsSite site.now }
+        requires moment { self.old.moment < MOMENT_END }
+        requires places { places ≡ places_of site.now (said_of said.now) step }
+        ensures { self.new ≡ after_judged site.now self.old (said_of said.now) step reply }
+    {
+        if reply == BookReply::Lost {
+            self.abort(OTHER_REASON);
+            return;
+        }
+        match step {
+            Step::Pass => self.pass(site, said, places, reply),
+            Step::Denied => self.deny(site),
+            Step::Abort { diagnostic } => self.abort(diagnostic),
+        }
+    }
+}

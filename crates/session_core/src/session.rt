@@ -1,0 +1,445 @@
+// A session.
+ghost use Rattle.std.specs.Prelude.{◌≡◌, ◌<◌, ◌≤◌, List, [], ◌++◌, IfOk, OnOk, OnErr, Ok, Some};
+ghost use Rattle.std.specs.Prelude.{◌∷◌, length, vec_len};
+ghost use Rattle.cds_time.specs.declared.cds.TheConstants.{MOMENT_END};
+ghost use Rattle.isp1_tml.specs.Feeding.{next_of as next_held, after_next as after_given};
+ghost use Rattle.isp1_tml.specs.Feeding.{fresh};
+ghost use Rattle.isp1_tml.specs.Given.{content_of};
+ghost use Rattle.link_model.specs.declared.call.Call.{Call};
+ghost use Rattle.link_model.specs.declared.call.Call.TheVariants.{Offered};
+ghost use Rattle.link_model.specs.Calls.{Tells};
+ghost use Rattle.archive_terms.specs.Glimpse.{wants_nothing};
+ghost use Rattle.station_config.specs.Validity.{IsSite};
+ghost use Rattle.station_book.specs.State.{Event, answer};
+ghost use Rattle.station_book.specs.History.{after, reply_of, moment_at, replay};
+ghost use Rattle.session_core.specs.Kept.{Waited, PolledOnce, Hears, Said, Listened, Spoke};
+ghost use Rattle.session_core.specs.Kept.{feeder_after, asked, told_now, told_by, kept_after};
+ghost use Rattle.session_core.specs.Kept.{own_events};
+ghost use Rattle.session_core.specs.Lists.{Began, StandsAt, Goes, GoesRound, to_listen, to_step};
+ghost use Rattle.session_core.specs.Lists.{to_speak};
+ghost use Rattle.session_core.specs.Session.{spoken_of};
+ghost use Rattle.session_core.specs.Steps.{has_message, after_wait, after_offer, ask_of, acted};
+ghost use Rattle.session_core.specs.Steps.{message_ask, with_message, idle_ask, next_ask};
+ghost use Rattle.session_core.specs.Steps.{with_next};
+
+use crate::arrival::Arrival;
+use crate::bind_places::places_of;
+use crate::course::Course;
+use crate::ended::Ended;
+use crate::handling::said_ask;
+use crate::spoken::Spoken;
+use crate::standing::Standing;
+use crate::user_message::UserMessage;
+use ber_core::laws as octets;
+use frame_select::Want;
+use isp1_tml::{Feeder, Message, laws};
+use link_model::{Link, Poll};
+use octet_core::{Memory, Offer};
+use station_book::{Ask, Book, BookReply};
+use station_config::Site;
+use std::alloc::Global;
+use std::marker::Model;
+
+/// A connection of a user with this provider, from its context to its end.
+#[derive(Drop)]
+pub struct Session {
+    door: u32,
+    feeder: Feeder,
+    space: Vec<u8>,
+    standing: Standing,
+}
+
+impl Model for Session {
+    ghost use Rattle.std.specs.Prelude.{◌≡◌, vec_len};
+    ghost use Rattle.session_core.specs.Kept.{Kept};
+
+    ghost Value = { Kept };
+
+    ghost view = { λ s. record { door = s.door; feeder = s.feeder; standing = s.standing } };
+
+    ghost invariant = { λ s. vec_len s.space ≡ 65536 };
+}
+
+// How many octets a poll takes at most.
+const LONGEST_PIECE: usize = 65_536;
+
+// So many octets 0.
+fn zeros(alloc: Global, count: usize) -> Result<Vec<u8>, Memory>
+    ensures { IfOk result (λ space. vec_len space ≡ count) }
+{
+    Ok(vec![in alloc; 0u8; count]?)
+}
+
+// A feeder at a connection's start.
+fn new_feeder(alloc: Global) -> Result<Feeder, Memory>
+    ensures { IfOk result (λ feeder. feeder ≡ fresh) }
+{
+    let Ok(feeder) = Feeder::new(alloc) else {
+        return Err(Memory);
+    };
+    Ok(feeder)
+}
+
+// Whether a whole message is held.
+fn holds_message(feeder: &Feeder) -> bool
+    ensures { result ≡ has_message (next_held feeder.now) }
+{
+    feeder.has_message()
+}
+
+// Offers the block that waited.
+fn offer_waiting<L: Link>(standing: &mut Standing, link: &mut L) -> Offer
+    ensures told { Tells (L.calls link.old) (L.calls link.new)
+        (Offered standing.old.block result ∷ []) }
+    ensures standing { standing.new ≡ after_wait standing.old result }
+{
+    let answer = link.offer(standing.block.octets());
+    standing.end_wait(answer);
+    answer
+}
+
+// Offers the round's block.
+fn offer_block<L: Link>(standing: &mut Standing, link: &mut L) -> Offer
+    ensures told { Tells (L.calls link.old) (L.calls link.new)
+        (Offered standing.old.block result ∷ []) }
+    ensures standing { standing.new ≡ after_offer standing.old result }
+{
+    let answer = link.offer(standing.block.octets());
+    standing.end_offer(answer);
+    answer
+}
+
+// Polls the link once, and feeds what arrived.
+fn hear<L: Link>(feeder: &mut Feeder, standing: &mut Standing, space: &mut [u8], link: &mut L)
+    requires { length space.old ≡ 65536 }
+    ensures { Hears (L.calls link.old) (L.calls link.new) feeder.old feeder.new standing.old
+        standing.new }
+{
+    let room = feeder.room().min(space.len());
+    let into = &mut space[..room];
+    match link.poll(into) {
+        Poll::Arrived(count) => {
+            laws::refused_for_good();
+            let piece = &into[..count];
+            octets::slice(piece);
+            let _ = feeder.feed(piece);
+            standing.arrival = Arrival::Octets;
+        }
+        Poll::Nothing => {}
+        Poll::Closed => standing.arrival = Arrival::Closed,
+        Poll::Failed => standing.course = Course::LinkFailed,
+    }
+}
+
+impl Session {
+    /// A session at its link's start, with all the memory that it will ever have: at the door of
+    /// this number, with the program's draw, begun at a moment.
+    pub fn new(alloc: Global, door: u32, draw: u32, entered: u128) -> Result<Session, Memory>
+        ensures { IfOk result (λ session. (b : Began) → b.door ≡ door → b.draw ≡ draw
+            → b.entered ≡ entered → StandsAt to_listen b session [] []) }
+    {
+        laws::any_pieces();
+        let feeder = new_feeder(alloc)?;
+        let space = zeros(alloc, LONGEST_PIECE)?;
+        let standing = Standing::begin(alloc, door, draw, entered)?;
+        Ok(Session {
+            door,
+            feeder,
+            space,
+            standing,
+        })
+    }
+}
+
+// listen.
+impl Session {
+    // Offers the block that waited, if there is one.
+    fn clear_way<L: Link>(&mut self, link: &mut L)
+        ensures { Waited (L.calls link.old) (L.calls link.new) self.old self.new }
+    {
+        let waits = self.standing.waits();
+        self.standing.begin_round();
+        if waits {
+            offer_waiting(&mut self.standing, link);
+        }
+    }
+
+    // Polls, if it may.
+    fn poll<L: Link>(&mut self, link: &mut L)
+        ensures { PolledOnce (L.calls link.old) (L.calls link.new) self.old self.new }
+    {
+        if self.standing.may_poll(holds_message(&self.feeder)) {
+            hear(&mut self.feeder, &mut self.standing, &mut self.space, link);
+        }
+    }
+
+    // The first call of a round, with what it makes of each state that the session shows.
+    fn hear_round<L: Link>(&mut self, link: &mut L)
+        ensures { Listened (L.calls link.old) (L.calls link.new) self.old self.new }
+    {
+        laws::is_worked_out();
+        self.clear_way(link);
+        self.poll(link);
+    }
+
+    /// The first call of a round: offers the block that waits, and polls once where none waits any
+    /// more and no whole message is held.
+    pub fn listen<L: Link>(&mut self, link: &mut L)
+        ensures { Goes to_listen to_step (L.calls link.old) (L.calls link.new) self.old self.new }
+    {
+        laws::is_worked_out();
+        laws::any_pieces();
+        self.hear_round(link);
+    }
+}
+
+// Asks the book once, and wants nothing of a look.
+fn ask_book(book: &mut Book, door: u32, reading: u128, ask: &Ask) -> Result<BookReply, Memory>
+    requires { reading < MOMENT_END }
+    ensures after { OnOk result (book.new
+        ≡ after book.old (answer door reading ask.now wants_nothing)) }
+    ensures reply { IfOk result (λ reply.
+        reply ≡ reply_of book.old door (moment_at book.old reading) ask.now) }
+    ensures err { OnErr result (book.new ≡ book.old) }
+{
+    let (reply, _, _) = book.answer(door, reading, ask, &Want::Nothing)?;
+    Ok(reply)
+}
+
+// Whose step it is, and the reading of the clock at which it asks.
+#[derive(Clone, Copy)]
+struct Asking<'a> {
+    site: &'a Site,
+    door: u32,
+    reading: u128,
+}
+
+// Handles a message: judges it, asks the book, and does what follows.
+fn handle(
+    standing: &mut Standing,
+    book: &mut Book,
+    asking: Asking<'_>,
+    message: Message<'_>,
+) -> Result<(), Memory>
+    requires site { IsSite asking.site.now }
+    requires reading { asking.reading < MOMENT_END }
+    requires now { standing.old.moment ≡ moment_at book.old asking.reading }
+    requires moment { standing.old.moment < MOMENT_END }
+    ensures book { OnOk result (book.new ≡ after book.old
+        (answer asking.entry.door asking.entry.reading
+        (message_ask asking.entry.site.now standing.old (content_of message.entry)
+        standing.old.moment) wants_nothing)) }
+    ensures standing { OnOk result (standing.new ≡ with_message asking.entry.site.now standing.old
+        (content_of message.entry) (reply_of book.old asking.entry.door standing.old.moment
+        (message_ask asking.entry.site.now standing.old (content_of message.entry)
+        standing.old.moment))) }
+    ensures err { OnErr result (book.new ≡ book.old) }
+{
+    let Asking {
+        site,
+        door,
+        reading,
+    } = asking;
+    let said = UserMessage::of(standing.association.state(), message);
+    let step = standing.judge(site, &said);
+    let places = places_of(site, &said, step);
+    let reply = ask_book(book, door, reading, &said_ask(&said, step, places))?;
+    standing.conclude(site, &said, step, places, reply);
+    Ok(())
+}
+
+// What an idle round asks.
+fn idle_ask(standing: &Standing) -> Ask
+    ensures { result ≡ idle_ask standing.now }
+{
+    if standing.is_blocked() {
+        Ask::Quiet
+    } else {
+        Ask::Nothing
+    }
+}
+
+// Handles the next message, if there is one.
+fn take_message(
+    feeder: &mut Feeder,
+    standing: &mut Standing,
+    book: &mut Book,
+    asking: Asking<'_>,
+) -> Result<(), Memory>
+    requires site { IsSite asking.site.now }
+    requires reading { asking.reading < MOMENT_END }
+    requires now { standing.old.moment ≡ moment_at book.old asking.reading }
+    requires moment { standing.old.moment < MOMENT_END }
+    ensures feeder { OnOk result (feeder.new ≡ after_given feeder.old) }
+    ensures book { OnOk result (book.new ≡ after book.old
+        (answer asking.entry.door asking.entry.reading
+        (next_ask asking.entry.site.now standing.old (next_held feeder.old) standing.old.moment)
+        wants_nothing)) }
+    ensures standing { OnOk result (standing.new ≡ with_next asking.entry.site.now standing.old
+        (next_held feeder.old) (reply_of book.old asking.entry.door standing.old.moment
+        (next_ask asking.entry.site.now standing.old (next_held feeder.old) standing.old.moment))) }
+    ensures err { OnErr result (book.new ≡ book.old) }
+{
+    match feeder.next_message() {
+        Err(fault) => {
+            ask_book(book, asking.door, asking.reading, &Ask::Nothing)?;
+            standing.end(Ended::Broken(fault));
+        }
+        Ok(None) => {
+            ask_book(book, asking.door, asking.reading, &Ask::Nothing)?;
+            standing.end_if_closed();
+        }
+        Ok(Some(message)) => handle(standing, book, asking, message)?,
+    }
+    Ok(())
+}
+
+// Asks the book once, and handles the next message where the round isn't idle.
+fn act(
+    feeder: &mut Feeder,
+    standing: &mut Standing,
+    book: &mut Book,
+    asking: Asking<'_>,
+) -> Result<(), Memory>
+    requires site { IsSite asking.site.now }
+    requires reading { asking.reading < MOMENT_END }
+    requires now { standing.old.moment ≡ moment_at book.old asking.reading }
+    requires moment { standing.old.moment < MOMENT_END }
+    ensures feeder { OnOk result (feeder.new ≡ feeder_after standing.old feeder.old) }
+    ensures book { OnOk result (book.new ≡ after book.old
+        (answer asking.entry.door asking.entry.reading
+        (ask_of asking.entry.site.now standing.old (next_held feeder.old) standing.old.moment)
+        wants_nothing)) }
+    ensures standing { OnOk result (standing.new ≡ acted asking.entry.site.now standing.old
+        (next_held feeder.old) (reply_of book.old asking.entry.door standing.old.moment
+        (ask_of asking.entry.site.now standing.old (next_held feeder.old) standing.old.moment))) }
+    ensures err { OnErr result (book.new ≡ book.old) }
+{
+    if standing.is_idle() {
+        let ask = idle_ask(standing);
+        ask_book(book, asking.door, asking.reading, &ask)?;
+        return Ok(());
+    }
+    take_message(feeder, standing, book, asking)
+}
+
+// step.
+impl Session {
+    // The step of a session that hasn't ended.
+    fn advance(&mut self, site: &Site, book: &mut Book, reading: u128) -> Result<(), Memory>
+        requires site { IsSite site.now }
+        requires reading { reading < MOMENT_END }
+        ensures book { OnOk result (book.new ≡ after book.old
+            (answer self.old.door reading (asked site.now self.old book.old reading)
+            wants_nothing)) }
+        ensures kept { OnOk result (self.new
+            ≡ kept_after site.now self.old (Some (told_now site.now self.old book.old reading))) }
+        ensures err { OnErr result (book.new ≡ book.old) }
+    {
+        self.standing.enter(book.peek(reading));
+        let asking = Asking {
+            site,
+            door: self.door,
+            reading,
+        };
+        act(&mut self.feeder, &mut self.standing, book, asking)?;
+        self.standing.look_at_timer();
+        self.standing.put_heartbeat();
+        Ok(())
+    }
+
+    // The step of any session.
+    fn take_step(&mut self, site: &Site, book: &mut Book, reading: u128) -> Result<(), Memory>
+        requires site { IsSite site.now }
+        requires reading { reading < MOMENT_END }
+        ensures book { OnOk result (book.new
+            ≡ replay book.old (own_events site.now self.old book.old reading)) }
+        ensures kept { OnOk result (self.new
+            ≡ kept_after site.now self.old (told_by site.now self.old book.old reading)) }
+        ensures err { OnErr result (book.new ≡ book.old) }
+    {
+        if self.standing.is_over() {
+            return Ok(());
+        }
+        self.advance(site, book, reading)
+    }
+
+    /// The second call of a round, at a reading of the clock: it handles at most one message, and
+    /// asks the book once, unless the session has ended.
+    pub fn step(&mut self, site: &Site, book: &mut Book, reading: u128) -> Result<(), Memory>
+        requires site { IsSite site.now }
+        requires reading { reading < MOMENT_END }
+        ensures book { OnOk result (book.new
+            ≡ replay book.old (own_events site.now self.old book.old reading)) }
+        ensures lists { OnOk result ((b : Began) (calls : List Call) (events : List Event)
+            → b.site ≡ site.now → StandsAt to_step b self.old calls events
+            → StandsAt to_speak b self.new calls
+            (events ++ own_events site.now self.old book.old reading)) }
+        ensures err { OnErr result (book.new ≡ book.old) }
+    {
+        laws::is_worked_out();
+        laws::any_pieces();
+        self.take_step(site, book, reading)
+    }
+}
+
+// speak, and the round.
+impl Session {
+    // Offers the block, if it may.
+    fn say<L: Link>(&mut self, link: &mut L)
+        ensures { Said (L.calls link.old) (L.calls link.new) self.old self.new }
+    {
+        if self.standing.may_speak() {
+            offer_block(&mut self.standing, link);
+        }
+    }
+
+    // What the round comes to.
+    fn outcome(&self) -> Spoken
+        ensures { result ≡ spoken_of self.now.standing.course }
+    {
+        match self.standing.course {
+            Course::Over(end) => Spoken::Ended(end),
+            Course::LinkFailed => Spoken::LinkFault,
+            Course::Going | Course::Closing(_) => Spoken::Going,
+        }
+    }
+
+    // The third call of a round, with what it makes of each state that the session shows.
+    fn say_round<L: Link>(&mut self, link: &mut L)
+        ensures { Spoke (L.calls link.old) (L.calls link.new) self.old self.new }
+    {
+        self.say(link);
+        self.standing.end_round();
+    }
+
+    /// The third call of a round: offers the block, and says what the round came to.
+    pub fn speak<L: Link>(&mut self, link: &mut L) -> Spoken
+        ensures lists { Goes to_speak to_listen (L.calls link.old) (L.calls link.new) self.old
+            self.new }
+        ensures outcome { result ≡ spoken_of self.new.standing.course }
+    {
+        self.say_round(link);
+        self.outcome()
+    }
+
+    /// A whole round, at a reading of the clock: `listen`, `step` and `speak`.
+    pub fn round<L: Link>(
+        &mut self,
+        site: &Site,
+        book: &mut Book,
+        reading: u128,
+        link: &mut L,
+    ) -> Result<Spoken, Memory>
+        requires site { IsSite site.now }
+        requires reading { reading < MOMENT_END }
+        ensures lists { OnOk result (GoesRound site.now (L.calls link.old) (L.calls link.new)
+            book.old book.new self.old self.new) }
+        ensures outcome { IfOk result (λ spoken. spoken ≡ spoken_of self.new.standing.course) }
+        ensures err { OnErr result (book.new ≡ book.old) }
+    {
+        self.listen(link);
+        self.step(site, book, reading)?;
+        Ok(self.speak(link))
+    }
+}
