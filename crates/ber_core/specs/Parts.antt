@@ -9,6 +9,7 @@ use Rattle.ber_core.specs.Length.{long_form, without_zeros, shortest_length}
 use Rattle.ber_core.specs.Integer.{is_redundant, without_redundant, integer_octets}
 use Rattle.ber_core.specs.Tree.{Tree, Trees, primitive, constructed, no_trees, tree_and, trees}
 use Rattle.ber_core.specs.Spelling.{element, canonical, canonical_all}
+use Rattle.ber_core.specs.Written.{Written, Appends}
 
 -- ---- put together
 
@@ -41,21 +42,27 @@ pub spelled-alone : (t : Tree) → canonical_all (trees (t ∷ [])) ≡ canonica
 unfolding canonical
 spelled-alone t = append-nil (canonical t)
 
-regrouped : (w tag size content : List ℕ) → w ++ tag ++ size ++ content
-    ≡ w ++ (tag ++ (size ++ content))
-regrouped w tag size content = simp append_assoc
+-- what two calls appended, one after the other
+pub appends_two : (before middle after : Written) (front rest : List ℕ)
+    → Appends before middle front → Appends middle after rest
+    → Appends before after (front ++ rest)
+appends_two before middle after front rest one two = (
+  two.0 ∙ ap (λ octets. octets ++ rest) one.0 ∙ append_assoc before.octets front rest,
+  omega (arith, one.1, two.1, length-append front rest),
+)
 
 -- a head and the content behind it, appended one after the other, are one element
-pub append_within : (w head new tag content : List ℕ) (n : ℕ) (members : Trees)
+pub append_within : (before head after : Written) (tag content : List ℕ) (n : ℕ) (members : Trees)
     → canonical_all members ≡ content → n ≡ length (canonical_all members)
-    → head ≡ w ++ tag ++ shortest_length n → new ≡ head ++ content
-    → new ≡ w ++ canonical (constructed tag members)
-append_within w head new tag content n members is count headed appended =
-    appended ∙ ap (λ front. front ++ content) headed
-    ∙ ap (λ content. w ++ tag ++ shortest_length n ++ content) (sym is)
-    ∙ ap (λ n. w ++ tag ++ shortest_length n ++ canonical_all members) count
-    ∙ regrouped w tag (shortest_length (length (canonical_all members))) (canonical_all members)
-    ∙ ap (λ octets. w ++ octets) (sym (spelled-constructed tag members))
+    → Appends before head (tag ++ shortest_length n) → Appends head after content
+    → Appends before after (canonical (constructed tag members))
+append_within before head after tag content n members is count headed appended =
+    let whole : canonical (constructed tag members) ≡ (tag ++ shortest_length n) ++ content =
+    spelled-constructed tag members
+    ∙ ap (λ n. tag ++ (shortest_length n ++ canonical_all members)) (sym count)
+    ∙ ap (λ content. tag ++ (shortest_length n ++ content)) is
+    ∙ sym (append_assoc tag (shortest_length n) content) in
+    rw whole (appends_two before head after (tag ++ shortest_length n) content headed appended)
 
 -- ---- how long
 
@@ -96,7 +103,17 @@ length-no_trees = ap length spelled-no_trees
 pub length-alone : (t : Tree) → length (canonical t) ≡ length (canonical_all (tree_and t no_trees))
 length-alone t = ap length (sym (spelled-alone t))
 
-pub ruleset lengths = (length-primitive, length-constructed, length-tree_and, length-no_trees)
+pub length-head : (tag : List ℕ) (n : ℕ)
+    → length (tag ++ shortest_length n) ≡ length tag + length (shortest_length n)
+length-head tag n = length-append tag (shortest_length n)
+
+pub ruleset lengths = (
+  length-primitive,
+  length-constructed,
+  length-tree_and,
+  length-no_trees,
+  length-head,
+)
 
 -- ---- at most so long
 

@@ -1,8 +1,9 @@
-ghost use Rattle.std.specs.Prelude.{◌≡◌, ℕ, ◌+◌, ◌≤◌, ℤ, List, [], ◌∷◌, ◌++◌, length};
+ghost use Rattle.std.specs.Prelude.{◌≡◌, ℕ, ◌≤◌, ℤ, List, [], ◌∷◌, ◌++◌, length};
 ghost use Rattle.ber_core.specs.Length.{shortest_length};
 ghost use Rattle.ber_core.specs.Integer.{integer_octets, Has64Bits};
 ghost use Rattle.ber_core.specs.Tree.{primitive};
 ghost use Rattle.ber_core.specs.Spelling.{canonical};
+ghost use Rattle.ber_core.specs.Written.{HasRoom, Appends};
 
 use crate::size::{complement_of, integer_content, significant};
 use std::marker::Model;
@@ -53,9 +54,8 @@ impl<const SIZE: usize> BlockWriter<SIZE> {
 
     /// Appends octets as they are.
     pub fn raw(&mut self, octets: &[u8])
-        requires { length octets.now ≤ self.old.room }
-        ensures octets { self.new.octets ≡ self.old.octets ++ octets.now }
-        ensures room { self.new.room + length octets.now ≡ self.old.room }
+        requires { HasRoom self.old octets.now }
+        ensures { Appends self.old self.new octets.now }
     {
         let end = self.end + octets.len();
         let block = &mut self.block[..];
@@ -67,11 +67,8 @@ impl<const SIZE: usize> BlockWriter<SIZE> {
     /// which the caller appends next.
     #[tactic(auto, unfolding(crate::specs::Length::shortest_length))]
     pub fn head(&mut self, identifier: &[u8], content: usize)
-        requires { length identifier.now + length (shortest_length content) ≤ self.old.room }
-        ensures octets { self.new.octets ≡ self.old.octets ++ identifier.now
-            ++ shortest_length content }
-        ensures room { self.new.room + length identifier.now + length (shortest_length content)
-            ≡ self.old.room }
+        requires { HasRoom self.old (identifier.now ++ shortest_length content) }
+        ensures { Appends self.old self.new (identifier.now ++ shortest_length content) }
     {
         self.raw(identifier);
         if content < 128 {
@@ -87,12 +84,10 @@ impl<const SIZE: usize> BlockWriter<SIZE> {
     /// Appends an INTEGER (X.690 8.3).
     pub fn integer(&mut self, identifier: &[u8], value: i128)
         requires value { Has64Bits value }
-        requires fits { length (canonical (primitive identifier.now (integer_octets value)))
-            ≤ self.old.room }
-        ensures octets { self.new.octets ≡ self.old.octets
-            ++ canonical (primitive identifier.now (integer_octets value)) }
-        ensures room { self.new.room + length
-            (canonical (primitive identifier.now (integer_octets value))) ≡ self.old.room }
+        requires fits { HasRoom self.old
+            (canonical (primitive identifier.now (integer_octets value))) }
+        ensures { Appends self.old self.new
+            (canonical (primitive identifier.now (integer_octets value))) }
     {
         let octets = complement_of(value);
         self.octet_string(identifier, integer_content(&octets, value));
@@ -102,11 +97,8 @@ impl<const SIZE: usize> BlockWriter<SIZE> {
     /// VisibleString (8.23) or an OBJECT IDENTIFIER (8.19).
     #[tactic(auto, unfolding(crate::specs::Spelling::canonical, crate::specs::Spelling::element))]
     pub fn octet_string(&mut self, identifier: &[u8], octets: &[u8])
-        requires { length (canonical (primitive identifier.now octets.now)) ≤ self.old.room }
-        ensures octets { self.new.octets ≡ self.old.octets
-            ++ canonical (primitive identifier.now octets.now) }
-        ensures room { self.new.room + length (canonical (primitive identifier.now octets.now))
-            ≡ self.old.room }
+        requires { HasRoom self.old (canonical (primitive identifier.now octets.now)) }
+        ensures { Appends self.old self.new (canonical (primitive identifier.now octets.now)) }
     {
         self.head(identifier, octets.len());
         self.raw(octets);
@@ -115,11 +107,8 @@ impl<const SIZE: usize> BlockWriter<SIZE> {
     /// Appends a NULL (X.690 8.8).
     #[tactic(auto, unfolding(crate::specs::Spelling::canonical, crate::specs::Spelling::element))]
     pub fn null(&mut self, identifier: &[u8])
-        requires { length (canonical (primitive identifier.now [])) ≤ self.old.room }
-        ensures octets { self.new.octets ≡ self.old.octets
-            ++ canonical (primitive identifier.now []) }
-        ensures room { self.new.room + length (canonical (primitive identifier.now []))
-            ≡ self.old.room }
+        requires { HasRoom self.old (canonical (primitive identifier.now [])) }
+        ensures { Appends self.old self.new (canonical (primitive identifier.now [])) }
     {
         self.head(identifier, 0);
     }

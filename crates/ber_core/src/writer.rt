@@ -3,6 +3,7 @@ ghost use Rattle.ber_core.specs.Length.{shortest_length};
 ghost use Rattle.ber_core.specs.Integer.{integer_octets, Has64Bits};
 ghost use Rattle.ber_core.specs.Tree.{primitive};
 ghost use Rattle.ber_core.specs.Spelling.{canonical};
+ghost use Rattle.ber_core.specs.Written.{HasRoom, Appends};
 
 use crate::memory::Memory;
 use crate::size::{
@@ -65,9 +66,8 @@ impl Writer {
 
     /// Appends octets as they are.
     pub fn raw(&mut self, octets: &[u8])
-        requires { length octets.now ≤ self.old.room }
-        ensures octets { self.new.octets ≡ self.old.octets ++ octets.now }
-        ensures room { self.new.room + length octets.now ≡ self.old.room }
+        requires { HasRoom self.old octets.now }
+        ensures { Appends self.old self.new octets.now }
     {
         self.buffer.extend_from_slice(octets).unwrap();
     }
@@ -76,11 +76,8 @@ impl Writer {
     /// which the caller appends next.
     #[tactic(auto, unfolding(crate::specs::Length::shortest_length))]
     pub fn head(&mut self, identifier: &[u8], content: usize)
-        requires { length identifier.now + length (shortest_length content) ≤ self.old.room }
-        ensures octets { self.new.octets ≡ self.old.octets ++ identifier.now
-            ++ shortest_length content }
-        ensures room { self.new.room + length identifier.now + length (shortest_length content)
-            ≡ self.old.room }
+        requires { HasRoom self.old (identifier.now ++ shortest_length content) }
+        ensures { Appends self.old self.new (identifier.now ++ shortest_length content) }
     {
         let [octet] = identifier else {
             return self.any_head(identifier, content);
@@ -99,11 +96,8 @@ impl Writer {
     #[inline(never)]
     #[tactic(auto, unfolding(crate::specs::Length::shortest_length))]
     fn any_head(&mut self, identifier: &[u8], content: usize)
-        requires { length identifier.now + length (shortest_length content) ≤ self.old.room }
-        ensures octets { self.new.octets ≡ self.old.octets ++ identifier.now
-            ++ shortest_length content }
-        ensures room { self.new.room + length identifier.now + length (shortest_length content)
-            ≡ self.old.room }
+        requires { HasRoom self.old (identifier.now ++ shortest_length content) }
+        ensures { Appends self.old self.new (identifier.now ++ shortest_length content) }
     {
         self.raw(identifier);
         if content < 128 {
@@ -119,12 +113,10 @@ impl Writer {
     /// Appends an INTEGER (X.690 8.3).
     pub fn integer(&mut self, identifier: &[u8], value: i128)
         requires value { Has64Bits value }
-        requires fits { length (canonical (primitive identifier.now (integer_octets value)))
-            ≤ self.old.room }
-        ensures octets { self.new.octets ≡ self.old.octets
-            ++ canonical (primitive identifier.now (integer_octets value)) }
-        ensures room { self.new.room + length
-            (canonical (primitive identifier.now (integer_octets value))) ≡ self.old.room }
+        requires fits { HasRoom self.old
+            (canonical (primitive identifier.now (integer_octets value))) }
+        ensures { Appends self.old self.new
+            (canonical (primitive identifier.now (integer_octets value))) }
     {
         if has_one_octet(value) {
             self.octet_string(identifier, &one_octet(value));
@@ -138,12 +130,10 @@ impl Writer {
     #[tactic(auto, unfolding(crate::specs::Integer::integer_octets))]
     fn any_integer(&mut self, identifier: &[u8], value: i128)
         requires value { Has64Bits value }
-        requires fits { length (canonical (primitive identifier.now (integer_octets value)))
-            ≤ self.old.room }
-        ensures octets { self.new.octets ≡ self.old.octets
-            ++ canonical (primitive identifier.now (integer_octets value)) }
-        ensures room { self.new.room + length
-            (canonical (primitive identifier.now (integer_octets value))) ≡ self.old.room }
+        requires fits { HasRoom self.old
+            (canonical (primitive identifier.now (integer_octets value))) }
+        ensures { Appends self.old self.new
+            (canonical (primitive identifier.now (integer_octets value))) }
     {
         self.octet_string(identifier, shortest_complement(&value.to_be_bytes()));
     }
@@ -152,11 +142,8 @@ impl Writer {
     /// VisibleString (8.23) or an OBJECT IDENTIFIER (8.19).
     #[tactic(auto, unfolding(crate::specs::Spelling::canonical, crate::specs::Spelling::element))]
     pub fn octet_string(&mut self, identifier: &[u8], octets: &[u8])
-        requires { length (canonical (primitive identifier.now octets.now)) ≤ self.old.room }
-        ensures octets { self.new.octets ≡ self.old.octets
-            ++ canonical (primitive identifier.now octets.now) }
-        ensures room { self.new.room + length (canonical (primitive identifier.now octets.now))
-            ≡ self.old.room }
+        requires { HasRoom self.old (canonical (primitive identifier.now octets.now)) }
+        ensures { Appends self.old self.new (canonical (primitive identifier.now octets.now)) }
     {
         self.head(identifier, octets.len());
         self.raw(octets);
@@ -165,11 +152,8 @@ impl Writer {
     /// Appends a NULL (X.690 8.8).
     #[tactic(auto, unfolding(crate::specs::Spelling::canonical, crate::specs::Spelling::element))]
     pub fn null(&mut self, identifier: &[u8])
-        requires { length (canonical (primitive identifier.now [])) ≤ self.old.room }
-        ensures octets { self.new.octets ≡ self.old.octets
-            ++ canonical (primitive identifier.now []) }
-        ensures room { self.new.room + length (canonical (primitive identifier.now []))
-            ≡ self.old.room }
+        requires { HasRoom self.old (canonical (primitive identifier.now [])) }
+        ensures { Appends self.old self.new (canonical (primitive identifier.now [])) }
     {
         self.head(identifier, 0);
     }

@@ -1,8 +1,9 @@
 // Decoding and encoding elements.
 
-ghost use Rattle.std.specs.Prelude.{◌≡◌, ◌++◌, ◌+◌, ◌≤◌, ◌<◌, ◌^◌, length};
+ghost use Rattle.std.specs.Prelude.{◌≡◌, ◌<◌, ◌^◌, length};
 ghost use Rattle.ber_core.specs.Reading.{Gives};
 ghost use Rattle.ber_core.specs.Spelling.{canonical};
+ghost use Rattle.ber_core.specs.Written.{HasRoom, Appends};
 ghost use Rattle.ber_shape.specs.Exact.{whole, IsDecoded};
 
 use crate::element::Element;
@@ -40,11 +41,8 @@ pub fn length<'a, E: Element<'a>>(value: &E::Value) -> usize
 pub fn encode<'a, E: Element<'a>>(value: &E::Value, writer: &mut Writer)
     requires fits { E.shape.Fits (E.seen value.now) }
     requires small { E.shape.most < 2 ^ 64 }
-    requires room { length (canonical (E.shape.tree (E.seen value.now))) ≤ writer.old.room }
-    ensures octets { writer.new.octets ≡ writer.old.octets
-        ++ canonical (E.shape.tree (E.seen value.now)) }
-    ensures room { writer.new.room + length (canonical (E.shape.tree (E.seen value.now)))
-        ≡ writer.old.room }
+    requires room { HasRoom writer.old (canonical (E.shape.tree (E.seen value.now))) }
+    ensures { Appends writer.old writer.new (canonical (E.shape.tree (E.seen value.now))) }
 {
     E::write(value, writer);
 }

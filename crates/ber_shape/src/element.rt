@@ -1,6 +1,7 @@
-ghost use Rattle.std.specs.Prelude.{◌≡◌, ◌++◌, ◌+◌, ◌≤◌, ◌<◌, ◌^◌, length};
+ghost use Rattle.std.specs.Prelude.{◌≡◌, ◌≤◌, ◌<◌, ◌^◌, length};
 ghost use Rattle.ber_core.specs.Reading.{Gives};
 ghost use Rattle.ber_core.specs.Spelling.{canonical};
+ghost use Rattle.ber_core.specs.Written.{HasRoom, Appends};
 
 use ber_core::{BerFault, Reader, Writer};
 
@@ -38,9 +39,6 @@ pub trait Element<'a> {
     fn write(value: &Self::Value, writer: &mut Writer)
         requires fits { shape.Fits (seen value.now) }
         requires small { shape.most < 2 ^ 64 }
-        requires room { length (canonical (shape.tree (seen value.now))) ≤ writer.old.room }
-        ensures octets { writer.new.octets ≡ writer.old.octets
-            ++ canonical (shape.tree (seen value.now)) }
-        ensures room { writer.new.room + length (canonical (shape.tree (seen value.now)))
-            ≡ writer.old.room };
+        requires room { HasRoom writer.old (canonical (shape.tree (seen value.now))) }
+        ensures { Appends writer.old writer.new (canonical (shape.tree (seen value.now))) };
 }

@@ -1,9 +1,10 @@
 // Lists that are lent: a list is checked whole once, and then read item by item from the same
 // octets.
 
-ghost use Rattle.std.specs.Prelude.{◌≡◌, ◌<◌, ◌≤◌, ◌++◌, ◌+◌, ◌^◌, length, IsOk};
+ghost use Rattle.std.specs.Prelude.{◌≡◌, ◌<◌, ◌≤◌, ◌^◌, length, IsOk};
 ghost use Rattle.ber_core.specs.Reading.{Gives};
 ghost use Rattle.ber_core.specs.Spelling.{canonical_all};
+ghost use Rattle.ber_core.specs.Written.{HasRoom, Appends};
 ghost use Rattle.ber_shape.specs.List.{list_of, many_at, each_tree, times};
 ghost use Rattle.ber_shape.specs.Exact.{whole};
 ghost use Rattle.ber_shape.specs.Lent.{Lends, LendsSome, passed, SplitsFirst, lent, values};
@@ -101,12 +102,10 @@ pub fn list_size<'a, E: Element<'a>>(most: usize, octets: &'a [u8]) -> usize
 pub fn write_list<'a, E: Element<'a>>(most: usize, octets: &'a [u8], writer: &mut Writer)
     requires some { IsOk (whole (list_of E.shape most).read octets.now) }
     requires each { E.shape.most < 2 ^ 64 }
-    requires room { length (canonical_all (each_tree E.shape.tree
-        (values (list_of E.shape most) octets.now))) ≤ writer.old.room }
-    ensures octets { writer.new.octets ≡ writer.old.octets
-        ++ canonical_all (each_tree E.shape.tree (values (list_of E.shape most) octets.now)) }
-    ensures room { writer.new.room + length (canonical_all
-        (each_tree E.shape.tree (values (list_of E.shape most) octets.now))) ≡ writer.old.room }
+    requires room { HasRoom writer.old
+        (canonical_all (each_tree E.shape.tree (values (list_of E.shape most) octets.now))) }
+    ensures { Appends writer.old writer.new
+        (canonical_all (each_tree E.shape.tree (values (list_of E.shape most) octets.now))) }
 {
     laws::slice(octets);
     let mut rest = octets;

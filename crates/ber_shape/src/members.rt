@@ -1,7 +1,8 @@
-ghost use Rattle.std.specs.Prelude.{◌≡◌, ◌++◌, ◌+◌, ◌≤◌, ◌<◌, ◌^◌, length};
+ghost use Rattle.std.specs.Prelude.{◌≡◌, ◌+◌, ◌≤◌, ◌<◌, ◌^◌, length};
 ghost use Rattle.ber_core.specs.Reading.{Gives};
 ghost use Rattle.ber_core.specs.Tree.{constructed, tree_and, no_trees};
 ghost use Rattle.ber_core.specs.Spelling.{canonical, canonical_all};
+ghost use Rattle.ber_core.specs.Written.{HasRoom, Appends};
 ghost use Rattle.ber_shape.specs.Steps.{within_at};
 
 use crate::element::Element;
@@ -41,11 +42,8 @@ pub trait Members<'a> {
     fn write(value: &Self::Value, writer: &mut Writer)
         requires fits { shape.Fits (seen value.now) }
         requires small { shape.most < 2 ^ 64 }
-        requires room { length (canonical_all (shape.trees (seen value.now))) ≤ writer.old.room }
-        ensures octets { writer.new.octets ≡ writer.old.octets
-            ++ canonical_all (shape.trees (seen value.now)) }
-        ensures room { writer.new.room + length (canonical_all (shape.trees (seen value.now)))
-            ≡ writer.old.room };
+        requires room { HasRoom writer.old (canonical_all (shape.trees (seen value.now))) }
+        ensures { Appends writer.old writer.new (canonical_all (shape.trees (seen value.now))) };
 }
 
 /// Reads a constructed element and what stands in it.
@@ -81,12 +79,10 @@ pub fn size_within<'a, M: Members<'a>>(identifier: &[u8], value: &M::Value) -> u
 pub fn write_within<'a, M: Members<'a>>(identifier: &[u8], value: &M::Value, writer: &mut Writer)
     requires fits { M.shape.Fits (M.seen value.now) }
     requires small { length identifier.now + 9 + M.shape.most < 2 ^ 64 }
-    requires room { length (canonical (constructed identifier.now
-        (M.shape.trees (M.seen value.now)))) ≤ writer.old.room }
-    ensures octets { writer.new.octets ≡ writer.old.octets
-        ++ canonical (constructed identifier.now (M.shape.trees (M.seen value.now))) }
-    ensures room { writer.new.room + length (canonical
-        (constructed identifier.now (M.shape.trees (M.seen value.now)))) ≡ writer.old.room }
+    requires room { HasRoom writer.old
+        (canonical (constructed identifier.now (M.shape.trees (M.seen value.now)))) }
+    ensures { Appends writer.old writer.new
+        (canonical (constructed identifier.now (M.shape.trees (M.seen value.now)))) }
 {
     writer.head(identifier, M::size(value));
     M::write(value, writer);
@@ -124,14 +120,12 @@ pub fn size_around<'a, E: Element<'a>>(identifier: &[u8], value: &E::Value) -> u
 pub fn write_around<'a, E: Element<'a>>(identifier: &[u8], value: &E::Value, writer: &mut Writer)
     requires fits { E.shape.Fits (E.seen value.now) }
     requires small { length identifier.now + 9 + E.shape.most < 2 ^ 64 }
-    requires room { length (canonical (constructed identifier.now
-        (tree_and (E.shape.tree (E.seen value.now)) no_trees))) ≤ writer.old.room }
-    ensures octets { writer.new.octets ≡ writer.old.octets
-        ++ canonical (constructed identifier.now
-        (tree_and (E.shape.tree (E.seen value.now)) no_trees)) }
-    ensures room { writer.new.room + length (canonical
-        (constructed identifier.now (tree_and (E.shape.tree (E.seen value.now)) no_trees)))
-        ≡ writer.old.room }
+    requires room { HasRoom writer.old
+        (canonical (constructed identifier.now
+        (tree_and (E.shape.tree (E.seen value.now)) no_trees))) }
+    ensures { Appends writer.old writer.new
+        (canonical (constructed identifier.now
+        (tree_and (E.shape.tree (E.seen value.now)) no_trees))) }
 {
     writer.head(identifier, E::size(value));
     E::write(value, writer);

@@ -1,6 +1,7 @@
-ghost use Rattle.std.specs.Prelude.{◌≡◌, ◌++◌, ◌+◌, ◌≤◌, length};
+ghost use Rattle.std.specs.Prelude.{◌≡◌, ◌+◌, length};
 ghost use Rattle.ber_core.specs.Reading.{Gives};
 ghost use Rattle.ber_core.specs.Spelling.{canonical};
+ghost use Rattle.ber_core.specs.Written.{HasRoom, Appends};
 ghost use Rattle.ber_shape.specs.Members.{structured};
 ghost use Rattle.ber_shape.specs.Exact.{whole, IsDecoded};
 
@@ -46,14 +47,12 @@ pub trait Pdu<'a>: Members<'a, Value = Self> + Sized {
     /// Appends the canonical spelling.
     final fn encode(&self, writer: &mut Writer)
         requires fits { Self.Members.shape.Fits (Self.Members.seen self.now) }
-        requires room { length (canonical ((structured tag Self.Members.shape is_tag).tree
-            (Self.Members.seen self.now))) ≤ writer.old.room }
-        ensures octets { writer.new.octets ≡ writer.old.octets
-            ++ canonical ((structured tag Self.Members.shape is_tag).tree
-            (Self.Members.seen self.now)) }
-        ensures room { writer.new.room + length
+        requires room { HasRoom writer.old
             (canonical ((structured tag Self.Members.shape is_tag).tree
-            (Self.Members.seen self.now))) ≡ writer.old.room }
+            (Self.Members.seen self.now))) }
+        ensures { Appends writer.old writer.new
+            (canonical ((structured tag Self.Members.shape is_tag).tree
+            (Self.Members.seen self.now))) }
     {
         write_within::<Self>(Self::identifier(), self, writer);
     }

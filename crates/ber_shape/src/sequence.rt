@@ -1,6 +1,7 @@
-ghost use Rattle.std.specs.Prelude.{◌≡◌, ◌++◌, ◌+◌, ◌≤◌, length};
+ghost use Rattle.std.specs.Prelude.{◌≡◌, length};
 ghost use Rattle.ber_core.specs.Reading.{Gives};
 ghost use Rattle.ber_core.specs.Spelling.{canonical};
+ghost use Rattle.ber_core.specs.Written.{HasRoom, Appends};
 ghost use Rattle.ber_shape.specs.Exact.{whole};
 ghost use Rattle.ber_shape.specs.Fields.{sequence_read, sequence_tree, IsSequence};
 
@@ -59,14 +60,12 @@ pub trait Sequence<'a, I: Identifier>: Drop + Sized {
     /// Appends the canonical spelling.
     final fn encode(&self, writer: &mut Writer)
         requires fits { Self.Fields.shape.Fits (Self.Fields.seen (values_of self.now)) }
-        requires room { length (canonical (sequence_tree I.octet Self.Fields.shape
-            (Self.Fields.seen (values_of self.now)))) ≤ writer.old.room }
-        ensures octets { writer.new.octets ≡ writer.old.octets
-            ++ canonical (sequence_tree I.octet Self.Fields.shape
-            (Self.Fields.seen (values_of self.now))) }
-        ensures room { writer.new.room + length
+        requires room { HasRoom writer.old
             (canonical (sequence_tree I.octet Self.Fields.shape
-            (Self.Fields.seen (values_of self.now)))) ≡ writer.old.room }
+            (Self.Fields.seen (values_of self.now)))) }
+        ensures { Appends writer.old writer.new
+            (canonical (sequence_tree I.octet Self.Fields.shape
+            (Self.Fields.seen (values_of self.now)))) }
     {
         write_within::<Self::Fields>(&[I::octet()], &self.to_values(), writer);
     }

@@ -1,5 +1,6 @@
-ghost use Rattle.std.specs.Prelude.{◌≡◌, ◌++◌, ◌+◌, ◌≤◌, length};
+ghost use Rattle.std.specs.Prelude.{◌≡◌, length};
 ghost use Rattle.ber_core.specs.Reading.{Gives};
+ghost use Rattle.ber_core.specs.Written.{HasRoom, Appends};
 ghost use Rattle.ber_shape.specs.Exact.{whole, IsDecoded};
 ghost use Rattle.bind_pdu.specs.Aborting.{peer_abort, abort_octets};
 ghost use Rattle.bind_pdu.specs.Seen.{diagnostic_of};
@@ -34,9 +35,8 @@ impl PeerAbort {
     /// Appends the canonical spelling.
     pub fn encode(&self, writer: &mut Writer)
         requires fits { peer_abort.Fits (diagnostic_of self.now) }
-        requires room { length (abort_octets self.now) ≤ writer.old.room }
-        ensures octets { writer.new.octets ≡ writer.old.octets ++ abort_octets self.now }
-        ensures room { writer.new.room + length (abort_octets self.now) ≡ writer.old.room }
+        requires room { HasRoom writer.old (abort_octets self.now) }
+        ensures { Appends writer.old writer.new (abort_octets self.now) }
     {
         ber_shape::encode::<PeerAbort>(self, writer);
     }

@@ -1,5 +1,6 @@
-ghost use Rattle.std.specs.Prelude.{◌≡◌, ◌++◌, ◌+◌, ◌≤◌, length};
+ghost use Rattle.std.specs.Prelude.{◌≡◌, length};
 ghost use Rattle.ber_core.specs.Spelling.{canonical};
+ghost use Rattle.ber_core.specs.Written.{HasRoom, Appends};
 ghost use Rattle.return_pdu.specs.TransferItem.{ItemFits, item_tree};
 ghost use Rattle.return_pdu.specs.Seen.{content_of};
 
@@ -35,11 +36,8 @@ impl<'a> Item<'a> {
     /// Appends the canonical spelling.
     pub fn write(&self, writer: &mut Writer)
         requires fits { ItemFits (content_of self.now) }
-        requires room { length (canonical (item_tree (content_of self.now))) ≤ writer.old.room }
-        ensures octets { writer.new.octets ≡ writer.old.octets
-            ++ canonical (item_tree (content_of self.now)) }
-        ensures room { writer.new.room + length (canonical (item_tree (content_of self.now)))
-            ≡ writer.old.room }
+        requires room { HasRoom writer.old (canonical (item_tree (content_of self.now))) }
+        ensures { Appends writer.old writer.new (canonical (item_tree (content_of self.now))) }
     {
         match self {
             Item::Data(frame) => match frame.quality {

@@ -1,6 +1,7 @@
-ghost use Rattle.std.specs.Prelude.{◌≡◌, ◌+◌, ◌≤◌, ◌<◌, ◌^◌, ◌∷◌, [], ◌++◌, length, MatchOption};
+ghost use Rattle.std.specs.Prelude.{◌≡◌, ◌+◌, ◌≤◌, ◌<◌, ◌^◌, ◌∷◌, [], length, MatchOption};
 ghost use Rattle.std.specs.Prelude.{IfSome, IsOk, Ok};
 ghost use Rattle.ber_core.specs.Reading.{Gives};
+ghost use Rattle.ber_core.specs.Written.{HasRoom, Appends};
 ghost use Rattle.ber_shape.specs.Exact.{whole, IsDecoded};
 ghost use Rattle.return_pdu.specs.declared.service.Service.TheVariants.{Raf, Rcf};
 ghost use Rattle.return_pdu.specs.Items.{buffer_start};
@@ -122,9 +123,8 @@ pub fn buffer_length(content: usize) -> usize
 /// Appends the tag and length of a transfer buffer whose items, which the caller appends next, have
 /// so many octets.
 pub fn buffer_head(content: usize, writer: &mut Writer)
-    requires { length (buffer_start content) ≤ writer.old.room }
-    ensures octets { writer.new.octets ≡ writer.old.octets ++ buffer_start content }
-    ensures room { writer.new.room + length (buffer_start content) ≡ writer.old.room }
+    requires { HasRoom writer.old (buffer_start content) }
+    ensures { Appends writer.old writer.new (buffer_start content) }
 {
     writer.head(&BUFFER, content);
 }

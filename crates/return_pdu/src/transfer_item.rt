@@ -1,5 +1,6 @@
-ghost use Rattle.std.specs.Prelude.{◌≡◌, ◌++◌, ◌+◌, ◌≤◌, length};
+ghost use Rattle.std.specs.Prelude.{◌≡◌, ◌+◌, ◌≤◌, length};
 ghost use Rattle.ber_core.specs.Spelling.{canonical};
+ghost use Rattle.ber_core.specs.Written.{HasRoom, Appends};
 ghost use Rattle.return_pdu.specs.TransferItem.{ItemFits, item_tree};
 ghost use Rattle.return_pdu.specs.Items.{frame, frame_of, end_of_data};
 ghost use Rattle.return_pdu.specs.Fields.{IsFrame};
@@ -97,11 +98,8 @@ impl<'a> TransferItem<'a> {
     /// Appends the canonical spelling.
     pub fn encode(&self, writer: &mut Writer)
         requires fits { ItemFits (item_of self.now) }
-        requires room { length (canonical (item_tree (item_of self.now))) ≤ writer.old.room }
-        ensures octets { writer.new.octets ≡ writer.old.octets
-            ++ canonical (item_tree (item_of self.now)) }
-        ensures room { writer.new.room + length (canonical (item_tree (item_of self.now)))
-            ≡ writer.old.room }
+        requires room { HasRoom writer.old (canonical (item_tree (item_of self.now))) }
+        ensures { Appends writer.old writer.new (canonical (item_tree (item_of self.now))) }
     {
         let item = self.parts();
         item.write(writer);

@@ -1,7 +1,8 @@
 // Service instance identifiers in PDUs.
-ghost use Rattle.std.specs.Prelude.{◌≡◌, ◌++◌, ◌+◌, ◌*◌, ◌≤◌, ◌↔◌, IsTrue, length};
+ghost use Rattle.std.specs.Prelude.{◌≡◌, ◌*◌, ◌≤◌, ◌↔◌, IsTrue, length};
 ghost use Rattle.ber_core.specs.Reading.{Gives};
 ghost use Rattle.ber_core.specs.Spelling.{canonical_all};
+ghost use Rattle.ber_core.specs.Written.{HasRoom, Appends};
 ghost use Rattle.ber_shape.specs.List.{each_tree};
 ghost use Rattle.sle_common.specs.Identifier.{IsIdentifier};
 ghost use Rattle.sle_common.specs.IdentifierOctets.{part, parts};
@@ -166,11 +167,8 @@ fn size_own(parts: &[InstancePart]) -> usize
 // Appends the canonical spelling of these parts.
 fn write_own(parts: &[InstancePart], writer: &mut Writer)
     requires valid { IsIdentifier parts.now }
-    requires room { length (canonical_all (each_tree part.tree parts.now)) ≤ writer.old.room }
-    ensures octets { writer.new.octets ≡ writer.old.octets
-        ++ canonical_all (each_tree part.tree parts.now) }
-    ensures room { writer.new.room + length (canonical_all (each_tree part.tree parts.now))
-        ≡ writer.old.room }
+    requires room { HasRoom writer.old (canonical_all (each_tree part.tree parts.now)) }
+    ensures { Appends writer.old writer.new (canonical_all (each_tree part.tree parts.now)) }
 {
     for part in parts {
         PartSet::write(&part.lend(), writer);

@@ -1,9 +1,10 @@
 // The parameters that GET-PARAMETER answers.
-ghost use Rattle.std.specs.Prelude.{◌≡◌, ◌++◌, ◌+◌, ◌^◌, ◌<◌, ◌≤◌, ◌∷◌, [], length, pos};
+ghost use Rattle.std.specs.Prelude.{◌≡◌, ◌+◌, ◌^◌, ◌<◌, ◌≤◌, ◌∷◌, [], length, pos};
 ghost use Rattle.ber_core.specs.Reading.{Gives};
 ghost use Rattle.ber_core.specs.Integer.{integer_octets};
 ghost use Rattle.ber_core.specs.Tree.{constructed, primitive};
 ghost use Rattle.ber_core.specs.Spelling.{canonical};
+ghost use Rattle.ber_core.specs.Written.{HasRoom, Appends};
 ghost use Rattle.ber_shape.specs.Steps.{within_at};
 ghost use Rattle.sle_common.specs.Parameter.{named_at, named_trees};
 
@@ -154,14 +155,12 @@ fn write_named<'a, E: Element<'a>>(
 )
     requires fits { E.shape.Fits (E.seen value.now) }
     requires small { length identifier.now + 35 + E.shape.most < 2 ^ 64 }
-    requires room { length (canonical (constructed identifier.now
-        (named_trees name (E.shape.tree (E.seen value.now))))) ≤ writer.old.room }
-    ensures octets { writer.new.octets ≡ writer.old.octets
-        ++ canonical (constructed identifier.now
-        (named_trees name (E.shape.tree (E.seen value.now)))) }
-    ensures room { writer.new.room + length (canonical
-        (constructed identifier.now (named_trees name (E.shape.tree (E.seen value.now)))))
-        ≡ writer.old.room }
+    requires room { HasRoom writer.old
+        (canonical (constructed identifier.now
+        (named_trees name (E.shape.tree (E.seen value.now))))) }
+    ensures { Appends writer.old writer.new
+        (canonical (constructed identifier.now
+        (named_trees name (E.shape.tree (E.seen value.now))))) }
 {
     writer.head(identifier, name_size(name) + E::size(value));
     write_name(name, writer);
@@ -169,12 +168,9 @@ fn write_named<'a, E: Element<'a>>(
 }
 
 fn write_name(name: u8, writer: &mut Writer)
-    requires { length (canonical (primitive (0x02 ∷ []) (integer_octets (pos name))))
-        ≤ writer.old.room }
-    ensures octets { writer.new.octets ≡ writer.old.octets
-        ++ canonical (primitive (0x02 ∷ []) (integer_octets (pos name))) }
-    ensures room { writer.new.room + length (canonical
-        (primitive (0x02 ∷ []) (integer_octets (pos name)))) ≡ writer.old.room }
+    requires { HasRoom writer.old (canonical (primitive (0x02 ∷ []) (integer_octets (pos name)))) }
+    ensures { Appends writer.old writer.new
+        (canonical (primitive (0x02 ∷ []) (integer_octets (pos name)))) }
 {
     writer.integer(&[0x02], i128::from(name));
 }

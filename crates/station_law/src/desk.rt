@@ -7,6 +7,7 @@ ghost use Rattle.std.specs.Option.{ForSome};
 ghost use Rattle.archive_terms.specs.declared.limits.TheConstants.{GREATEST_LOST};
 ghost use Rattle.archive_terms.specs.Archive.{is_storable, IsArchive, is_closed};
 ghost use Rattle.ber_core.specs.Spelling.{canonical};
+ghost use Rattle.ber_core.specs.Written.{HasRoom, Appends};
 ghost use Rattle.isp1_tml.specs.Message.{header};
 ghost use Rattle.return_pdu.specs.Items.{frame, end_of_data, buffer_start};
 ghost use Rattle.return_pdu.specs.Fields.{IsFrame};
@@ -95,11 +96,8 @@ impl<'a> Picked<'a> {
 
     fn put(&self, writer: &mut Writer)
         requires fields { IsFrame (frame_in self.now) }
-        requires fits { length (canonical (frame (frame_in self.now))) ≤ writer.old.room }
-        ensures octets { writer.new.octets ≡ writer.old.octets
-            ++ canonical (frame (frame_in self.now)) }
-        ensures room { writer.new.room + length (canonical (frame (frame_in self.now)))
-            ≡ writer.old.room }
+        requires fits { HasRoom writer.old (canonical (frame (frame_in self.now))) }
+        ensures { Appends writer.old writer.new (canonical (frame (frame_in self.now))) }
     {
         let item = self.item();
         item.encode(writer);

@@ -41,22 +41,15 @@ loop-item-preserved g c =
       some = c.in-Some.ensures.1;
       each = (fits_more f rest others _ c.in-Some.ensures.0 c.loop-item.invariant.each).1;
       octets = one_more f c.loop-item.writer.octets c.write.new.writer.octets _ rest others _
-          c.in-Some.ensures.0 c.write.ensures.octets c.loop-item.invariant.octets;
-      room = omega (arith, sizes, c.loop-item.invariant.room, c.write.ensures.room);
-      fits = omega (arith, sizes, c.loop-item.invariant.fits, c.write.ensures.room);
+          c.in-Some.ensures.0 c.write.ensures.0 c.loop-item.invariant.octets;
+      room = omega (arith, sizes, c.loop-item.invariant.room, c.write.ensures.1);
+      fits = omega (arith, sizes, c.loop-item.invariant.fits, c.write.ensures.1);
     }
 
-pub returns-clause-octets : goal.returns-clause-octets
-returns-clause-octets g c =
+pub returns : goal.returns
+returns g c =
     let f = g.E.Element.shape in
-    no_more f c.loop-item.writer.octets _ (values (list_of f c.args.most) c.loop-item.rest.now)
-    c.in_default.ensures c.loop-item.invariant.octets
-
-pub returns-clause-room : goal.returns-clause-room
-returns-clause-room g c =
-    let f = g.E.Element.shape in
-    omega (
-      arith,
-      c.loop-item.invariant.room,
-      size_none f (values (list_of f c.args.most) c.loop-item.rest.now) c.in_default.ensures,
+    let rest = values (list_of f c.args.most) c.loop-item.rest.now in (
+      no_more f c.loop-item.writer.octets _ rest c.in_default.ensures c.loop-item.invariant.octets,
+      omega (arith, c.loop-item.invariant.room, size_none f rest c.in_default.ensures),
     )

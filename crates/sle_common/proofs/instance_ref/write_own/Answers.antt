@@ -28,7 +28,7 @@ loop-part-preserved c =
     let less = one_less c.args.parts.now c.loop-part.part-index p c.loop-part-test.true
     (sym c.part-item.is) in
     let same = ap (λ q. length (canonical (part.tree q))) c.lend.ensures in
-    let appended = c.write.ensures.octets
+    let appended = c.write.ensures.0
     ∙ ap (λ q. c.loop-part.writer.octets ++ canonical (part.tree q)) c.lend.ensures in (
       ap (λ front. front ++ more) appended
           ∙ append_assoc c.loop-part.writer.octets (canonical (part.tree p)) more
@@ -36,7 +36,7 @@ loop-part-preserved c =
       omega (
         arith,
         c.loop-part.invariant.1,
-        c.write.ensures.room,
+        c.write.ensures.1,
         same,
         ap length less,
         length-append (canonical (part.tree p)) more,
@@ -44,15 +44,10 @@ loop-part-preserved c =
       c.loop-part.invariant.2,
     )
 
-pub returns-clause-octets : goal.returns-clause-octets
-returns-clause-octets c =
-    let none = none_left c.args.parts.now c.loop-part.part-index c.loop-part-test.false in
-    sym (append-nil c.loop-part.writer.octets)
-    ∙ ap (λ rest. c.loop-part.writer.octets ++ rest) (sym none) ∙ c.loop-part.invariant.0
-
-pub returns-clause-room : goal.returns-clause-room
-returns-clause-room c = omega (
-  arith,
-  c.loop-part.invariant.1,
-  ap length (none_left c.args.parts.now c.loop-part.part-index c.loop-part-test.false),
-)
+pub returns : goal.returns
+returns c =
+    let none = none_left c.args.parts.now c.loop-part.part-index c.loop-part-test.false in (
+      sym (append-nil c.loop-part.writer.octets)
+          ∙ ap (λ rest. c.loop-part.writer.octets ++ rest) (sym none) ∙ c.loop-part.invariant.0,
+      omega (arith, c.loop-part.invariant.1, ap length none),
+    )

@@ -13,10 +13,5 @@ content c = shortest-integer_octets c.args.value c.to_be_bytes.result
 pub octet_string-requires : goal.octet_string-requires
 octet_string-requires c = rw (content c) c.requires.fits
 
-pub returns-clause-octets : goal.returns-clause-octets
-returns-clause-octets c = rw (← content (goal.at.returns-clause-octets c).After-shortest_complement)
-    c.octet_string.ensures.octets
-
-pub returns-clause-room : goal.returns-clause-room
-returns-clause-room c = rw (← content (goal.at.returns-clause-room c).After-shortest_complement)
-    c.octet_string.ensures.room
+pub returns : goal.returns
+returns c = rw (← content (goal.at.returns c).After-shortest_complement) c.octet_string.ensures

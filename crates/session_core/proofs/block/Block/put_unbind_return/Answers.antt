@@ -21,7 +21,7 @@ encode-requires c κs =
           arith,
           few_unbind_return (unbind_return_of c.args.answer.now) c.requires,
           eight,
-          c.raw.ensures.room,
+          c.raw.ensures.1,
           c.clear.ensures.room,
           c.self.invariant,
         ),
