@@ -58,6 +58,3 @@ pub use stop::Stop;
 pub use stop_return::StopReturn;
 pub use transfer_buffer::{TransferBuffer, buffer_head, buffer_length};
 pub use transfer_item::TransferItem;
-
-#[cfg(test)]
-mod tests;

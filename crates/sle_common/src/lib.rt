@@ -40,6 +40,3 @@ pub use parameter::Parameter;
 pub use part_ref::PartRef;
 pub use report_kind::ReportKind;
 pub use time::{ConditionalTime, Time};
-
-#[cfg(test)]
-mod tests;
