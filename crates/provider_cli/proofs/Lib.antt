@@ -9,3 +9,4 @@ pub mod Outcomes
 pub mod Each
 pub mod Readable
 pub mod Promises
+pub mod Lists

@@ -13,12 +13,12 @@ use Rattle.station_law.specs.State.{start}
 use Rattle.station_law.specs.Lines.{step_text}
 use Rattle.station_law.specs.Runs.{in_order, all_fine}
 use Rattle.provider_cli.specs.declared.status.Status.{Status}
-use Rattle.provider_cli.specs.declared.status.Status.TheVariants.{Done, BadLine, BadSite, Full}
 use Rattle.provider_cli.specs.declared.status.Status.TheVariants.{WriteFault, Memory}
-use Rattle.provider_cli.specs.Command.{code, EndsAs}
-use Rattle.provider_cli.specs.Drilled.{text_by, status_by, IsOf, Drilled}
+use Rattle.provider_cli.specs.Command.{code, closed, Closes, EndsAs}
+use Rattle.provider_cli.specs.Drilled.{text_by, status_by, ran, ended, Drilled}
+use Rattle.provider_cli.specs.Drilled.{HasText, HasReads, HasWrites, HasScript}
 use Rattle.provider_cli.specs.Lines.{lines_of}
-use Rattle.provider_cli.specs.Outside.{showing}
+use Rattle.provider_cli.specs.Outside.{Outside, showing}
 use Rattle.provider_cli.specs.Script.{Script, bad_site, no_end, runs, script_of, most_octets}
 use Rattle.provider_cli.specs.Script.{status_of}
 use Rattle.provider_cli.specs.Script as script
@@ -36,101 +36,65 @@ unraised : {T : Type 0} (before after : Option (List ℕ)) (f g : ℕ) (text : L
 unraised before after f g text result wrote other =
     ⊎_elim (λ is. absurd (other is)) (λ same. same) wrote.kept
 
--- a script ends with one of four statuses
-end_by : (P : Status → Type 0) → P Done → P BadLine → P Full → (good fine : Bool)
-    → P (script.status_by good fine)
-end_by P done bad full false fine = bad
-end_by P done bad full true true = done
-end_by P done bad full true false = full
+-- a script whose lines or head were read to their end ran
+ran_by : (good fine : Bool) → ended (script.status_by good fine) ≡ ran
+ran_by false fine = refl
+ran_by true true = refl
+ran_by true false = refl
 
-an_end : (P : Status → Type 0) → P Done → P BadLine → P BadSite → P Full → (s : Script)
-    → P (status_of s)
-an_end P done bad site full (bad_site refusal) = site
-an_end P done bad site full (no_end number) = bad
-an_end P done bad site full (runs capacity lines) =
-    end_by P done bad full (in_order step_text (start capacity) lines)
-    (all_fine step_text (start capacity) lines)
+ends_ran : (s : Script) → ended (status_of s) ≡ ran
+ends_ran (bad_site refusal) = refl
+ends_ran (no_end number) = refl
+ends_ran (runs capacity lines) =
+    ran_by (in_order step_text (start capacity) lines) (all_fine step_text (start capacity) lines)
 
 module _ (left left_now before after : Option (List ℕ)) (r s f g : ℕ) (script : List ℕ)
     (read : IfSome left (λ octets. script ≡ octets)) (short : length script ≤ most_octets)
     (kept : s ≡ r) where
-  -- all of its text was written, at a status that it ends with
-  abbrev AllWritten : Status → Type 0
-  AllWritten status =
-      Wrote {T = Status} before after f g (text_by script) (Ok status)
-      → status_by script ≡ status
-      → Drilled (showing left r before f) (showing left_now s after g) status
+  abbrev old : Outside
+  old = showing left r before f
 
-  count_kept : (status : Status) → Wrote {T = Status} before after f g (text_by script) (Ok status)
-      → g ≡ f
-  count_kept status wrote = unraised before after f g (text_by script) (Ok status) wrote
-      (λ is. absurd cc)
+  abbrev new : Outside
+  new = showing left_now s after g
 
-  text_is : (status : Status) → Wrote {T = Status} before after f g (text_by script) (Ok status)
-      → IfSome left (λ script. Gains before after (text_by script))
-  text_is status wrote = of_input left script (λ script. Gains before after (text_by script)) read
-      wrote.all
-
-  script_is : (status : Status) → status_by script ≡ status → IfSome left (IsOf status)
-  script_is status is = of_input left script (IsOf status) read (short, is)
-
-  done : AllWritten Done
-  done = λ wrote is. record {
-    text = text_is Done wrote;
-    reads = kept;
-    writes = count_kept Done wrote;
-    script = script_is Done is;
-  }
-
-  bad : AllWritten BadLine
-  bad = λ wrote is. record {
-    text = text_is BadLine wrote;
-    reads = kept;
-    writes = count_kept BadLine wrote;
-    script = script_is BadLine is;
-  }
-
-  site : AllWritten BadSite
-  site = λ wrote is. record {
-    text = text_is BadSite wrote;
-    reads = kept;
-    writes = count_kept BadSite wrote;
-    script = script_is BadSite is;
-  }
-
-  full : AllWritten Full
-  full = λ wrote is. record {
-    text = text_is Full wrote;
-    reads = kept;
-    writes = count_kept Full wrote;
-    script = script_is Full is;
-  }
-
-  pub ran : (status : Status) → Wrote {T = Status} before after f g (text_by script) (Ok status)
+  -- all of its text was written, and it ends with its status
+  pub ran_whole : (status : Status)
+      → Wrote {T = Status} before after f g (text_by script) (Ok status)
       → status ≡ status_by script
       → Drilled (showing left r before f) (showing left_now s after g) status
-  ran status wrote is =
-      subst AllWritten (sym is) (an_end AllWritten done bad site full (script_of (lines_of script)))
-      wrote (sym is)
+  ran_whole status wrote is =
+      let whole : ran ≡ ended status = rw is (sym (ends_ran (script_of (lines_of script)))) in
+      record {
+        text = subst (HasText old new) whole
+            (of_input left script (λ script. Gains before after (text_by script)) read wrote.all);
+        reads = subst (HasReads old new) whole kept;
+        writes = subst (HasWrites old new) whole
+            (unraised before after f g (text_by script) (Ok status) wrote (λ is. absurd cc));
+        script = subst (HasScript old status) whole
+            (of_input left script
+            (λ script. (length script ≤ most_octets) × (status_by script ≡ status)) read
+            (short, sym is));
+      }
 
-  -- the output failed
-  pub cut_off : Wrote {T = Status} before after f g (text_by script)
-      (Err stops.WriteFault) → Drilled (showing left r before f) (showing left_now s after g)
-      WriteFault
-  cut_off wrote = record {
-    text = of_input left script (λ script. GainsFront before after (text_by script)) read
-        wrote.front;
+  -- what begins its text
+  begun : {T : Type 0} (stop : Stop) → Wrote {T = T} before after f g (text_by script) (Err stop)
+      → IfSome left (λ script. GainsFront before after (text_by script))
+  begun stop wrote =
+      of_input left script (λ script. GainsFront before after (text_by script)) read wrote.front
+
+  pub output_failed : Wrote {T = Status} before after f g (text_by script) (Err stops.WriteFault)
+      → Drilled (showing left r before f) (showing left_now s after g) WriteFault
+  output_failed wrote = record {
+    text = begun stops.WriteFault wrote;
     reads = kept;
     writes = wrote.raised refl;
     script = of_input left script (λ script. length script ≤ most_octets) read short;
   }
 
-  -- memory was refused while it ran
-  pub given_up : Wrote {T = Status} before after f g (text_by script) (Err stops.Memory)
+  pub memory_refused : Wrote {T = Status} before after f g (text_by script) (Err stops.Memory)
       → Drilled (showing left r before f) (showing left_now s after g) Memory
-  given_up wrote = record {
-    text = of_input left script (λ script. GainsFront before after (text_by script)) read
-        wrote.front;
+  memory_refused wrote = record {
+    text = begun stops.Memory wrote;
     reads = kept;
     writes = unraised before after f g (text_by script) (Err stops.Memory) wrote
         (λ is. absurd cc);
@@ -168,6 +132,18 @@ not_run left left_now written r s f kept = record {
   writes = refl;
   script = tt;
 }
+
+-- a command's text was written, and its exit code is by how that ended
+pub closes_by : (before after : Option (List ℕ)) (f g : ℕ) (text : List ℕ) (own : Status)
+    (exit : ℕ) (result : Result (Unit {0}) Stop) → exit ≡ code (closed result own)
+    → Wrote before after f g text result → Closes before after f g text own exit
+closes_by before after f g text own exit (Ok done) is wrote =
+    inl (is, wrote.all, unraised before after f g text (Ok done) wrote (λ e. absurd cc))
+closes_by before after f g text own exit (Err stops.WriteFault) is wrote =
+    inr (inl (is, wrote.front, wrote.raised refl))
+closes_by before after f g text own exit (Err stops.Memory) is wrote =
+    inr (inr (is, wrote.front, unraised before after f g text (Err stops.Memory) wrote
+    (λ e. absurd cc)))
 
 -- an exit code that is a status's
 pub ends_as : (exit : ℕ) (IsSo : Status → Type 0) (status : Status) → exit ≡ code status

@@ -24,7 +24,9 @@ use Rattle.provider_cli.specs.declared.status.Status.{Status}
 use Rattle.provider_cli.specs.declared.status.Status.TheVariants.{Done, Usage, BadLine, BadSite}
 use Rattle.provider_cli.specs.declared.status.Status.TheVariants.{ReadFault, WriteFault, Full}
 use Rattle.provider_cli.specs.declared.status.Status.TheVariants.{InputTooLong, Memory}
-use Rattle.provider_cli.specs.Drilled.{GainsAll, GainsSome, HasText, text_by, status_by, IsOf}
+use Rattle.provider_cli.specs.declared.status.Status.TheVariants.{ArchiveRefused, DiskFault}
+use Rattle.provider_cli.specs.Drilled.{GainsAll, GainsSome, HasText, text_by, status_by, ended}
+use Rattle.provider_cli.specs.Drilled.{Ended, ran, cut_off, given_up, unread, too_long, never}
 use Rattle.provider_cli.specs.Drilled.{Drilled, Completes}
 use Rattle.provider_cli.specs.Headline.{HasHeadline, terms_of, IsDelivered, HasRun, IsSent, sent}
 use Rattle.provider_cli.specs.Headline.{IsStreamed, IsReadOf, items_in, StaysRight}
@@ -182,27 +184,23 @@ module _ (laws : Laws) (script : List ℕ) (s : Start) (is : IsStartOf script s)
       ∙ sym (append_assoc before (flat_map sent (messages_of s))
       (transcript_from step_text (length s.earlier + 2) (world_at s) s.later))
 
--- the exact text, as what each status has written
-written_as : (script : List ℕ) (before after : Outside) (status : Status) (text : List ℕ)
+-- the exact text, as what was written where lines were run
+written_as : (script : List ℕ) (before after : Outside) (how : Ended) (text : List ℕ)
     → before.left ≡ Some script → text_by script ≡ text
-    → HasText before after status → HasRun before after text status
-written_as script before after Done text tells is has =
+    → HasText before after how → HasRun before after text how
+written_as script before after ran text tells is has =
     subst (GainsAll before after) is (rw tells at has)
-written_as script before after BadLine text tells is has =
-    subst (GainsAll before after) is (rw tells at has)
-written_as script before after Full text tells is has =
-    subst (GainsAll before after) is (rw tells at has)
-written_as script before after WriteFault text tells is has =
+written_as script before after cut_off text tells is has =
     subst (GainsSome before after) is (rw tells at has)
-written_as script before after Memory text tells is has =
+written_as script before after given_up text tells is has =
     subst (GainsSome before after) is (rw tells at has)
-written_as script before after BadSite text tells is has = tt
-written_as script before after Usage text tells is has = tt
-written_as script before after ReadFault text tells is has = tt
-written_as script before after InputTooLong text tells is has = tt
+written_as script before after unread text tells is has = tt
+written_as script before after too_long text tells is has = tt
+written_as script before after never text tells is has = tt
 
 -- each START of what the input has left
-pub each_sent : Laws → (before after : Outside) (status : Status) → HasText before after status
+pub each_sent : Laws → (before after : Outside) (status : Status)
+    → HasText before after (ended status)
     → EachStart before.left (IsSent before after status)
 each_sent laws before after status has = by_input before.left refl
   where
@@ -210,7 +208,7 @@ each_sent laws before after status has = by_input before.left refl
         → EachStart left (IsSent before after status)
     by_input None tells = tt
     by_input (Some script) tells = λ s is.
-        written_as script before after status _ tells (stands_sent laws script s is) has
+        written_as script before after (ended status) _ tells (stands_sent laws script s is) has
 
 pub each_start : (input : Option (List ℕ)) (IsSo : Start → Type 0)
     → ((script : List ℕ) (s : Start) → IsStartOf script s → IsSo s) → EachStart input IsSo
@@ -228,31 +226,36 @@ rose_up n = ⊎_elim (λ last. inr (let most : last_count ≤ n = last.1 in omeg
     (λ below. inl (let less : n < last_count = below.1 in omega arith)) (leb_tells last_count n)
 
 -- where no count rises, a script ends with its own status, or memory is wanted
-completes_with : (script : List ℕ) (before after : Outside) (status : Status)
-    → before.left ≡ Some script → Drilled before after status
-    → length script ≤ most_octets
-    → ¬ Rose before.read_faults after.read_faults → ¬ Rose before.write_faults after.write_faults
-    → (status ≡ status_by script) ⊎ (status ≡ Memory)
-completes_with script before after Done tells drilled short unread unwritten =
-    let found : IsOf Done script = rw tells at drilled.script in inl (sym found.1)
-completes_with script before after BadLine tells drilled short unread unwritten =
-    let found : IsOf BadLine script = rw tells at drilled.script in inl (sym found.1)
-completes_with script before after BadSite tells drilled short unread unwritten =
-    let found : IsOf BadSite script = rw tells at drilled.script in inl (sym found.1)
-completes_with script before after Full tells drilled short unread unwritten =
-    let found : IsOf Full script = rw tells at drilled.script in inl (sym found.1)
-completes_with script before after Memory tells drilled short unread unwritten = inr refl
-completes_with script before after Usage tells drilled short unread unwritten =
-    absurd drilled.text
-completes_with script before after InputTooLong tells drilled short unread unwritten =
-    let long : most_octets < length script = rw tells at drilled.script in
-    absurd (omega (arith, short, long))
-completes_with script before after ReadFault tells drilled short unread unwritten =
-    absurd (unread (subst (Rose before.read_faults) (sym drilled.reads)
-    (rose_up before.read_faults)))
-completes_with script before after WriteFault tells drilled short unread unwritten =
-    absurd (unwritten (subst (Rose before.write_faults) (sym drilled.writes)
-    (rose_up before.write_faults)))
+module _ (script : List ℕ) (before after : Outside) (tells : before.left ≡ Some script)
+    (short : length script ≤ most_octets)
+    (unraised : ¬ Rose before.read_faults after.read_faults)
+    (unwritten : ¬ Rose before.write_faults after.write_faults) where
+  own : (status : Status) → IfSome before.left
+      (λ script. (length script ≤ most_octets) × (status_by script ≡ status))
+      → (status ≡ status_by script) ⊎ (status ≡ Memory)
+  own status is =
+      let found : (length script ≤ most_octets) × (status_by script ≡ status) = rw tells at is in
+      inl (sym found.1)
+
+  completes_with : (status : Status) → Drilled before after status
+      → (status ≡ status_by script) ⊎ (status ≡ Memory)
+  completes_with Done drilled = own Done drilled.script
+  completes_with BadLine drilled = own BadLine drilled.script
+  completes_with BadSite drilled = own BadSite drilled.script
+  completes_with Full drilled = own Full drilled.script
+  completes_with Memory drilled = inr refl
+  completes_with Usage drilled = absurd drilled.text
+  completes_with ArchiveRefused drilled = absurd drilled.text
+  completes_with DiskFault drilled = absurd drilled.text
+  completes_with InputTooLong drilled =
+      let long : most_octets < length script = rw tells at drilled.script in
+      absurd (omega (arith, short, long))
+  completes_with ReadFault drilled =
+      absurd (unraised (subst (Rose before.read_faults) (sym drilled.reads)
+      (rose_up before.read_faults)))
+  completes_with WriteFault drilled =
+      absurd (unwritten (subst (Rose before.write_faults) (sym drilled.writes)
+      (rose_up before.write_faults)))
 
 pub completes : (before after : Outside) (status : Status) → Drilled before after status
     → Completes before after status
@@ -264,4 +267,5 @@ completes before after status drilled = by_input before.left refl
         → ¬ Rose before.write_faults after.write_faults
         → (status ≡ status_by script) ⊎ (status ≡ Memory))
     by_input None tells = tt
-    by_input (Some script) tells = completes_with script before after status tells drilled
+    by_input (Some script) tells = λ short unraised unwritten.
+        completes_with script before after tells short unraised unwritten status drilled

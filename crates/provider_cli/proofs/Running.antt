@@ -1,12 +1,14 @@
 -- The lines of a script, run one after another.
-use Rattle.std.proofs.Common.{◌≡◌, ℕ, zero, suc, ◌+◌, ◌<◌, Bool, true, false, not, ◌&&◌, List, []}
-use Rattle.std.proofs.Common.{◌∷◌, ◌++◌, length, Some, None, Ok, Err, refl, ap, ◌∙◌, arith}
+use Rattle.std.proofs.Common.{◌≡◌, ℕ, zero, suc, ◌+◌, ◌<◌, Bool, true, false, ◌&&◌, List, []}
+use Rattle.std.proofs.Common.{◌∷◌, ◌++◌, length, Option, Some, None, Ok, Err, refl, sym, ap, ◌∙◌}
+use Rattle.std.proofs.Common.{append-nil, arith}
 use Rattle.station_law.specs.declared.step_done.StepDone.{StepDone}
 use Rattle.station_law.specs.declared.step_done.StepDone.TheVariants.{Fine, Full, WrongState}
 use Rattle.station_config.specs.Drafts.{Refusal}
 use Rattle.station_config.specs.declared.site.Site.{Site}
 use Rattle.station_law.specs.State.{State, start}
 use Rattle.station_law.specs.Said.{texts}
+use Rattle.station_law.specs.Output.{Wrote}
 use Rattle.station_law.specs.Lines.{step_text}
 use Rattle.station_law.specs.Runs.{bad_line, text_behind, transcript_from, is_in_order, is_fine}
 use Rattle.station_law.specs.Runs.{in_order, all_fine}
@@ -15,63 +17,78 @@ use Rattle.provider_cli.specs.declared.status.Status.TheVariants as ends
 use Rattle.provider_cli.specs.Lines.{lines_of}
 use Rattle.provider_cli.specs.Head.{empty_lines, site_of, running}
 use Rattle.provider_cli.specs.Script.{script_of, bad_site_line, script_text, status_by, status_of}
+use Rattle.provider_cli.specs.Script.{text_at}
 use Rattle.provider_cli.proofs.FirstLines.{line_in, behind_in, lines_first}
+use Rattle.provider_cli.proofs.Steps.{Behind, behind_as, step_on}
 
 abbrev pub text_from : ℕ → State → List ℕ → List ℕ
 text_from number state text = transcript_from step_text number state (lines_of text)
 
--- the status that the lines of a text end with, where an earlier entry was refused as Full or none
+-- the status that the lines of a text end with, where no earlier entry was refused as Full, or one
 -- was
 abbrev pub status_from : Bool → State → List ℕ → Status
-status_from full state text =
+status_from fine state text =
     status_by (in_order step_text state (lines_of text))
-    (not full && all_fine step_text state (lines_of text))
+    (fine && all_fine step_text state (lines_of text))
 
--- the text at a line that a text begins with, by what its step answers
-pub on_line : (number : ℕ) (state next : State) (text line behind : List ℕ) (done : StepDone)
-    → 0 < length text → line ≡ line_in text → behind ≡ behind_in text
-    → next ≡ (step_text state line).next → done ≡ (step_text state line).done
-    → text_from number state text
-    ≡ texts (step_text state line).said
-    ++ text_behind done number (text_from (number + 1) next behind)
-on_line number state next text line behind done some first later goes ends =
-    rw (goes, ends, first, later, lines_first text some) refl
+-- what stands behind a line's own text, and the status, by how the line ended
+abbrev pub text_later : StepDone → List ℕ → List ℕ
+text_later WrongState rest = []
+text_later _ rest = rest
 
-never : (full : Bool) → (full && false) ≡ false
+abbrev pub status_later : StepDone → Bool → State → List ℕ → Status
+status_later Fine fine next behind = status_from fine next behind
+status_later Full fine next behind = status_from false next behind
+status_later WrongState fine next behind = ends.BadLine
+
+split_text : (done : StepDone) (number : ℕ) (said rest : List ℕ)
+    → said ++ text_behind done number rest
+    ≡ (said ++ text_behind done number []) ++ text_later done rest
+split_text Fine number said rest = ap (λ front. front ++ rest) (sym (append-nil said))
+split_text Full number said rest = ap (λ front. front ++ rest) (sym (append-nil said))
+split_text WrongState number said rest = sym (append-nil (said ++ bad_line number))
+
+never : (fine : Bool) → (fine && false) ≡ false
 never true = refl
 never false = refl
 
--- the status at such a line
-on_status : (full : Bool) (state next : State) (text line behind : List ℕ) (done : StepDone)
-    → 0 < length text → line ≡ line_in text → behind ≡ behind_in text
-    → next ≡ (step_text state line).next → done ≡ (step_text state line).done
-    → status_from full state text
-    ≡ status_by (is_in_order done && in_order step_text next (lines_of behind))
-    (not full && (is_fine done && all_fine step_text next (lines_of behind)))
-on_status full state next text line behind done some first later goes ends =
-    rw (goes, ends, first, later, lines_first text some) refl
+by_end : (done : StepDone) (fine : Bool) (next : State) (behind : List ℕ)
+    → status_by (is_in_order done && in_order step_text next (lines_of behind))
+    (fine && (is_fine done && all_fine step_text next (lines_of behind)))
+    ≡ status_later done fine next behind
+by_end Fine fine next behind = refl
+by_end Full fine next behind =
+    ap (status_by (in_order step_text next (lines_of behind))) (never fine)
+by_end WrongState fine next behind = refl
 
-pub status_fine : (full : Bool) (state next : State) (text line behind : List ℕ)
-    → 0 < length text → line ≡ line_in text → behind ≡ behind_in text
-    → next ≡ (step_text state line).next → Fine ≡ (step_text state line).done
-    → status_from full state text ≡ status_from full next behind
-status_fine full state next text line behind some first later goes ends =
-    on_status full state next text line behind Fine some first later goes ends
+-- a text begins with a line, which ends so, and others stand behind it in the next world
+module _ (state next : State) (text line behind : List ℕ) (done : StepDone)
+    (some : 0 < length text) (first : line ≡ line_in text) (later : behind ≡ behind_in text)
+    (goes : next ≡ (step_text state line).next) (ends : done ≡ (step_text state line).done) where
+  pub on_line : (number : ℕ)
+      → text_from number state text
+      ≡ text_at number (step_text state line) ++ text_later done (text_from (number + 1) next behind)
+  on_line number =
+      rw (goes, ends, first, later, lines_first text some)
+      (split_text (step_text state (line_in text)).done number
+      (texts (step_text state (line_in text)).said) _)
 
-pub status_full : (full : Bool) (state next : State) (text line behind : List ℕ)
-    → 0 < length text → line ≡ line_in text → behind ≡ behind_in text
-    → next ≡ (step_text state line).next → Full ≡ (step_text state line).done
-    → status_from full state text ≡ status_from true next behind
-status_full full state next text line behind some first later goes ends =
-    on_status full state next text line behind Full some first later goes ends
-    ∙ ap (λ fine. status_by (in_order step_text next (lines_of behind)) fine) (never (not full))
+  pub on_status : (fine : Bool) → status_from fine state text ≡ status_later done fine next behind
+  on_status fine =
+      rw (goes, ends, first, later, lines_first text some)
+      (by_end (step_text state (line_in text)).done fine (step_text state (line_in text)).next
+      (behind_in text))
 
-pub status_bad : (full : Bool) (state next : State) (text line behind : List ℕ)
-    → 0 < length text → line ≡ line_in text → behind ≡ behind_in text
-    → next ≡ (step_text state line).next → WrongState ≡ (step_text state line).done
-    → status_from full state text ≡ ends.BadLine
-status_bad full state next text line behind some first later goes ends =
-    on_status full state next text line behind WrongState some first later goes ends
+  -- the line was run, and what stands behind its own text is still to be written
+  pub line_run : {T : Type 0} (number : ℕ) (start now then : Option (List ℕ)) (f g h : ℕ)
+      (whole : List ℕ) (value : T)
+      → Behind start now f g whole (text_from number state text)
+      → Wrote {T = T} now then g h (text_at number (step_text state line)) (Ok value)
+      → Behind start then f h whole (text_later done (text_from (number + 1) next behind))
+  line_run number start now then f g h whole value so_far wrote =
+      step_on start now then f g h whole (text_at number (step_text state line))
+      (text_later done (text_from (number + 1) next behind)) value
+      (behind_as start now f g whole (text_from number state text) _ (on_line number) so_far) wrote
 
 -- behind the last line
 pub text_end : (number : ℕ) (state : State) (text : List ℕ) → length text ≡ 0
@@ -79,11 +96,11 @@ pub text_end : (number : ℕ) (state : State) (text : List ℕ) → length text 
 text_end number state [] none = refl
 text_end number state (octet ∷ text) none = absurd (omega (arith, none))
 
-pub status_end : (full : Bool) (state : State) (text : List ℕ) → length text ≡ 0
-    → status_from full state text ≡ status_by true (not full)
+pub status_end : (fine : Bool) (state : State) (text : List ℕ) → length text ≡ 0
+    → status_from fine state text ≡ status_by true fine
 status_end true state [] none = refl
 status_end false state [] none = refl
-status_end full state (octet ∷ text) none = absurd (omega (arith, none))
+status_end fine state (octet ∷ text) none = absurd (omega (arith, none))
 
 -- ---- the lines of the head, which are left empty
 

@@ -1,20 +1,41 @@
 -- What a command line asks for, and the number that a status is. This product's own rules.
-use Rattle.std.specs.Prelude.{◌≡◌, ℕ, if◌then◌else◌, Option, Some, None, List, [], ◌∷◌, ◌++◌, codes}
+use Rattle.std.specs.Prelude.{◌≡◌, ◌⊎◌, ℕ, Bool, if◌then◌else◌, Option, Some, None, List, [], ◌∷◌}
+use Rattle.std.specs.Prelude.{◌++◌, Result, Ok, Err, codes}
 use Rattle.std.specs.Str.{bytes_eq}
+use Rattle.station_law.specs.declared.stop.Stop.{Stop}
+use Rattle.station_law.specs.declared.stop.Stop.TheVariants as stops
 use Rattle.octet_core.specs.Fault.{count_up}
 use Rattle.octet_core.specs.Written.{Gains, GainsFront}
 use Rattle.provider_cli.specs.declared.plan.Plan.{Plan}
-use Rattle.provider_cli.specs.declared.plan.Plan.TheVariants.{Drill}
+use Rattle.provider_cli.specs.declared.plan.Plan.TheVariants as plans
+use Rattle.provider_cli.specs.declared.plan.Plan.TheVariants.{Drill, Init}
 use Rattle.provider_cli.specs.declared.status.Status.{Status}
 use Rattle.provider_cli.specs.declared.status.Status.TheVariants.{Done, Usage, BadLine, BadSite}
 use Rattle.provider_cli.specs.declared.status.Status.TheVariants.{ReadFault, WriteFault, Full}
 use Rattle.provider_cli.specs.declared.status.Status.TheVariants.{InputTooLong, Memory}
+use Rattle.provider_cli.specs.declared.status.Status.TheVariants.{ArchiveRefused, DiskFault}
 use Rattle.provider_cli.specs.Outside.{Outside}
 
--- the one command is the word `drill`
+abbrev pub is_word : List ℕ → List ℕ → Bool
+is_word word known = bytes_eq word known
+
+-- a command is `drill`, or `init` or `list` with any path behind it
+abbrev pub of_two : List ℕ → List ℕ → Option Plan
+of_two word value =
+    if is_word word (codes "init") then Some (Init value)
+    else if is_word word (codes "list") then Some (plans.List value)
+    else None
+
 abbrev pub plan_of : List (List ℕ) → Option Plan
-plan_of (word ∷ []) = if bytes_eq word (codes "drill") then Some Drill else None
+plan_of (word ∷ []) = if is_word word (codes "drill") then Some Drill else None
+plan_of (word ∷ value ∷ []) = of_two word value
 plan_of words = None
+
+-- a command with an archive file asks for a disk
+abbrev pub NeedsDisk : Option Plan → Type 0
+NeedsDisk (Some (Init path)) = Unit {0}
+NeedsDisk (Some (plans.List path)) = Unit {0}
+NeedsDisk _ = ⊥
 
 -- a status as the program's exit code
 abbrev pub code : Status → ℕ
@@ -22,8 +43,10 @@ code Done = 0
 code Usage = 2
 code BadLine = 3
 code BadSite = 4
+code ArchiveRefused = 5
 code ReadFault = 6
 code WriteFault = 7
+code DiskFault = 8
 code Full = 9
 code InputTooLong = 11
 code Memory = 70
@@ -33,6 +56,21 @@ pub record EndsAs (exit : ℕ) (IsSo : Status → Type 0) : Type 0 where
   pub status : Status
   pub exit_is : exit ≡ code status
   pub is_so : IsSo status
+
+-- A command that writes a text, and then ends with a status of its own: all of the text was written;
+-- the output failed, once; or memory was refused.
+abbrev pub Closes : Option (List ℕ) → Option (List ℕ) → ℕ → ℕ → List ℕ → Status → ℕ → Type 0
+Closes before after faults_before faults_after text own exit =
+    ((exit ≡ code own) × Gains before after text × (faults_after ≡ faults_before))
+    ⊎ ((exit ≡ code WriteFault) × GainsFront before after text
+    × (faults_after ≡ count_up faults_before))
+    ⊎ ((exit ≡ code Memory) × GainsFront before after text × (faults_after ≡ faults_before))
+
+-- the status of a command whose writing ended so
+abbrev pub closed : Result (Unit {0}) Stop → Status → Status
+closed (Ok _) own = own
+closed (Err stops.WriteFault) own = WriteFault
+closed (Err stops.Memory) own = Memory
 
 -- Words that are no command are told so, or the one write failed: of an output that held `before`
 -- with so many faults.

@@ -7,6 +7,7 @@ use Rattle.provider_cli.specs.declared.status.Status.{Status}
 use Rattle.provider_cli.specs.declared.status.Status.TheVariants.{Done, Usage, BadLine, BadSite}
 use Rattle.provider_cli.specs.declared.status.Status.TheVariants.{ReadFault, WriteFault, Full}
 use Rattle.provider_cli.specs.declared.status.Status.TheVariants.{InputTooLong, Memory}
+use Rattle.provider_cli.specs.declared.status.Status.TheVariants.{ArchiveRefused, DiskFault}
 use Rattle.provider_cli.specs.Lines.{lines_of}
 use Rattle.provider_cli.specs.Outside.{Outside}
 use Rattle.provider_cli.specs.Script.{most_octets, script_of, script_text, status_of}
@@ -31,49 +32,64 @@ GainsLine before after line =
     (GainsAll before after line × (after.write_faults ≡ before.write_faults))
     ⊎ (GainsSome before after line × (after.write_faults ≡ count_up before.write_faults))
 
--- What was written: with 0, 3, 4 and 9 the script's text, with 7 and 70 what begins it, with 6 and
--- 11 a line, which stands alone.
-abbrev pub HasText : Outside → Outside → Status → Type 0
-HasText before after Done = IfSome before.left (λ script. GainsAll before after (text_by script))
-HasText before after BadLine = IfSome before.left (λ script. GainsAll before after (text_by script))
-HasText before after BadSite = IfSome before.left (λ script. GainsAll before after (text_by script))
-HasText before after Full = IfSome before.left (λ script. GainsAll before after (text_by script))
-HasText before after WriteFault =
+-- The script was run to its end; the output failed, or memory was refused, while it ran or before;
+-- the input failed, or holds too much, and nothing was run; or a drill doesn't end so.
+pub data Ended : Type 0 where
+  ran : Ended
+  cut_off : Ended
+  given_up : Ended
+  unread : Ended
+  too_long : Ended
+  never : Ended
+
+abbrev pub ended : Status → Ended
+ended Done = ran
+ended BadLine = ran
+ended BadSite = ran
+ended Full = ran
+ended WriteFault = cut_off
+ended Memory = given_up
+ended ReadFault = unread
+ended InputTooLong = too_long
+ended Usage = never
+ended ArchiveRefused = never
+ended DiskFault = never
+
+-- What was written: the script's text, or what begins it; or a line, which stands alone.
+abbrev pub HasText : Outside → Outside → Ended → Type 0
+HasText before after ran = IfSome before.left (λ script. GainsAll before after (text_by script))
+HasText before after cut_off =
     IfSome before.left (λ script. GainsSome before after (text_by script))
-HasText before after Memory = IfSome before.left (λ script. GainsSome before after (text_by script))
-HasText before after ReadFault = GainsLine before after (codes "read fault" ++ 10 ∷ [])
-HasText before after InputTooLong = GainsLine before after (codes "input too long" ++ 10 ∷ [])
-HasText before after Usage = ⊥
+HasText before after given_up =
+    IfSome before.left (λ script. GainsSome before after (text_by script))
+HasText before after unread = GainsLine before after (codes "read fault" ++ 10 ∷ [])
+HasText before after too_long = GainsLine before after (codes "input too long" ++ 10 ∷ [])
+HasText before after never = ⊥
 
--- How often a read failed, by the input's count of faults: with 6 once, else never.
-abbrev pub HasReads : Outside → Outside → Status → Type 0
-HasReads before after ReadFault = after.read_faults ≡ count_up before.read_faults
-HasReads before after status = after.read_faults ≡ before.read_faults
+-- how often a read failed, by the input's count of faults
+abbrev pub HasReads : Outside → Outside → Ended → Type 0
+HasReads before after unread = after.read_faults ≡ count_up before.read_faults
+HasReads before after _ = after.read_faults ≡ before.read_faults
 
--- How often a write failed, by the output's count of faults: with 7 once, with 6 and 11 perhaps
--- once, at the status's own line, else never.
-abbrev pub HasWrites : Outside → Outside → Status → Type 0
-HasWrites before after WriteFault = after.write_faults ≡ count_up before.write_faults
-HasWrites before after ReadFault =
+-- How often a write failed, by the output's count of faults: of a line that stands alone once or
+-- never.
+abbrev pub HasWrites : Outside → Outside → Ended → Type 0
+HasWrites before after cut_off = after.write_faults ≡ count_up before.write_faults
+HasWrites before after unread =
     (after.write_faults ≡ before.write_faults) ⊎ (after.write_faults ≡ count_up before.write_faults)
-HasWrites before after InputTooLong =
+HasWrites before after too_long =
     (after.write_faults ≡ before.write_faults) ⊎ (after.write_faults ≡ count_up before.write_faults)
-HasWrites before after status = after.write_faults ≡ before.write_faults
+HasWrites before after _ = after.write_faults ≡ before.write_faults
 
--- a script that isn't too long, and ends with this status
-abbrev pub IsOf : Status → List ℕ → Type 0
-IsOf status script = (length script ≤ most_octets) × (status_by script ≡ status)
-
--- What the script is: with 11 it is too long, and with 0, 3, 4, 7 and 9 it isn't; with 0, 3, 4 and
--- 9 it is one that ends so.
-abbrev pub HasScript : Outside → Status → Type 0
-HasScript before Done = IfSome before.left (IsOf Done)
-HasScript before BadLine = IfSome before.left (IsOf BadLine)
-HasScript before BadSite = IfSome before.left (IsOf BadSite)
-HasScript before Full = IfSome before.left (IsOf Full)
-HasScript before WriteFault = IfSome before.left (λ script. length script ≤ most_octets)
-HasScript before InputTooLong = IfSome before.left (λ script. most_octets < length script)
-HasScript before status = Unit {0}
+-- What the script is: one that isn't too long and ends with this status, one that isn't too long,
+-- or one that is.
+abbrev pub HasScript : Outside → Status → Ended → Type 0
+HasScript before status ran =
+    IfSome before.left
+    (λ script. (length script ≤ most_octets) × (status_by script ≡ status))
+HasScript before status cut_off = IfSome before.left (λ script. length script ≤ most_octets)
+HasScript before status too_long = IfSome before.left (λ script. most_octets < length script)
+HasScript before status _ = Unit {0}
 
 -- Completeness: a script that is short enough ends with its own status, or memory is wanted, where
 -- no count rises.
@@ -85,7 +101,7 @@ Completes before after status =
 
 -- all of it
 pub record Drilled (before after : Outside) (status : Status) : Type 0 where
-  pub text : HasText before after status
-  pub reads : HasReads before after status
-  pub writes : HasWrites before after status
-  pub script : HasScript before status
+  pub text : HasText before after (ended status)
+  pub reads : HasReads before after (ended status)
+  pub writes : HasWrites before after (ended status)
+  pub script : HasScript before status (ended status)

@@ -11,8 +11,6 @@ use Rattle.archive_terms.specs.Delivery.{Item, Terms, offline, started, entries_
 use Rattle.archive_terms.specs.Delivery.{end_of_data, is_end_of_data}
 use Rattle.archive_terms.specs.Rounds.{free_round, outcomes, handed_buffers}
 use Rattle.provider_cli.specs.declared.status.Status.{Status}
-use Rattle.provider_cli.specs.declared.status.Status.TheVariants.{Done, BadLine, WriteFault, Full}
-use Rattle.provider_cli.specs.declared.status.Status.TheVariants.{Memory}
 use Rattle.station_law.specs.State.{moment, start as new_world}
 use Rattle.station_law.specs.Said.{sent_text}
 use Rattle.station_law.specs.Desk.{selection}
@@ -24,7 +22,7 @@ use Rattle.provider_cli.specs.Outside.{Outside}
 use Rattle.provider_cli.specs.Start.{Start, world_at, archive_at, archive_then, buffers_of}
 use Rattle.provider_cli.specs.Start.{told_by, messages_by, messages_of}
 use Rattle.provider_cli.specs.Readable.{AreReadable}
-use Rattle.provider_cli.specs.Drilled.{GainsAll, GainsSome}
+use Rattle.provider_cli.specs.Drilled.{GainsAll, GainsSome, Ended, ran, cut_off, given_up, ended}
 
 -- What station_law promises of any lines holds of those that run: at each line behind others in
 -- order, whatever its form is.
@@ -53,14 +51,12 @@ IsDelivered s =
     started)
     ≡ take (length moments) (buffers_of s)
 
--- By a status that ran lines, a text is written, or with 7 and 70 what begins it.
-abbrev pub HasRun : Outside → Outside → List ℕ → Status → Type 0
-HasRun before after text Done = GainsAll before after text
-HasRun before after text BadLine = GainsAll before after text
-HasRun before after text Full = GainsAll before after text
-HasRun before after text WriteFault = GainsSome before after text
-HasRun before after text Memory = GainsSome before after text
-HasRun before after text status = Unit {0}
+-- Where lines were run, all of a text is written, or what begins it.
+abbrev pub HasRun : Outside → Outside → List ℕ → Ended → Type 0
+HasRun before after text ran = GainsAll before after text
+HasRun before after text cut_off = GainsSome before after text
+HasRun before after text given_up = GainsSome before after text
+HasRun before after text _ = Unit {0}
 
 -- connection 0 was handed a message
 abbrev pub sent : Content → List ℕ
@@ -72,7 +68,7 @@ IsSent before after status s =
     HasRun before after
     (transcript step_text (new_world s.capacity) s.earlier ++ flat_map sent (messages_of s)
     ++ transcript_from step_text (length s.earlier + 2) (world_at s) s.later)
-    status
+    (ended status)
 
 -- Its messages are a stream of the transport, from any place of the connection's octets on.
 abbrev pub IsStreamed : Start → Type 0

@@ -8,3 +8,5 @@ pub mod Start
 pub mod Headline
 pub mod Readable
 pub mod Laws
+pub mod Promise
+pub mod Archives

@@ -6,16 +6,17 @@ use Rattle.std.specs.Fmt.{decimal}
 use Rattle.station_config.specs.Drafts.{Refusal}
 use Rattle.station_config.specs.declared.site.Site.{Site}
 use Rattle.station_law.specs.State.{start}
+use Rattle.station_law.specs.Said.{texts}
+use Rattle.station_law.specs.Answer.{Answer}
 use Rattle.station_law.specs.Lines.{step_text}
-use Rattle.station_law.specs.Runs.{bad_line, transcript, in_order, all_fine}
-use Rattle.provider_cli.specs.declared.drill.TheConstants.{SCRIPT_OCTETS}
+use Rattle.station_law.specs.Runs.{bad_line, text_behind, transcript, in_order, all_fine}
 use Rattle.provider_cli.specs.declared.status.Status.{Status}
 use Rattle.provider_cli.specs.declared.status.Status.TheVariants.{Done, BadLine, BadSite, Full}
 use Rattle.provider_cli.specs.Head.{site_of, running}
 
 -- the most octets of a script
 abbrev pub most_octets : ℕ
-most_octets = SCRIPT_OCTETS
+most_octets = 16777216
 
 -- A line of the head is refused; the head isn't ended, and a line of this number is missing; or
 -- lines run, in a world with an archive of this capacity.
@@ -37,6 +38,10 @@ script_of lines = by_site (site_of lines) (running lines) (length lines + 1)
 abbrev pub bad_site_line : ℕ → ℕ → List ℕ
 bad_site_line number cause =
     codes "bad site " ++ decimal number ++ 32 ∷ (decimal cause ++ 10 ∷ [])
+
+-- the text of the line of a number, by its answer: what it says, and that it is a bad one where it is
+abbrev pub text_at : ℕ → Answer → List ℕ
+text_at number answer = texts answer.said ++ text_behind answer.done number []
 
 -- its text: the transcript of the lines that run, up to the first bad one
 abbrev pub script_text : Script → List ℕ

@@ -1,16 +1,36 @@
 // The words of the command line.
-ghost use Rattle.std.specs.Prelude.{◌≡◌, IsOkAnd, map};
-ghost use Rattle.provider_cli.specs.Command.{plan_of};
+ghost use Rattle.std.specs.Prelude.{◌≡◌, IfOk, OnErr, map};
+ghost use Rattle.provider_cli.specs.Command.{plan_of, of_two, NeedsDisk};
 
 use crate::plan::Plan;
-use octet_core::Memory;
+use octet_core::{Memory, Octets};
+use std::alloc::Global;
 
-/// Reads the words of the command line, and answers none where they are no command.
-pub fn plan(words: &[&str]) -> Result<Option<Plan>, Memory>
-    ensures { IsOkAnd result (λ plan. plan ≡ plan_of (map (λ word. word.now) words.now)) }
+/// Reads the words of the command line, and answers none where they are no command. It takes memory
+/// for a path alone.
+pub fn plan(alloc: Global, words: &[&str]) -> Result<Option<Plan>, Memory>
+    ensures plan { IfOk result (λ plan. plan ≡ plan_of (map (λ word. word.now) words.now)) }
+    ensures memory { OnErr result (NeedsDisk (plan_of (map (λ word. word.now) words.now))) }
 {
     match words {
-        [word] if *word == "drill" => Ok(Some(Plan::Drill)),
+        [word] => Ok(if *word == "drill" { Some(Plan::Drill) } else { None }),
+        [word, value] => plan_of_two(alloc, word, value),
         _ => Ok(None),
+    }
+}
+
+// Reads a command's word and the word behind it.
+fn plan_of_two(alloc: Global, word: &str, value: &str) -> Result<Option<Plan>, Memory>
+    ensures plan { IfOk result (λ plan. plan ≡ of_two word.now value.now) }
+    ensures memory { OnErr result (NeedsDisk (of_two word.now value.now)) }
+{
+    if word == "init" {
+        let path = Octets::copy_of(alloc, value.as_bytes())?;
+        Ok(Some(Plan::Init { path }))
+    } else if word == "list" {
+        let path = Octets::copy_of(alloc, value.as_bytes())?;
+        Ok(Some(Plan::List { path }))
+    } else {
+        Ok(None)
     }
 }

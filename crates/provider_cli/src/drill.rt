@@ -1,13 +1,12 @@
 // `drill`: runs a script, and writes what a user would be handed.
-ghost use Rattle.std.specs.Prelude.{◌≡◌, ◌<◌, ◌≤◌, ◌⊎◌, IsErrOf, IfOk, IfSome, length};
+ghost use Rattle.std.specs.Prelude.{◌≡◌, ◌<◌, ◌≤◌, ◌⊎◌, IsErrOf, IfOk, IfErr, OnOk, OnErr};
+ghost use Rattle.std.specs.Prelude.{IfSome, length};
 ghost use Rattle.octet_core.specs.Fault.{count_up};
-ghost use Rattle.provider_cli.specs.Command.{EndsAs};
+ghost use Rattle.octet_core.specs.Taken.{Gives};
 ghost use Rattle.provider_cli.specs.Outside.{showing};
-ghost use Rattle.provider_cli.specs.Drilled.{HasText, HasReads, HasWrites, HasScript, Completes};
+ghost use Rattle.provider_cli.specs.Script.{most_octets};
 ghost use Rattle.provider_cli.specs.Drilled.{Drilled};
-ghost use Rattle.provider_cli.specs.Start.{EachStart};
-ghost use Rattle.provider_cli.specs.Headline.{HasHeadline, IsDelivered, IsSent, IsStreamed};
-ghost use Rattle.provider_cli.specs.Headline.{IsReadOf, StaysRight, StaysTold};
+ghost use Rattle.provider_cli.specs.Promise.{IsDrill};
 ghost use Rattle.provider_cli.specs.Laws.{Laws};
 
 use crate::put::put_line;
@@ -33,44 +32,12 @@ const PIECE_OCTETS: usize = 65_536;
 /// Runs the script on the input, writes its transcript and the last line of its status, and answers
 /// the status's exit code.
 pub fn drill<I: Source, O: Sink>(alloc: Global, input: &mut I, output: &mut O) -> u8
-    // How it ended.
-    ensures text { EndsAs result (HasText
-        (showing (I.left input.old) (I.faults input.old)
-        (O.written output.old) (O.faults output.old))
-        (showing (I.left input.new) (I.faults input.new)
-        (O.written output.new) (O.faults output.new))) }
-    ensures reads { EndsAs result (HasReads
-        (showing (I.left input.old) (I.faults input.old)
-        (O.written output.old) (O.faults output.old))
-        (showing (I.left input.new) (I.faults input.new)
-        (O.written output.new) (O.faults output.new))) }
-    ensures writes { EndsAs result (HasWrites
-        (showing (I.left input.old) (I.faults input.old)
-        (O.written output.old) (O.faults output.old))
-        (showing (I.left input.new) (I.faults input.new)
-        (O.written output.new) (O.faults output.new))) }
-    ensures script { EndsAs result (HasScript
-        (showing (I.left input.old) (I.faults input.old)
-        (O.written output.old) (O.faults output.old))) }
-    ensures complete { EndsAs result (Completes
-        (showing (I.left input.old) (I.faults input.old)
-        (O.written output.old) (O.faults output.old))
-        (showing (I.left input.new) (I.faults input.new)
-        (O.written output.new) (O.faults output.new))) }
-
-    // What holds of each line that it ran, and what it handed over at each START.
-    ensures headline { HasHeadline (I.left input.old) }
-    ensures delivered { EachStart (I.left input.old) IsDelivered }
-    ensures sent { EndsAs result (λ status. EachStart (I.left input.old) (IsSent
+    ensures { IsDrill
         (showing (I.left input.old) (I.faults input.old)
         (O.written output.old) (O.faults output.old))
         (showing (I.left input.new) (I.faults input.new)
         (O.written output.new) (O.faults output.new))
-        status)) }
-    ensures streamed { EachStart (I.left input.old) IsStreamed }
-    ensures read { EachStart (I.left input.old) IsReadOf }
-    ensures stays_right { EachStart (I.left input.old) StaysRight }
-    ensures stays_told { EachStart (I.left input.old) StaysTold }
+        result }
 {
     laws();
     read_and_run(alloc, input, output).code()
@@ -95,7 +62,12 @@ fn laws()
 }
 
 // Reads the script, and runs it.
-#[tactic(auto, using(crate::proofs::Outcomes::ran, crate::proofs::Outcomes::cut_off, crate::proofs::Outcomes::given_up, crate::proofs::Outcomes::not_run))]
+#[tactic(auto, using(
+    crate::proofs::Outcomes::ran_whole,
+    crate::proofs::Outcomes::output_failed,
+    crate::proofs::Outcomes::memory_refused,
+    crate::proofs::Outcomes::not_run,
+))]
 fn read_and_run<I: Source, O: Sink>(alloc: Global, input: &mut I, output: &mut O) -> Status
     ensures { Drilled
         (showing (I.left input.old) (I.faults input.old)
@@ -147,11 +119,11 @@ impl From<AllocError> for ScriptFault {
 
 // Reads the input to its end, in pieces.
 fn read_script<I: Source>(alloc: Global, input: &mut I) -> Result<Vec<u8>, ScriptFault>
-    ensures ok { IfOk result (λ script. length script.items ≤ SCRIPT_OCTETS) }
+    ensures ok { IfOk result (λ script. length script.items ≤ most_octets) }
     ensures octets { IfOk result (λ script. IfSome (I.left input.old)
         (λ octets. script.items ≡ octets)) }
     ensures too_long { IsErrOf result ScriptFault.TooLong →
-        IfSome (I.left input.old) (λ octets. SCRIPT_OCTETS < length octets) }
+        IfSome (I.left input.old) (λ octets. most_octets < length octets) }
     ensures raised { IsErrOf result ScriptFault.ReadFault →
         I.faults input.new ≡ count_up (I.faults input.old) }
     ensures kept { IsErrOf result ScriptFault.ReadFault
@@ -160,13 +132,27 @@ fn read_script<I: Source>(alloc: Global, input: &mut I) -> Result<Vec<u8>, Scrip
     let mut script = Vec::with_capacity(alloc, SCRIPT_OCTETS + PIECE_OCTETS)?;
     let mut piece = [0u8; PIECE_OCTETS];
     while script.len() <= SCRIPT_OCTETS {
-        let Ok(count) = input.take(&mut piece) else {
-            return Err(ScriptFault::ReadFault);
-        };
+        let count = take_piece(input, &mut piece)?;
         if count == 0 {
             return Ok(script);
         }
         script.extend_from_slice(&piece[..count])?;
     }
     Err(ScriptFault::TooLong)
+}
+
+// Takes a piece of the input, by one read.
+fn take_piece<I: Source>(input: &mut I, piece: &mut [u8]) -> Result<usize, ScriptFault>
+    ensures taken { IfOk result (λ count. Gives (I.left input.old) (I.left input.new)
+        piece.old piece.new count) }
+    ensures within { IfOk result (λ count. count ≤ length piece.new) }
+    ensures length { length piece.new ≡ length piece.old }
+    ensures fault { IfErr result (λ fault. fault ≡ ScriptFault.ReadFault) }
+    ensures raised { OnErr result (I.faults input.new ≡ count_up (I.faults input.old)) }
+    ensures kept { OnOk result (I.faults input.new ≡ I.faults input.old) }
+{
+    match input.take(piece) {
+        Ok(count) => Ok(count),
+        Err(_) => Err(ScriptFault::ReadFault),
+    }
 }

@@ -1,5 +1,5 @@
 // The head of a script: the configuration of its station.
-ghost use Rattle.std.specs.Prelude.{◌≡◌, ◌≤◌, ◌+◌, IfSome, length, take, option_map};
+ghost use Rattle.std.specs.Prelude.{◌≡◌, ◌≤◌, ◌+◌, IfSome, length, take, drop, option_map};
 ghost use Rattle.station_config.specs.Drafts.{empty, told_from, site_told};
 ghost use Rattle.words.specs.Parts.{parts};
 ghost use Rattle.words.specs.Reading.{lent};
@@ -42,8 +42,7 @@ pub fn split_head(script: &[u8]) -> Head<'_>
             rest: Some(script),
         };
     }
-    // Behind the word stands the line's end, as an empty line before the others.
-    let others = &script[SITE.len()..];
+    let others = behind_site(script);
     let found = find_end(others);
     let settings = &others[..found.octets];
     let Some(rest) = found.rest else {
@@ -58,6 +57,15 @@ pub fn split_head(script: &[u8]) -> Head<'_>
         lines: found.lines + 1,
         rest: Some(rest),
     }
+}
+
+// What stands behind the word that begins the head: the line's end, as an empty line, and the other
+// lines.
+fn behind_site(script: &[u8]) -> &[u8]
+    requires { 4 ≤ length script.now }
+    ensures { result.now ≡ drop 4 script.now }
+{
+    &script[SITE.len()..]
 }
 
 // The lines up to the one that ends the head.

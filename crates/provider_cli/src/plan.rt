@@ -1,8 +1,20 @@
 // What a command line may ask for.
 
+use octet_core::Octets;
+
 /// What the words of the command line ask for.
-#[derive(Clone, Copy, Debug, PartialEq, Eq)]
+#[derive(Debug, Drop, PartialEq, Eq)]
 pub enum Plan {
     /// `drill`: run the script on the input.
     Drill,
+    /// `init PATH`: make a new archive file.
+    Init {
+        /// The file's path, a text of any octets.
+        path: Octets,
+    },
+    /// `list PATH`: write the entries of an archive file.
+    List {
+        /// The file's path, a text of any octets.
+        path: Octets,
+    },
 }

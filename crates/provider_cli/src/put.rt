@@ -2,6 +2,7 @@
 ghost use Rattle.std.specs.Prelude.{◌≡◌, IfErr};
 ghost use Rattle.station_law.specs.Output.{Wrote};
 ghost use Rattle.station_law.specs.Runs.{bad_line};
+ghost use Rattle.provider_cli.specs.Archives.{refused_line};
 ghost use Rattle.provider_cli.specs.Script.{bad_site_line};
 
 use octet_core::Sink;
@@ -43,5 +44,15 @@ pub fn put_bad_site<O: Sink>(
         (bad_site_line number cause) result }
 {
     let line = format!(in alloc; "bad site {number} {cause}\n")?;
+    put_line(line.as_bytes(), output)
+}
+
+/// Says at which place the octets of a file aren't an archive's.
+pub fn put_refused<O: Sink>(alloc: Global, place: u64, output: &mut O) -> Result<(), Stop>
+    ensures { Wrote (O.written output.old) (O.written output.new)
+        (O.faults output.old) (O.faults output.new)
+        (refused_line place) result }
+{
+    let line = format!(in alloc; "archive refused {place}\n")?;
     put_line(line.as_bytes(), output)
 }

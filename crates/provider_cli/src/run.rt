@@ -1,12 +1,12 @@
 // A script is run line by line.
-ghost use Rattle.std.specs.Prelude.{◌≡◌, ◌+◌, ◌≤◌, true, not, IfOk, OnOk, length};
+ghost use Rattle.std.specs.Prelude.{◌≡◌, ◌+◌, ◌≤◌, IfOk, OnOk, length};
 ghost use Rattle.station_law.specs.Lines.{step_text};
 ghost use Rattle.station_law.specs.Output.{Wrote};
 ghost use Rattle.station_law.specs.Runs.{transcript_from, in_order, all_fine};
 ghost use Rattle.station_law.specs.Said.{texts};
 ghost use Rattle.provider_cli.specs.Lines.{lines_of};
 ghost use Rattle.provider_cli.specs.Script.{most_octets, script_of, script_text, status_of};
-ghost use Rattle.provider_cli.specs.Script.{status_by};
+ghost use Rattle.provider_cli.specs.Script.{status_by, text_at};
 
 use crate::head::split_head;
 use crate::lines::split_line;
@@ -62,32 +62,60 @@ fn run_lines<O: Sink>(
     let mut world = world;
     let mut rest = text;
     let mut number = before + 1;
-    let mut full = false;
+    let mut fine = true;
     while !rest.is_empty() {
         let (line, behind) = split_line(rest);
-        match run_line(alloc, &mut world, line, output)? {
+        match run_line(alloc, &mut world, number, line, output)? {
             StepDone::Fine => {}
-            StepDone::Full => full = true,
-            StepDone::WrongState => {
-                put_bad_line(alloc, number, output)?;
-                return Ok(Status::BadLine);
-            }
+            StepDone::Full => fine = false,
+            StepDone::WrongState => return Ok(status_at_end(false, fine)),
         }
         rest = behind;
         number += 1;
     }
-    Ok(status_at_end(full))
+    Ok(status_at_end(true, fine))
 }
 
-// The status of lines in order, by whether an entry of theirs was refused as Full.
-fn status_at_end(full: bool) -> Status
-    ensures { result ≡ status_by true (not full) }
+// The status of lines, by whether they are in order, and whether no entry of theirs was refused as
+// Full.
+fn status_at_end(in_order: bool, fine: bool) -> Status
+    ensures { result ≡ status_by in_order fine }
 {
-    if full { Status::Full } else { Status::Done }
+    if !in_order {
+        Status::BadLine
+    } else if fine {
+        Status::Done
+    } else {
+        Status::Full
+    }
+}
+
+// Runs the line of this number, and says so where it is a bad one.
+fn run_line<O: Sink>(
+    alloc: Global,
+    world: &mut World,
+    number: u32,
+    line: &[u8],
+    output: &mut O,
+) -> Result<StepDone, Stop>
+    ensures written { Wrote (O.written output.old) (O.written output.new)
+        (O.faults output.old) (O.faults output.new)
+        (text_at number (step_text world.old.state line.now)) result }
+    ensures next { OnOk result (world.new.state ≡ (step_text world.old.state line.now).next) }
+    ensures done { IfOk result (λ done. done ≡ (step_text world.old.state line.now).done) }
+{
+    match do_line(alloc, world, line, output)? {
+        StepDone::Fine => Ok(StepDone::Fine),
+        StepDone::Full => Ok(StepDone::Full),
+        StepDone::WrongState => {
+            put_bad_line(alloc, number, output)?;
+            Ok(StepDone::WrongState)
+        }
+    }
 }
 
 // Does what a line says. One outside the grammar is in a wrong state.
-fn run_line<O: Sink>(
+fn do_line<O: Sink>(
     alloc: Global,
     world: &mut World,
     line: &[u8],

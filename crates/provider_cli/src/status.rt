@@ -13,10 +13,14 @@ pub enum Status {
     BadLine,
     /// A line of the configuration is refused.
     BadSite,
+    /// The file isn't an archive's, or, for a new one, isn't empty.
+    ArchiveRefused,
     /// The input failed.
     ReadFault,
     /// The output failed.
     WriteFault,
+    /// The disk failed.
+    DiskFault,
     /// All was done, and an entry was refused as Full.
     Full,
     /// The input holds more octets than a script may have.
@@ -35,8 +39,10 @@ impl Status {
             Status::Usage => 2,
             Status::BadLine => 3,
             Status::BadSite => 4,
+            Status::ArchiveRefused => 5,
             Status::ReadFault => 6,
             Status::WriteFault => 7,
+            Status::DiskFault => 8,
             Status::Full => 9,
             Status::InputTooLong => 11,
             Status::Memory => 70,

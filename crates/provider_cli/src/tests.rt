@@ -3,8 +3,9 @@
 use crate::lines::split_line;
 use crate::plain;
 use crate::provide::{Equipment, provide};
+use disk_model::{Disk, MemoryDisk, Orders};
 use drill_text::{ScriptLine, parse_line};
-use octet_core::{MemorySink, MemorySource, Octets};
+use octet_core::{FailingCalls, MemorySink, MemorySource, Octets};
 use std::process::Abort;
 use std::test::Fail;
 
@@ -144,17 +145,36 @@ fly
     (b"site\nend\nend\n", 3, b"bad line 3\n"),
 ];
 
+type Kit = Equipment<MemorySource, MemorySink, MemoryDisk>;
+
 fn kit_of(
     rt: &HostRuntime,
     script: &[u8],
     failing_reads: &[u64],
     failing_writes: &[u64],
-) -> Result<Equipment<MemorySource, MemorySink>, Fail> {
+) -> Result<Kit, Fail> {
     let script = Octets::copy_of(rt.alloc(), script)?;
     Ok(Equipment {
         input: MemorySource::new(script, failing_reads.to_vec(rt.alloc())?),
         output: MemorySink::new(rt.alloc(), failing_writes.to_vec(rt.alloc())?),
+        disk: None,
     })
+}
+
+// The kit whose script has these octets.
+fn long_kit_of(rt: &HostRuntime, script: Vec<u8>) -> Result<Kit, Fail> {
+    Ok(Equipment {
+        input: MemorySource::new(Octets::from_vec(rt.alloc(), script)?, Vec::new(rt.alloc())),
+        output: MemorySink::new(rt.alloc(), Vec::new(rt.alloc())),
+        disk: None,
+    })
+}
+
+// The kit with a file of these octets, and an output that fails at these writes.
+fn kit_with(rt: &HostRuntime, file: &[u8], failing_writes: &[u64]) -> Result<Kit, Fail> {
+    let mut kit = kit_of(rt, &[], &[], failing_writes)?;
+    kit.disk = Some(MemoryDisk::holding(rt.alloc(), file)?);
+    Ok(kit)
 }
 
 #[test]
@@ -182,10 +202,7 @@ fn a_frame_has_at_most_65_536_octets(rt: HostRuntime) -> Result<(), Fail> {
     for (octets, written) in [(65_536, b"".as_slice()), (65_537, b"too long\n".as_slice())] {
         let mut script = Vec::from_slice(rt.alloc(), b"frame 0/0/0 0 41 0 ")?;
         script.resize(19 + 2 * octets, b'0')?;
-        let mut kit = Equipment {
-            input: MemorySource::new(Octets::from_vec(rt.alloc(), script)?, Vec::new(rt.alloc())),
-            output: MemorySink::new(rt.alloc(), Vec::new(rt.alloc())),
-        };
+        let mut kit = long_kit_of(&rt, script)?;
         assert_eq!(rt; provide(rt.alloc(), &["drill"], &mut kit), 0);
         assert_eq!(rt; kit.output.written(), written);
     }
@@ -194,7 +211,18 @@ fn a_frame_has_at_most_65_536_octets(rt: HostRuntime) -> Result<(), Fail> {
 
 #[test]
 fn words_that_are_no_command_are_told_the_usage(rt: HostRuntime) -> Result<(), Fail> {
-    let lines: [&[&str]; 4] = [&[], &["drill", "drill"], &["--help"], &["Drill"]];
+    let lines: [&[&str]; 10] = [
+        &[],
+        &["drill", "drill"],
+        &["--help"],
+        &["Drill"],
+        &["init"],
+        &["list"],
+        &["rehearse"],
+        &["init", "a", "b"],
+        &["Init", "a"],
+        &["rehearse", "7"],
+    ];
     for words in lines {
         let mut kit = kit_of(&rt, FIRST_PASS, &[], &[])?;
         assert_eq!(rt; provide(rt.alloc(), words, &mut kit), 2);
@@ -239,10 +267,7 @@ fn a_script_has_at_most_sixteen_mebibytes(rt: HostRuntime) -> Result<(), Fail> {
         (limit + 1, 11, b"input too long\n".as_slice()),
     ] {
         let script = vec![in rt.alloc(); b'x'; octets]?;
-        let mut kit = Equipment {
-            input: MemorySource::new(Octets::from_vec(rt.alloc(), script)?, Vec::new(rt.alloc())),
-            output: MemorySink::new(rt.alloc(), Vec::new(rt.alloc())),
-        };
+        let mut kit = long_kit_of(&rt, script)?;
         assert_eq!(rt; provide(rt.alloc(), &["drill"], &mut kit), status);
         assert_eq!(rt; kit.output.written(), written);
     }
@@ -413,5 +438,94 @@ fn the_plain_program_and_the_desk_give_one_text(rt: HostRuntime) -> Result<(), F
         assert_eq!(rt; provide(rt.alloc(), &["drill"], &mut kit), 0);
         assert_eq!(rt; kit.output.written(), text.as_slice());
     }
+    Ok(())
+}
+
+// The first octets of each archive file, and one frame in a batch of its own.
+const HEADER: &[u8] = b"SLEA\x00\x00\x00\x01";
+
+const ONE_FRAME: &[u8] = b"SLEA\x00\x00\x00\x01\xa5\x00\x00\x00\x18\x00\x01\x01\x00\x4e\x20\x00\x00\x03\xe8\x00\x00\x00\x01\x41\x00\x00\x00\x00\x00\x00\x00\x03\x00\x10\xa1\x00";
+
+const ONE_FRAME_LINE: &[u8] = b"frame 20000/1000/0 0 41 0 0010a1\n";
+
+#[test]
+fn a_new_archive_is_made_on_an_empty_disk_alone(rt: HostRuntime) -> Result<(), Fail> {
+    let mut kit = kit_with(&rt, &[], &[])?;
+    assert_eq!(rt; provide(rt.alloc(), &["init", "a"], &mut kit), 0);
+    assert_eq!(rt; provide(rt.alloc(), &["init", "a"], &mut kit), 5);
+    assert_eq!(rt; provide(rt.alloc(), &["list", "a"], &mut kit), 0);
+    assert_eq!(rt; kit.output.written(), b"made\narchive refused 0\n".as_slice());
+    let Some(disk) = kit.disk else {
+        return Err(Fail::from("no disk"));
+    };
+    assert_eq!(rt; disk.content(), b"SLEA\x00\x00\x00\x01\x00".as_slice());
+    Ok(())
+}
+
+// A file, the exit code of its list, and what is written.
+const FILES: [(&[u8], u8, &[u8]); 8] = [
+    (ONE_FRAME, 0, ONE_FRAME_LINE),
+    (b"SLEA\x00\x00\x00\x01\x00", 0, b""),
+    // What stands behind a closed gate isn't read.
+    (b"SLEA\x00\x00\x00\x01\x00\xa5\x00", 0, b""),
+    (b"", 5, b"archive refused 0\n"),
+    (b"SLEA\x00\x00\x00", 5, b"archive refused 7\n"),
+    (b"SLEA\x00\x00\x00\x02\x00", 5, b"archive refused 7\n"),
+    (HEADER, 5, b"archive refused 8\n"),
+    (b"SLEA\x00\x00\x00\x01\xa5", 5, b"archive refused 9\n"),
+];
+
+#[test]
+fn a_list_has_a_line_for_each_entry_or_the_place_of_the_first_fault(
+    rt: HostRuntime,
+) -> Result<(), Fail> {
+    for (file, status, written) in FILES {
+        let mut kit = kit_with(&rt, file, &[])?;
+        assert_eq!(rt; provide(rt.alloc(), &["list", "a"], &mut kit), status);
+        assert_eq!(rt; kit.output.written(), written);
+        let Some(disk) = kit.disk else {
+            return Err(Fail::from("no disk"));
+        };
+        assert_eq!(rt; disk.content(), file);
+    }
+    Ok(())
+}
+
+#[test]
+fn a_disk_that_fails_is_told_and_a_failed_write_stands_before_it(
+    rt: HostRuntime,
+) -> Result<(), Fail> {
+    for (word, calls) in [("init", 2), ("list", 1)] {
+        for call in 1..=calls {
+            for (failing_writes, status, written) in [
+                ([].as_slice(), 8, b"disk fault\n".as_slice()),
+                ([1].as_slice(), 7, b"disk ".as_slice()),
+            ] {
+                let mut kit = kit_with(&rt, &[], failing_writes)?;
+                let mut disk = MemoryDisk::new(rt.alloc());
+                disk.steer(Orders {
+                    failing: FailingCalls::new([call].to_vec(rt.alloc())?),
+                    stop: None,
+                });
+                kit.disk = Some(disk);
+                assert_eq!(rt; provide(rt.alloc(), &[word, "a"], &mut kit), status);
+                assert_eq!(rt; kit.output.written(), written);
+            }
+        }
+    }
+    Ok(())
+}
+
+#[test]
+fn an_output_that_fails_leaves_what_begins_the_text_of_a_file(rt: HostRuntime) -> Result<(), Fail> {
+    let mut kit = kit_with(&rt, &[], &[1])?;
+    assert_eq!(rt; provide(rt.alloc(), &["init", "a"], &mut kit), 7);
+    assert_eq!(rt; kit.output.written(), b"ma".as_slice());
+    let mut kit = kit_with(&rt, ONE_FRAME, &[1])?;
+    assert_eq!(rt; provide(rt.alloc(), &["list", "a"], &mut kit), 7);
+    assert!(rt; ONE_FRAME_LINE.starts_with(kit.output.written()));
+    let mut kit = kit_with(&rt, b"x", &[1])?;
+    assert_eq!(rt; provide(rt.alloc(), &["list", "a"], &mut kit), 7);
+    assert_eq!(rt; kit.output.faults(), 1);
     Ok(())
 }

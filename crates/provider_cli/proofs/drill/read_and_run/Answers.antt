@@ -1,5 +1,5 @@
-use Rattle.std.proofs.Common.{Err, ap}
-use Rattle.provider_cli.proofs.Outcomes.{gains_line, line_count}
+use Rattle.std.proofs.Common.{Err, ap, ⊎_elim}
+use Rattle.provider_cli.proofs.Outcomes.{ran_whole, gains_line, line_count}
 use Rattle.provider_cli.proofs.drill.read_and_run.Goals as goal
 
 pub returns-in-Err-ReadFault : goal.returns-in-Err-ReadFault
@@ -9,3 +9,10 @@ returns-in-Err-ReadFault g c = record {
   writes = line_count _ _ _ _ _ c.put_line.result c.put_line.ensures.written;
   script = tt;
 }
+
+pub returns-in-Ok-run_script : goal.returns-in-Ok-run_script
+returns-in-Ok-run_script g c =
+    ran_whole _ _ _ _ _ _ _ _ c.in-Ok.script.items c.in-Ok.ensures.octets c.in-Ok.ensures.ok
+    (⊎_elim (λ is. absurd cc) (λ same. same) c.in-Ok.ensures.kept) c.in-Ok-run_script.status
+    (rw c.as_slice.ensures.value at c.in-Ok-run_script.ensures.written)
+    (rw c.as_slice.ensures.value at c.in-Ok-run_script.ensures.status)

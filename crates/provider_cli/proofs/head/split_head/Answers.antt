@@ -3,7 +3,7 @@ use Rattle.std.specs.Prelude.{codes}
 use Rattle.station_config.specs.Drafts.{empty, told_from, finished}
 use Rattle.provider_cli.specs.Head.{is_site}
 use Rattle.provider_cli.proofs.FirstLines.{line_in}
-use Rattle.provider_cli.proofs.Heads.{no_settings, all_run, site_line, slice_all}
+use Rattle.provider_cli.proofs.Heads.{no_settings, all_run, site_line}
 use Rattle.provider_cli.proofs.Heads.{settings_told, ended, unended}
 use Rattle.provider_cli.proofs.head.split_head.Goals as goal
 
@@ -24,8 +24,8 @@ returns-in_default-clause-splits c =
     let is : line_in c.args.script.now ≡ codes "site" = site_line c.args.script.now
     (rw (← c.split_line.ensures.line) (search rules)) in
     let parts = unended c.args.script.now c.find_end-found.result.lines is
-    (rw (slice_all c.args.script.now 4) at c.find_end-found.ensures.count)
-    (rw (slice_all c.args.script.now 4, c.in_default.is) at c.find_end-found.ensures.behind) in
+    (rw c.behind_site-others.ensures at c.find_end-found.ensures.count)
+    (rw (c.behind_site-others.ensures, c.in_default.is) at c.find_end-found.ensures.behind) in
     (parts.0, parts.1 ∙ sym c.max.ensures)
 
 pub returns-clause-splits : goal.returns-clause-splits
@@ -33,19 +33,19 @@ returns-clause-splits c =
     let is : line_in c.args.script.now ≡ codes "site" = site_line c.args.script.now
     (rw (← c.split_line.ensures.line) (search rules)) in
     ended c.args.script.now c.in-Some.rest.now c.find_end-found.result.lines is
-    (rw (slice_all c.args.script.now 4) at c.find_end-found.ensures.count)
-    (rw (slice_all c.args.script.now 4, c.in-Some.is) at c.find_end-found.ensures.behind)
+    (rw c.behind_site-others.ensures at c.find_end-found.ensures.count)
+    (rw (c.behind_site-others.ensures, c.in-Some.is) at c.find_end-found.ensures.behind)
 
 pub returns-clause-site : goal.returns-clause-site
 returns-clause-site c =
     let is : line_in c.args.script.now ≡ codes "site" = site_line c.args.script.now
     (rw (← c.split_line.ensures.line) (search rules)) in
     ap finished (c.find_end-found.ensures.told
-    ∙ rw (slice_all c.args.script.now 4) (settings_told c.args.script.now is))
+    ∙ rw c.behind_site-others.ensures (settings_told c.args.script.now is))
 
 pub returns-in_default-clause-site : goal.returns-in_default-clause-site
 returns-in_default-clause-site c =
     let is : line_in c.args.script.now ≡ codes "site" = site_line c.args.script.now
     (rw (← c.split_line.ensures.line) (search rules)) in
     ap finished (c.find_end-found.ensures.told
-    ∙ rw (slice_all c.args.script.now 4) (settings_told c.args.script.now is))
+    ∙ rw c.behind_site-others.ensures (settings_told c.args.script.now is))

@@ -1,4 +1,4 @@
-use Rattle.std.proofs.Common.{◌≡◌, ◌+◌, ◌≤◌, false, length}
+use Rattle.std.proofs.Common.{◌≡◌, ◌+◌, ◌≤◌, true, length}
 use Rattle.provider_cli.proofs.Running.{text_from, status_from}
 use Rattle.provider_cli.proofs.Steps.{Behind}
 use Rattle.provider_cli.proofs.run.run_lines.Given as goal
@@ -10,7 +10,7 @@ invariant-loop-rest g l = record {
       (g.O.Sink.faults l.initial.output) (g.O.Sink.faults l.output)
       (text_from (l.before + 1) l.initial.world.state l.text)
       (text_from l.number l.world.state l.rest);
-  ends : status_from false l.initial.world.state l.text ≡ status_from l.full l.world.state l.rest;
+  ends : status_from true l.initial.world.state l.text ≡ status_from l.fine l.world.state l.rest;
   numbers : l.number + length l.rest ≤ l.before + 1 + length l.text;
 }
 

@@ -1,0 +1,131 @@
+-- What `init` and `list` do with the file of a disk. This product's own rules.
+use Rattle.std.specs.Prelude.{◌≡◌, ◌⊎◌, ℕ, ◌<◌, Option, IfSome, IsSomeAnd, List, [], ◌∷◌, ◌++◌, codes}
+use Rattle.std.specs.Fmt.{decimal}
+use Rattle.std.specs.List.{flat_map}
+use Rattle.octet_core.specs.Fault.{Rose}
+use Rattle.archive_terms.specs.Archive.{Entry, frame, loss_of_sync, production, seal}
+use Rattle.disk_model.specs.Images.{Pending}
+use Rattle.disk_model.specs.Moments.{IsImageOf, HoldsThroughout}
+use Rattle.record_form.specs.declared.entry.Entry as record_form
+use Rattle.record_form.specs.declared.entry.Entry.TheVariants as entries
+use Rattle.gate_journal.specs.declared.fault.JournalFault.{JournalFault}
+use Rattle.gate_journal.specs.declared.fault.JournalFault.TheVariants as refusals
+use Rattle.gate_journal.specs.File.{StandsFor}
+use Rattle.gate_journal.specs.Kept.{Keeps}
+use Rattle.gate_journal.specs.Reading.{IsNoJournal, IsDamagedAt}
+use Rattle.drill_text.specs.Reading.{entry_text}
+use Rattle.provider_cli.specs.declared.status.Status.{Status}
+use Rattle.provider_cli.specs.declared.status.Status.TheVariants as ends
+use Rattle.provider_cli.specs.Command.{Closes}
+
+-- the line of a file that isn't an archive's, with the place
+abbrev pub refused_line : ℕ → List ℕ
+refused_line place = codes "archive refused " ++ decimal place ++ 10 ∷ []
+
+-- ---- a new archive file
+
+-- the file was made, it wasn't empty, the disk failed, or memory was refused before its first call
+pub data Made : Type 0 where
+  made : Made
+  occupied : Made
+  failed : Made
+  unasked : Made
+
+abbrev pub made_text : Made → List ℕ
+made_text made = codes "made" ++ 10 ∷ []
+made_text occupied = codes "archive refused 0" ++ 10 ∷ []
+made_text failed = codes "disk fault" ++ 10 ∷ []
+made_text unasked = []
+
+abbrev pub made_status : Made → Status
+made_status made = ends.Done
+made_status occupied = ends.ArchiveRefused
+made_status failed = ends.DiskFault
+made_status unasked = ends.Memory
+
+-- A file is made on an empty disk alone, whose one image then stands for no entries; a disk that
+-- isn't empty is as it was; and one that failed was empty.
+abbrev pub LeavesMade : {D : Type 0} → (D → Option Pending) → (D → ℕ) → (D → ℕ) → D → D → Made
+    → Type 0
+LeavesMade pending extent faults old new made =
+    (extent old ≡ 0) × IfSome (pending old) (λ _. Keeps (pending new) [])
+LeavesMade pending extent faults old new occupied = (0 < extent old) × (new ≡ old)
+LeavesMade pending extent faults old new failed = (extent old ≡ 0) × Rose (faults old) (faults new)
+LeavesMade pending extent faults old new unasked = new ≡ old
+
+-- what `init` promises of a disk and an output, by its exit code
+pub record IsInit {D : Type 0} (pending : D → Option Pending) (extent faults : D → ℕ) (old new : D)
+    (before after : Option (List ℕ)) (faults_before faults_after exit : ℕ) : Type 0 where
+  pub how : Made
+  pub leaves : LeavesMade pending extent faults old new how
+  pub closes : Closes before after faults_before faults_after (made_text how) (made_status how) exit
+
+-- ---- the entries of a file
+
+-- the entry of an archive as the line of a script offers it
+abbrev pub offered : Entry → record_form.Entry
+offered (frame f) = entries.Frame f.ert f.quality f.antenna f.lost f.octets
+offered (loss_of_sync l) = entries.LossOfSync l.at l.carrier l.subcarrier l.symbol
+offered (production status) = entries.Production status
+offered (seal at) = entries.Seal at
+
+-- entries as lines that offer them
+abbrev pub entries_text : List Entry → List ℕ
+entries_text entries = flat_map (λ entry. entry_text (offered entry)) entries
+
+-- these entries were read; the file is refused at a place; the disk failed; or memory was refused
+-- before all was read
+pub data Listed : Type 0 where
+  listed : List Entry → Listed
+  refused : ℕ → Listed
+  failed : Listed
+  unread : Listed
+
+-- what a reading of the file that is refused tells
+abbrev pub listed_by : JournalFault → Listed
+listed_by (refusals.NotJournal place) = refused place
+listed_by (refusals.Damaged place) = refused place
+listed_by refusals.DiskFault = failed
+listed_by fault = unread
+
+-- a reading is refused for its octets, a fault of the disk, or want of memory
+abbrev pub IsOfReading : JournalFault → Type 0
+IsOfReading (refusals.Full need free) = ⊥
+IsOfReading refusals.Stale = ⊥
+IsOfReading fault = Unit {0}
+
+abbrev pub listed_text : Listed → List ℕ
+listed_text (listed entries) = entries_text entries
+listed_text (refused place) = refused_line place
+listed_text failed = codes "disk fault" ++ 10 ∷ []
+listed_text unread = []
+
+abbrev pub listed_status : Listed → Status
+listed_status (listed entries) = ends.Done
+listed_status (refused place) = ends.ArchiveRefused
+listed_status failed = ends.DiskFault
+listed_status unread = ends.Memory
+
+-- The entries are those that the file stands for, and its one image stands for them then; a place is
+-- that of the file's first fault; and a disk failed only where its count of faults rose.
+abbrev pub LeavesListed : {D : Type 0} → (D → Option Pending) → (D → ℕ) → D → D → Listed → Type 0
+LeavesListed pending faults old new (listed entries) =
+    IfSome (pending old) (λ told. StandsFor entries told.content × Keeps (pending new) entries)
+LeavesListed pending faults old new (refused place) =
+    IfSome (pending old) (λ told. IsNoJournal place told.content ⊎ IsDamagedAt place told.content)
+LeavesListed pending faults old new failed = Rose (faults old) (faults new)
+LeavesListed pending faults old new unread = Unit {0}
+
+-- What `list` promises of a disk and an output, by its exit code. Where the file stands for entries
+-- it is not refused; and at each moment what a crash may leave is what it might have left before.
+pub record IsList {D : Type 0} (pending : D → Option Pending) (moment : D → ℕ)
+    (images_since : D → ℕ → List ℕ → Type 0) (faults : D → ℕ) (old new : D)
+    (before after : Option (List ℕ)) (faults_before faults_after exit : ℕ) : Type 0 where
+  pub how : Listed
+  pub leaves : LeavesListed pending faults old new how
+  pub complete : (entries : List Entry)
+      → IsSomeAnd (pending old) (λ told. StandsFor entries told.content)
+      → (how ≡ listed entries) ⊎ (how ≡ failed) ⊎ (how ≡ unread)
+  pub any_moment : HoldsThroughout moment images_since old new (IsImageOf (pending old))
+  pub closes : Closes before after faults_before faults_after (listed_text how)
+      (listed_status how) exit

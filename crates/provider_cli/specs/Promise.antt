@@ -1,0 +1,29 @@
+-- What `drill` promises.
+use Rattle.std.specs.Prelude.{◌≡◌, ℕ}
+use Rattle.provider_cli.specs.declared.status.Status.{Status}
+use Rattle.provider_cli.specs.Command.{code}
+use Rattle.provider_cli.specs.Outside.{Outside}
+use Rattle.provider_cli.specs.Drilled.{ended, HasText, HasReads, HasWrites, HasScript, Completes}
+use Rattle.provider_cli.specs.Start.{EachStart}
+use Rattle.provider_cli.specs.Headline.{HasHeadline, IsDelivered, IsSent, IsStreamed, IsReadOf}
+use Rattle.provider_cli.specs.Headline.{StaysRight, StaysTold}
+
+-- By the status that the exit code is: what was written, which calls failed, what the script is, and
+-- that it ends with its own status. Then what holds of each line that was run, and of each START:
+-- what delivers its buffers, where its messages stand in the output, that they are a stream, what a
+-- user reads of them, and that they stay right and as told for the archive after each later line.
+pub record IsDrill (before after : Outside) (exit : ℕ) : Type 0 where
+  pub status : Status
+  pub exit_is : exit ≡ code status
+  pub text : HasText before after (ended status)
+  pub reads : HasReads before after (ended status)
+  pub writes : HasWrites before after (ended status)
+  pub script : HasScript before status (ended status)
+  pub complete : Completes before after status
+  pub headline : HasHeadline before.left
+  pub delivered : EachStart before.left IsDelivered
+  pub sent : EachStart before.left (IsSent before after status)
+  pub streamed : EachStart before.left IsStreamed
+  pub read : EachStart before.left IsReadOf
+  pub stays_right : EachStart before.left StaysRight
+  pub stays_told : EachStart before.left StaysTold

@@ -1,0 +1,130 @@
+// `init` and `list`: an archive file is made, or its entries are written.
+ghost use Rattle.std.specs.Prelude.{◌≡◌, [], ◌∷◌};
+ghost use Rattle.std.specs.List.{filter};
+ghost use Rattle.archive_terms.specs.Archive.{is_storable};
+ghost use Rattle.record_form.specs.Entry.{entry_of, entries_of};
+ghost use Rattle.station_law.specs.Output.{Wrote};
+ghost use Rattle.provider_cli.specs.Command.{Closes, closed, code};
+ghost use Rattle.provider_cli.specs.Archives.{IsInit, IsList, IsOfReading, listed_by, listed_text};
+ghost use Rattle.provider_cli.specs.Archives.{listed_status, entries_text};
+
+use crate::put::{put_line, put_refused};
+use crate::status::Status;
+use disk_model::Disk;
+use drill_text::write_entry_line;
+use gate_journal::{Journal, JournalFault};
+use octet_core::{Octets, Sink};
+use record_form::Entry;
+use station_law::Stop;
+use std::alloc::Global;
+
+/// Makes a new archive file on an empty disk, and says so. Answers the exit code, and hands the
+/// disk back.
+pub fn init_archive<D: Disk, O: Sink>(alloc: Global, disk: D, output: &mut O) -> (u8, D)
+    ensures { IsInit D.pending D.extent D.faults disk result.1
+        (O.written output.old) (O.written output.new)
+        (O.faults output.old) (O.faults output.new)
+        result.0 }
+{
+    if disk.size() > 0 {
+        let exit = tell(b"archive refused 0\n", Status::ArchiveRefused, output);
+        return (exit, disk);
+    }
+    match Journal::create(alloc, disk) {
+        Ok(journal) => {
+            let exit = tell(b"made\n", Status::Done, output);
+            (exit, journal.into_disk())
+        }
+        Err((_, disk)) => {
+            let exit = tell(b"disk fault\n", Status::DiskFault, output);
+            (exit, disk)
+        }
+    }
+}
+
+/// Writes each entry of the archive file on a disk as the line that offers it. Answers the exit
+/// code, and hands the disk back.
+pub fn list_archive<D: Disk, O: Sink>(alloc: Global, disk: D, output: &mut O) -> (u8, D)
+    ensures { IsList D.pending D.moment D.images_since D.faults disk result.1
+        (O.written output.old) (O.written output.new)
+        (O.faults output.old) (O.faults output.new)
+        result.0 }
+{
+    gate_journal::laws::a_file_stands_for_one_list();
+    match Journal::recover(alloc, disk) {
+        Ok((journal, entries)) => {
+            let exit = close(put_entries(alloc, entries.as_slice(), output), Status::Done);
+            (exit, journal.into_disk())
+        }
+        Err((fault, disk)) => (tell_fault(alloc, fault, output), disk),
+    }
+}
+
+/// Writes a line as a command's whole text, and answers the exit code.
+pub fn tell<O: Sink>(line: &[u8], own: Status, output: &mut O) -> u8
+    ensures { Closes (O.written output.old) (O.written output.new)
+        (O.faults output.old) (O.faults output.new)
+        line.now own result }
+{
+    close(put_line(line, output), own)
+}
+
+// The exit code of a command that has a status of its own, where its text was written.
+fn close(written: Result<(), Stop>, own: Status) -> u8
+    ensures { result ≡ code (closed written own) }
+{
+    let status = match written {
+        Ok(()) => own,
+        Err(Stop::WriteFault) => Status::WriteFault,
+        Err(Stop::Memory) => Status::Memory,
+    };
+    status.code()
+}
+
+// Says why a file's entries can't be listed, and answers the exit code.
+fn tell_fault<O: Sink>(alloc: Global, fault: JournalFault, output: &mut O) -> u8
+    requires { IsOfReading fault }
+    ensures { Closes (O.written output.old) (O.written output.new)
+        (O.faults output.old) (O.faults output.new)
+        (listed_text (listed_by fault)) (listed_status (listed_by fault)) result }
+{
+    match fault {
+        JournalFault::NotJournal { place } => {
+            close(put_refused(alloc, place, output), Status::ArchiveRefused)
+        }
+        JournalFault::Damaged { place } => {
+            close(put_refused(alloc, place, output), Status::ArchiveRefused)
+        }
+        JournalFault::DiskFault => tell(b"disk fault\n", Status::DiskFault, output),
+        JournalFault::Memory => Status::Memory.code(),
+        JournalFault::Full { .. } | JournalFault::Stale => unreachable!(),
+    }
+}
+
+// Writes the lines that offer entries.
+fn put_entries<O: Sink>(alloc: Global, entries: &[Entry], output: &mut O) -> Result<(), Stop>
+    ensures { Wrote (O.written output.old) (O.written output.new)
+        (O.faults output.old) (O.faults output.new)
+        (entries_text (filter is_storable (entries_of entries.now))) result }
+{
+    for entry in entries {
+        put_entry(alloc, entry, output)?;
+    }
+    Ok(())
+}
+
+// Writes the line of an entry. One outside the ranges of an archive has none.
+fn put_entry<O: Sink>(alloc: Global, entry: &Entry, output: &mut O) -> Result<(), Stop>
+    ensures { Wrote (O.written output.old) (O.written output.new)
+        (O.faults output.old) (O.faults output.new)
+        (entries_text (filter is_storable (entry_of entry.now ∷ []))) result }
+{
+    if !entry.is_storable() {
+        return Ok(());
+    }
+    let mut line = Octets::new(alloc);
+    if write_entry_line(alloc, entry, &mut line).is_err() {
+        return Err(Stop::Memory);
+    }
+    put_line(line.as_slice(), output)
+}
