@@ -14,7 +14,7 @@ use Rattle.station_config.specs.declared.site.Site.{Site}
 use Rattle.cltu_queue.specs.declared.book_reply.BookReply.{BookReply}
 use Rattle.session_core.specs.declared.course.Course.{Course}
 use Rattle.session_core.specs.declared.course.Course.TheVariants.{Going, Closing as ClosingWith}
-use Rattle.session_core.specs.declared.course.Course.TheVariants.{Over, LinkFailed}
+use Rattle.session_core.specs.declared.course.Course.TheVariants.{Over, LinkFailed, Spent}
 use Rattle.session_core.specs.declared.standing.Standing.{Standing}
 use Rattle.session_core.specs.Numbers.{communications_failure}
 use Rattle.session_core.specs.Course.{is_going, is_live, is_blocked}
@@ -297,6 +297,7 @@ end_live Going waits e = refl
 end_live (ClosingWith end) waits e = refl
 end_live (Over end) waits e = e
 end_live LinkFailed waits e = e
+end_live Spent waits e = e
 
 speak_hands : (s : State) (spoke : Option Offer) (left : Blocks) → Speaks s spoke
     → Left s.standing left

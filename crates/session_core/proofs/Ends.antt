@@ -9,7 +9,7 @@ use Rattle.cltu_queue.specs.declared.book_reply.BookReply.{BookReply}
 use Rattle.station_book.specs.State.{Event}
 use Rattle.session_core.specs.declared.arrival.Arrival.TheVariants.{Nothing}
 use Rattle.session_core.specs.declared.course.Course.{Course}
-use Rattle.session_core.specs.declared.course.Course.TheVariants.{Over, LinkFailed}
+use Rattle.session_core.specs.declared.course.Course.TheVariants.{Over, LinkFailed, Spent}
 use Rattle.session_core.specs.declared.ended.Ended.{Ended}
 use Rattle.session_core.specs.declared.standing.Standing.{Standing}
 use Rattle.session_core.specs.Numbers.{communications_failure}
@@ -36,9 +36,10 @@ made waited heard told spoke =
 abbrev pub IsStill : Course → Type 0
 IsStill c = is_live c ≡ false
 
-not_going : (c : Course) → IsStill c → is_going c ≡ false
+pub not_going : (c : Course) → IsStill c → is_going c ≡ false
 not_going (Over end) e = refl
 not_going LinkFailed e = refl
+not_going Spent e = refl
 not_going _ e = absurd (cc)
 
 pub still_waits_not : (s : State) (r : Round) (site : Site) → IsStill s.standing.course
@@ -132,6 +133,7 @@ still_calls site s r still is = ap (round_calls site s) (still_round site s r st
 over_end : (c d : Course) (waits : Bool) → IsStill d → c ≡ d → course_at_end c waits ≡ d
 over_end c (Over end) waits still e = ap (λ (x : Course). course_at_end x waits) e
 over_end c LinkFailed waits still e = ap (λ (x : Course). course_at_end x waits) e
+over_end c Spent waits still e = ap (λ (x : Course). course_at_end x waits) e
 over_end c _ waits still e = absurd (cc)
 
 spoken_course : (site : Site) (s : State) (r : Round) → IsStill s.standing.course

@@ -1,12 +1,15 @@
 mod Truths
 mod Messages
 mod Ends
+mod Fates
+mod Faults
 mod One
 mod Blocks
 mod Streams
 mod Rounds
 mod Sound
 mod Listed
+mod Serving
 mod Fits
 mod Asks
 mod Advance

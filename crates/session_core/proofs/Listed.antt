@@ -6,6 +6,7 @@ use Rattle.isp1_tml.specs.Feeding.{Feeding, StandsFor, fresh}
 use Rattle.link_model.specs.declared.call.Call.{Call}
 use Rattle.station_config.specs.declared.site.Site.{Site}
 use Rattle.archive_terms.specs.Glimpse.{wants_nothing}
+use Rattle.cltu_queue.specs.declared.ask.Ask.{Ask}
 use Rattle.station_book.specs.State.{Event, Call as BookCall, answer}
 use Rattle.station_book.specs.State as book
 use Rattle.station_book.specs.History.{IsLegal, replay, event_at}
@@ -19,7 +20,8 @@ use Rattle.session_core.specs.Kept.{kept_after, asked}
 use Rattle.session_core.specs.Lists.{Stage, to_listen, to_step, to_speak, Part, none_made}
 use Rattle.session_core.specs.Lists.{made_listen, made_step, stage_of, part_state, IsPart}
 use Rattle.session_core.specs.Lists.{part_calls, part_events, Began, start_of, state_after}
-use Rattle.session_core.specs.Lists.{StandsAt, Goes, GoesRound}
+use Rattle.session_core.specs.Lists.{StandsAt, Goes, GoesStep, readings_in, GoesRound}
+use Rattle.session_core.specs.Outcome.{has_ended}
 use Rattle.session_core.proofs.Streams.{WorkedOut, Gives}
 use Rattle.session_core.proofs.Rounds.{asks_by, stands_by, events_by, tells-tells}
 use Rattle.session_core.proofs.Sound.{sound_first, sound_rounds}
@@ -61,19 +63,19 @@ are_more site s (q ∷ rounds) r h is = (h.0, are_more site (after_round site s 
 
 -- ---- the parts of StandsAt, so that the part of a round can be told apart
 
-record At (part : Part) (b : Began) (v : Kept) (calls : List Call)
+pub record At (part : Part) (b : Began) (v : Kept) (calls : List Call)
     (events : List Event) : Type 0 where
-  rounds : List Round
-  door_is : v.door ≡ b.door
-  right : AreRounds b.site (start_of b) rounds
-  part_right : IsPart (state_after b rounds) part
-  calls_are : calls ≡ session_calls b.site (start_of b) rounds
+  pub rounds : List Round
+  pub door_is : v.door ≡ b.door
+  pub right : AreRounds b.site (start_of b) rounds
+  pub part_right : IsPart (state_after b rounds) part
+  pub calls_are : calls ≡ session_calls b.site (start_of b) rounds
       ++ part_calls (state_after b rounds) part
-  events_are : events ≡ session_events b.site b.door (start_of b) rounds
+  pub events_are : events ≡ session_events b.site b.door (start_of b) rounds
       ++ part_events b.site b.door (state_after b rounds) part
-  shows : Shows v (part_state b.site (state_after b rounds) part)
+  pub shows : Shows v (part_state b.site (state_after b rounds) part)
 
-at_of : (stage : Stage) (b : Began) (v : Kept) (calls : List Call) (events : List Event)
+abbrev pub at_of : (stage : Stage) (b : Began) (v : Kept) (calls : List Call) (events : List Event)
     → (h : StandsAt stage b v calls events) → At h.part b v calls events
 at_of stage b v calls events h = record {
   rounds = h.rounds;
@@ -263,26 +265,34 @@ legal_unless : (b : book.State) (over : Bool) (call : BookCall)
 legal_unless b true call = tt
 legal_unless b false call = (refl, tt)
 
+reads_unless : (over : Bool) (b : book.State) (door reading : ℕ) (ask : Ask)
+    → readings_in (if over then [] else event_at b (answer door reading ask wants_nothing) ∷ [])
+    ≡ (if over then [] else reading ∷ [])
+reads_unless true b door reading ask = refl
+reads_unless false b door reading ask = refl
+
 pub goes_round : (site : Site) (a c d : Option (List Call)) (bk now : book.State) (reading : ℕ)
     (old heard acted new : Kept) → Goes to_listen to_step a c old heard
-    → ((b : Began) (calls : List Call) (events : List Event) → b.site ≡ site
-    → StandsAt to_step b heard calls events
-    → StandsAt to_speak b acted calls (events ++ own_events site heard bk reading))
-    → now ≡ replay bk (own_events site heard bk reading) → Goes to_speak to_listen c d acted new
-    → GoesRound site a d bk now old new
-goes_round site a c d bk now reading old heard acted new l step is p = record {
+    → has_ended heard ≡ has_ended old
+    → GoesStep site reading bk now heard acted → Goes to_speak to_listen c d acted new
+    → GoesRound site reading a d bk now old new
+goes_round site a c d bk now reading old heard acted new l ended step p = record {
   own = l.own ++ p.own;
   told = tells-tells a c d l.own p.own l.told p.told;
   gained = own_events site heard bk reading;
+  reads =
+      reads_unless (is_over heard.standing.course) bk heard.door reading
+      (asked site heard bk reading)
+      ∙ ap (λ (over : Bool). if over then [] else reading ∷ []) ended;
   legal =
       legal_unless bk (is_over heard.standing.course)
       (answer heard.door reading (asked site heard bk reading) wants_nothing);
-  book_is = is;
+  book_is = step.book_is;
   stands = λ b calls events same h.
       subst
       (λ (x : List Call).
       StandsAt to_listen b new x (events ++ own_events site heard bk reading))
       (append_assoc calls l.own p.own)
       (p.stands b (calls ++ l.own) (events ++ own_events site heard bk reading)
-      (step b (calls ++ l.own) events same (l.stands b calls events h)));
+      (step.stands b (calls ++ l.own) events same (l.stands b calls events h)));
 }

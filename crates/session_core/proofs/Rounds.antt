@@ -59,7 +59,7 @@ still_going s (Some Stalled) e = e
 still_going s (Some Refused) e = absurd (cc)
 
 -- a session that may poll goes on
-going_polls : (s : Standing) (next : Next) → true ≡ may_poll s next → is_going s.course ≡ true
+pub going_polls : (s : Standing) (next : Next) → true ≡ may_poll s next → is_going s.course ≡ true
 going_polls s next e =
     let free = both_of (is_going s.course && not (is_blocked s.arrival))
     (not (has_message next)) e in

@@ -14,7 +14,7 @@ use Rattle.station_config.specs.declared.site.Site.{Site}
 use Rattle.cltu_queue.specs.declared.book_reply.BookReply.{BookReply}
 use Rattle.session_core.specs.declared.course.Course.{Course}
 use Rattle.session_core.specs.declared.course.Course.TheVariants.{Going, Closing as ClosingWith}
-use Rattle.session_core.specs.declared.course.Course.TheVariants.{Over, LinkFailed}
+use Rattle.session_core.specs.declared.course.Course.TheVariants.{Over, LinkFailed, Spent}
 use Rattle.session_core.specs.declared.standing.Standing.{Standing}
 use Rattle.session_core.specs.Numbers.{communications_failure}
 use Rattle.session_core.specs.Course.{is_going, is_over, is_blocked}
@@ -52,6 +52,7 @@ end_going (ClosingWith end) true e = absurd (cc)
 end_going (ClosingWith end) false e = absurd (cc)
 end_going (Over end) waits e = absurd (cc)
 end_going LinkFailed waits e = absurd (cc)
+end_going Spent waits e = absurd (cc)
 
 offer_going : (s : Standing) (spoke : Option Offer)
     → is_going (standing_spoke s spoke).course ≡ true → is_going s.course ≡ true
@@ -85,7 +86,7 @@ act_by : (idle : Bool) (s t : Standing) → (idle ≡ false → is_going s.cours
 act_by true s t busy e = e
 act_by false s t busy e = busy refl
 
-busy_going : (blocked going : Bool) → (blocked || not going) ≡ false → going ≡ true
+pub busy_going : (blocked going : Bool) → (blocked || not going) ≡ false → going ≡ true
 busy_going true going e = absurd (cc)
 busy_going false true e = refl
 busy_going false false e = absurd (cc)
@@ -156,6 +157,7 @@ over_not_going Going h e = sym h
 over_not_going (ClosingWith end) h e = absurd (cc)
 over_not_going (Over end) h e = absurd (cc)
 over_not_going LinkFailed h e = absurd (cc)
+over_not_going Spent h e = absurd (cc)
 
 sound_told : (site : Site) (s : State) (waited : Option Offer) (heard : Option Heard)
     (told : Option Told) → IsSound s → Asks (listened s waited heard) told

@@ -3,7 +3,7 @@ use Rattle.std.specs.Prelude.{Bool, true, false}
 use Rattle.session_core.specs.declared.arrival.Arrival.{Arrival}
 use Rattle.session_core.specs.declared.arrival.Arrival.TheVariants.{Blocked, Octets, Closed}
 use Rattle.session_core.specs.declared.course.Course.{Course}
-use Rattle.session_core.specs.declared.course.Course.TheVariants.{Going, Closing, Over}
+use Rattle.session_core.specs.declared.course.Course.TheVariants.{Going, Closing, Over, Spent}
 
 -- it handles messages
 abbrev pub is_going : Course → Bool
@@ -19,6 +19,11 @@ is_live _ = false
 abbrev pub is_over : Course → Bool
 is_over (Over _) = true
 is_over _ = false
+
+-- a step of it wanted memory: no session comes to this by the answers of its link and of the book
+abbrev pub is_spent : Course → Bool
+is_spent Spent = true
+is_spent _ = false
 
 abbrev pub is_blocked : Arrival → Bool
 is_blocked Blocked = true

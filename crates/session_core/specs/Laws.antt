@@ -1,13 +1,19 @@
 -- What holds of every session.
 use Rattle.std.specs.Prelude.{◌≡◌, ℕ, ◌≤◌, Bool, true, false, not, ◌&&◌, if◌then◌else◌, Option}
 use Rattle.std.specs.Prelude.{Some, None, Ok, List, [], ◌∷◌, ◌++◌, length}
+use Rattle.std.specs.List.{list_any}
 use Rattle.octet_core.specs.declared.offer.Offer.{Offer}
+use Rattle.octet_core.specs.declared.offer.Offer.TheVariants.{Failed as Refused}
 use Rattle.isp1_tml.specs.declared.tml_fault.TmlFault.{TmlFault}
 use Rattle.isp1_tml.specs.Message.{Content}
 use Rattle.isp1_tml.specs.Stream.{IsStream}
+use Rattle.link_model.specs.declared.call.Call.{Call}
+use Rattle.link_model.specs.declared.call.Call.TheVariants.{Polled, Offered}
 use Rattle.link_model.specs.declared.call.Heard.{Heard}
+use Rattle.link_model.specs.declared.call.Heard.TheVariants.{Failed}
 use Rattle.link_model.specs.Calls.{octets_heard, blocks_in}
 use Rattle.station_config.specs.declared.site.Site.{Site}
+use Rattle.station_book.specs.State.{Event}
 use Rattle.session_core.specs.declared.course.Course.TheVariants.{Over, LinkFailed}
 use Rattle.session_core.specs.declared.ended.Ended.{Ended}
 use Rattle.session_core.specs.declared.spoken.Spoken.TheVariants as spoken
@@ -16,7 +22,10 @@ use Rattle.session_core.specs.Course.{is_live, is_blocked}
 use Rattle.session_core.specs.Steps.{Next, has_block, handles}
 use Rattle.session_core.specs.Session.{State, Round, at_first, next_of, before_step, before_speak}
 use Rattle.session_core.specs.Session.{after_round, after_rounds, AreRounds, session_calls}
-use Rattle.session_core.specs.Session.{session_events, session_end}
+use Rattle.session_core.specs.Session.{session_events, session_end, is_fault}
+use Rattle.session_core.specs.Kept.{Kept}
+use Rattle.session_core.specs.Outcome.{come_to}
+use Rattle.session_core.specs.Lists.{Began, start_of, StandsAt, to_listen}
 
 -- ---- messages
 
@@ -114,6 +123,29 @@ abbrev pub FaultsRepeat : Type 0
 FaultsRepeat =
     (site : Site) (s : State) (rounds : List Round) → s.standing.course ≡ LinkFailed
     → AreRounds site s rounds → LeaveLink site s rounds
+
+-- ---- faults
+
+-- whether a call was answered Failed
+abbrev pub was_refused : Call → Bool
+was_refused (Polled space Failed) = true
+was_refused (Polled space _) = false
+was_refused (Offered octets Refused) = true
+was_refused (Offered octets _) = false
+
+-- A session tells a fault of its link exactly where a call that it made was answered Failed.
+abbrev pub FaultsAreOfCalls : Type 0
+FaultsAreOfCalls =
+    (site : Site) (door draw entered : ℕ) (rounds : List Round)
+    → is_fault (session_end site (at_first door draw entered) rounds)
+    ≡ list_any was_refused (session_calls site (at_first door draw entered) rounds)
+
+-- What a session has come to between two rounds is the end of the rounds for which it stands.
+abbrev pub EndsAsItStands : Type 0
+EndsAsItStands =
+    (b : Began) (v : Kept) (calls : List Call) (events : List Event)
+    (h : StandsAt to_listen b v calls events)
+    → come_to v ≡ session_end b.site (start_of b) h.rounds
 
 -- ---- one session
 

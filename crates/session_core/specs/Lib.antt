@@ -6,6 +6,8 @@ pub mod Returns
 pub mod Handling
 pub mod Steps
 pub mod Session
-pub mod Laws
 pub mod Kept
+pub mod Outcome
 pub mod Lists
+pub mod Serving
+pub mod Laws

@@ -1,6 +1,7 @@
 -- What a session stands for: the calls of its link and the events of its book since it began, over
 -- whole lists, within a round too.
-use Rattle.std.specs.Prelude.{◌≡◌, ℕ, List, [], ◌++◌, Option}
+use Rattle.std.specs.Prelude.{◌≡◌, ℕ, if◌then◌else◌, List, [], ◌∷◌, ◌++◌, Option}
+use Rattle.std.specs.List.{filter_map}
 use Rattle.octet_core.specs.declared.offer.Offer.{Offer}
 use Rattle.link_model.specs.declared.call.Call.{Call}
 use Rattle.link_model.specs.declared.call.Heard.{Heard}
@@ -8,11 +9,12 @@ use Rattle.link_model.specs.Calls.{Tells}
 use Rattle.station_config.specs.declared.site.Site.{Site}
 use Rattle.station_book.specs.State.{Event}
 use Rattle.station_book.specs.State as book
-use Rattle.station_book.specs.History.{IsLegal, replay}
+use Rattle.station_book.specs.History.{IsLegal, replay, reading_of}
 use Rattle.session_core.specs.Session.{State, Told, at_first, Listens, listened, listen_calls, Asks}
 use Rattle.session_core.specs.Session.{stepped, step_events, after_rounds, AreRounds, session_calls}
 use Rattle.session_core.specs.Session.{session_events, Round}
-use Rattle.session_core.specs.Kept.{Kept, Shows}
+use Rattle.session_core.specs.Kept.{Kept, Shows, own_events}
+use Rattle.session_core.specs.Outcome.{has_ended, has_failed, FailsBy}
 
 -- how far a round has come: the next call is listen, step or speak
 pub data Stage : Type 0 where
@@ -91,13 +93,35 @@ pub record Goes (from to : Stage) (before after : Option (List Call))
   pub stands : (b : Began) (calls : List Call) (events : List Event)
       → StandsAt from b old calls events → StandsAt to b new (calls ++ own) events
 
--- A round made these calls of a link and these events of a book, and the session stands for them
--- behind all for which it stood.
-pub record GoesRound (site : Site) (before after : Option (List Call)) (book_before
+-- A step at a reading made at most one event of a book, which is its own of what the session kept and
+-- of the book. For all lists for which the session stood, it stands for these with that event.
+pub record GoesStep (site : Site) (reading : ℕ) (book_before book_after : book.State)
+    (old new : Kept) : Type 0 where
+  pub book_is : book_after ≡ replay book_before (own_events site old book_before reading)
+  pub failed : has_failed new ≡ has_failed old
+  pub stands : (b : Began) (calls : List Call) (events : List Event) → b.site ≡ site
+      → StandsAt to_step b old calls events
+      → StandsAt to_speak b new calls (events ++ own_events site old book_before reading)
+
+-- A call wanted memory behind a listen, whose calls of the link are all that it made.
+pub record OnlyListens (before after : Option (List Call)) (faults faults_now : ℕ)
+    (old : Kept) : Type 0 where
+  pub heard : Kept
+  pub goes : Goes to_listen to_step before after old heard
+  pub fails : FailsBy (has_failed old) (has_failed heard) faults faults_now
+
+-- the readings of the clock at which the book was called
+abbrev pub readings_in : List Event → List ℕ
+readings_in events = filter_map (λ e. reading_of e.call) events
+
+-- A round at a reading made these calls of a link and these events of a book, one unless the
+-- session had ended, and the session stands for them behind all for which it stood.
+pub record GoesRound (site : Site) (reading : ℕ) (before after : Option (List Call)) (book_before
     book_after : book.State) (old new : Kept) : Type 0 where
   pub own : List Call
   pub told : Tells before after own
   pub gained : List Event
+  pub reads : readings_in gained ≡ (if has_ended old then [] else reading ∷ [])
   pub legal : IsLegal book_before gained
   pub book_is : book_after ≡ replay book_before gained
   pub stands : (b : Began) (calls : List Call) (events : List Event) → b.site ≡ site

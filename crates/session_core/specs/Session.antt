@@ -212,6 +212,10 @@ spoken_of (Over end) = spoken.Ended end
 spoken_of LinkFailed = spoken.LinkFault
 spoken_of _ = spoken.Going
 
+abbrev pub is_fault : Spoken → Bool
+is_fault spoken.LinkFault = true
+is_fault _ = false
+
 -- ---- rounds
 
 abbrev pub before_step : State → Round → State

@@ -13,4 +13,6 @@ pub enum Course {
     Over(Ended),
     /// A poll or an offer of it failed.
     LinkFailed,
+    /// A step of it wanted memory. It does nothing any more.
+    Spent,
 }

@@ -1,6 +1,6 @@
 // What holds of every session. A law's function does nothing: its contract is the law.
 ghost use Rattle.session_core.specs.Laws.{HandledInOrder, EachBlockOnce, EndsRepeat, FaultsRepeat};
-ghost use Rattle.session_core.specs.Laws.{OneSession};
+ghost use Rattle.session_core.specs.Laws.{FaultsAreOfCalls, EndsAsItStands, OneSession};
 
 use isp1_tml::laws as stream;
 use link_model::laws as link;
@@ -31,6 +31,16 @@ pub fn ends_repeat()
 /// After a poll or an offer failed, a session doesn't call the link again, and tells the fault.
 pub fn faults_repeat()
     ensures { FaultsRepeat }
+{}
+
+/// A session tells a fault of its link exactly where a poll or an offer of it was answered Failed.
+pub fn faults_are_of_calls()
+    ensures { FaultsAreOfCalls }
+{}
+
+/// What a session has come to between two rounds is the end of the rounds for which it stands.
+pub fn ends_as_it_stands()
+    ensures { EndsAsItStands }
 {}
 
 /// The answers of the link and the events of the book fix each call of the link with its octets,

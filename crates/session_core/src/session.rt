@@ -1,6 +1,6 @@
 // A session.
 ghost use Rattle.std.specs.Prelude.{◌≡◌, ◌<◌, ◌≤◌, List, [], ◌++◌, IfOk, OnOk, OnErr, Ok, Some};
-ghost use Rattle.std.specs.Prelude.{◌∷◌, length, vec_len};
+ghost use Rattle.std.specs.Prelude.{◌∷◌, length, vec_len, true, IsTrue, IsFalse};
 ghost use Rattle.cds_time.specs.declared.cds.TheConstants.{MOMENT_END};
 ghost use Rattle.isp1_tml.specs.Feeding.{next_of as next_held, after_next as after_given};
 ghost use Rattle.isp1_tml.specs.Feeding.{fresh};
@@ -8,6 +8,7 @@ ghost use Rattle.isp1_tml.specs.Given.{content_of};
 ghost use Rattle.link_model.specs.declared.call.Call.{Call};
 ghost use Rattle.link_model.specs.declared.call.Call.TheVariants.{Offered};
 ghost use Rattle.link_model.specs.Calls.{Tells};
+ghost use Rattle.link_model.specs.Counts.{CountsWhere, offer_failed};
 ghost use Rattle.archive_terms.specs.Glimpse.{wants_nothing};
 ghost use Rattle.station_config.specs.Validity.{IsSite};
 ghost use Rattle.station_book.specs.State.{Event, answer};
@@ -16,11 +17,15 @@ ghost use Rattle.session_core.specs.Kept.{Waited, PolledOnce, Hears, Said, Liste
 ghost use Rattle.session_core.specs.Kept.{feeder_after, asked, told_now, told_by, kept_after};
 ghost use Rattle.session_core.specs.Kept.{own_events};
 ghost use Rattle.session_core.specs.Lists.{Began, StandsAt, Goes, GoesRound, to_listen, to_step};
-ghost use Rattle.session_core.specs.Lists.{to_speak};
-ghost use Rattle.session_core.specs.Session.{spoken_of};
+ghost use Rattle.session_core.specs.Lists.{to_speak, GoesStep, OnlyListens};
+ghost use Rattle.session_core.specs.Outcome.{come_to, has_ended, has_failed, is_spent, FailsBy};
+ghost use Rattle.session_core.specs.Outcome.{Rests, Spends};
+ghost use Rattle.session_core.specs.Course.{is_going};
+ghost use Rattle.session_core.specs.Session.{spoken_of, is_fault};
 ghost use Rattle.session_core.specs.Steps.{has_message, after_wait, after_offer, ask_of, acted};
 ghost use Rattle.session_core.specs.Steps.{message_ask, with_message, idle_ask, next_ask};
 ghost use Rattle.session_core.specs.Steps.{with_next};
+ghost use Rattle.session_core.specs.declared.spoken.Spoken.TheVariants.{Going};
 
 use crate::arrival::Arrival;
 use crate::bind_places::places_of;
@@ -92,6 +97,7 @@ fn offer_waiting<L: Link>(standing: &mut Standing, link: &mut L) -> Offer
     ensures told { Tells (L.calls link.old) (L.calls link.new)
         (Offered standing.old.block result ∷ []) }
     ensures standing { standing.new ≡ after_wait standing.old result }
+    ensures faults { CountsWhere (offer_failed result) (L.faults link.old) (L.faults link.new) }
 {
     let answer = link.offer(standing.block.octets());
     standing.end_wait(answer);
@@ -103,6 +109,7 @@ fn offer_block<L: Link>(standing: &mut Standing, link: &mut L) -> Offer
     ensures told { Tells (L.calls link.old) (L.calls link.new)
         (Offered standing.old.block result ∷ []) }
     ensures standing { standing.new ≡ after_offer standing.old result }
+    ensures faults { CountsWhere (offer_failed result) (L.faults link.old) (L.faults link.new) }
 {
     let answer = link.offer(standing.block.octets());
     standing.end_offer(answer);
@@ -111,9 +118,12 @@ fn offer_block<L: Link>(standing: &mut Standing, link: &mut L) -> Offer
 
 // Polls the link once, and feeds what arrived.
 fn hear<L: Link>(feeder: &mut Feeder, standing: &mut Standing, space: &mut [u8], link: &mut L)
-    requires { length space.old ≡ 65536 }
-    ensures { Hears (L.calls link.old) (L.calls link.new) feeder.old feeder.new standing.old
+    requires space { length space.old ≡ 65536 }
+    requires going { IsTrue (is_going standing.old.course) }
+    ensures heard { Hears (L.calls link.old) (L.calls link.new) feeder.old feeder.new standing.old
         standing.new }
+    ensures faults { FailsBy (is_fault (spoken_of standing.old.course))
+        (is_fault (spoken_of standing.new.course)) (L.faults link.old) (L.faults link.new) }
 {
     let room = feeder.room().min(space.len());
     let into = &mut space[..room];
@@ -135,8 +145,10 @@ impl Session {
     /// A session at its link's start, with all the memory that it will ever have: at the door of
     /// this number, with the program's draw, begun at a moment.
     pub fn new(alloc: Global, door: u32, draw: u32, entered: u128) -> Result<Session, Memory>
-        ensures { IfOk result (λ session. (b : Began) → b.door ≡ door → b.draw ≡ draw
+        ensures lists { IfOk result (λ session. (b : Began) → b.door ≡ door → b.draw ≡ draw
             → b.entered ≡ entered → StandsAt to_listen b session [] []) }
+        ensures going { IfOk result (λ session. come_to session ≡ Going) }
+        ensures spent { IfOk result (λ session. IsFalse (is_spent session)) }
     {
         laws::any_pieces();
         let feeder = new_feeder(alloc)?;
@@ -155,7 +167,9 @@ impl Session {
 impl Session {
     // Offers the block that waited, if there is one.
     fn clear_way<L: Link>(&mut self, link: &mut L)
-        ensures { Waited (L.calls link.old) (L.calls link.new) self.old self.new }
+        ensures waited { Waited (L.calls link.old) (L.calls link.new) self.old self.new }
+        ensures faults { FailsBy (has_failed self.old) (has_failed self.new) (L.faults link.old)
+            (L.faults link.new) }
     {
         let waits = self.standing.waits();
         self.standing.begin_round();
@@ -166,7 +180,9 @@ impl Session {
 
     // Polls, if it may.
     fn poll<L: Link>(&mut self, link: &mut L)
-        ensures { PolledOnce (L.calls link.old) (L.calls link.new) self.old self.new }
+        ensures polled { PolledOnce (L.calls link.old) (L.calls link.new) self.old self.new }
+        ensures faults { FailsBy (has_failed self.old) (has_failed self.new) (L.faults link.old)
+            (L.faults link.new) }
     {
         if self.standing.may_poll(holds_message(&self.feeder)) {
             hear(&mut self.feeder, &mut self.standing, &mut self.space, link);
@@ -175,7 +191,11 @@ impl Session {
 
     // The first call of a round, with what it makes of each state that the session shows.
     fn hear_round<L: Link>(&mut self, link: &mut L)
-        ensures { Listened (L.calls link.old) (L.calls link.new) self.old self.new }
+        ensures lists { Listened (L.calls link.old) (L.calls link.new) self.old self.new }
+        ensures faults { FailsBy (has_failed self.old) (has_failed self.new) (L.faults link.old)
+            (L.faults link.new) }
+        ensures rests { Rests (L.calls link.old) (L.calls link.new) self.old self.new }
+        ensures ended { has_ended self.new ≡ has_ended self.old }
     {
         laws::is_worked_out();
         self.clear_way(link);
@@ -185,7 +205,16 @@ impl Session {
     /// The first call of a round: offers the block that waits, and polls once where none waits any
     /// more and no whole message is held.
     pub fn listen<L: Link>(&mut self, link: &mut L)
-        ensures { Goes to_listen to_step (L.calls link.old) (L.calls link.new) self.old self.new }
+        ensures lists { Goes to_listen to_step (L.calls link.old) (L.calls link.new) self.old
+            self.new }
+
+        // The link's count of faults rises exactly where the link fails in this call.
+        ensures faults { FailsBy (has_failed self.old) (has_failed self.new) (L.faults link.old)
+            (L.faults link.new) }
+
+        // A session that is still doesn't call its link; and no listen ends a session.
+        ensures rests { Rests (L.calls link.old) (L.calls link.new) self.old self.new }
+        ensures ended { has_ended self.new ≡ has_ended self.old }
     {
         laws::is_worked_out();
         laws::any_pieces();
@@ -348,7 +377,7 @@ impl Session {
         Ok(())
     }
 
-    // The step of any session.
+    // The step of any session. Want of memory spends it.
     fn take_step(&mut self, site: &Site, book: &mut Book, reading: u128) -> Result<(), Memory>
         requires site { IsSite site.now }
         requires reading { reading < MOMENT_END }
@@ -356,26 +385,30 @@ impl Session {
             ≡ replay book.old (own_events site.now self.old book.old reading)) }
         ensures kept { OnOk result (self.new
             ≡ kept_after site.now self.old (told_by site.now self.old book.old reading)) }
-        ensures err { OnErr result (book.new ≡ book.old) }
+        ensures memory { Spends result book.old book.new self.old self.new }
     {
         if self.standing.is_over() {
             return Ok(());
         }
-        self.advance(site, book, reading)
+        if self.standing.is_spent() {
+            return Err(Memory);
+        }
+        let Ok(()) = self.advance(site, book, reading) else {
+            self.standing.spend();
+            return Err(Memory);
+        };
+        Ok(())
     }
 
     /// The second call of a round, at a reading of the clock: it handles at most one message, and
-    /// asks the book once, unless the session has ended.
+    /// asks the book once, unless the session has ended. Want of memory leaves the book, and spends
+    /// the session: each later step wants memory too, and the link isn't called any more.
     pub fn step(&mut self, site: &Site, book: &mut Book, reading: u128) -> Result<(), Memory>
         requires site { IsSite site.now }
         requires reading { reading < MOMENT_END }
-        ensures book { OnOk result (book.new
-            ≡ replay book.old (own_events site.now self.old book.old reading)) }
-        ensures lists { OnOk result ((b : Began) (calls : List Call) (events : List Event)
-            → b.site ≡ site.now → StandsAt to_step b self.old calls events
-            → StandsAt to_speak b self.new calls
-            (events ++ own_events site.now self.old book.old reading)) }
-        ensures err { OnErr result (book.new ≡ book.old) }
+        ensures lists { OnOk result (GoesStep site.now reading book.old book.new self.old
+            self.new) }
+        ensures memory { Spends result book.old book.new self.old self.new }
     {
         laws::is_worked_out();
         laws::any_pieces();
@@ -387,7 +420,9 @@ impl Session {
 impl Session {
     // Offers the block, if it may.
     fn say<L: Link>(&mut self, link: &mut L)
-        ensures { Said (L.calls link.old) (L.calls link.new) self.old self.new }
+        ensures said { Said (L.calls link.old) (L.calls link.new) self.old self.new }
+        ensures faults { FailsBy (has_failed self.old) (has_failed self.new) (L.faults link.old)
+            (L.faults link.new) }
     {
         if self.standing.may_speak() {
             offer_block(&mut self.standing, link);
@@ -396,18 +431,21 @@ impl Session {
 
     // What the round comes to.
     fn outcome(&self) -> Spoken
-        ensures { result ≡ spoken_of self.now.standing.course }
+        ensures { result ≡ come_to self.now }
     {
         match self.standing.course {
             Course::Over(end) => Spoken::Ended(end),
             Course::LinkFailed => Spoken::LinkFault,
-            Course::Going | Course::Closing(_) => Spoken::Going,
+            Course::Going | Course::Closing(_) | Course::Spent => Spoken::Going,
         }
     }
 
     // The third call of a round, with what it makes of each state that the session shows.
     fn say_round<L: Link>(&mut self, link: &mut L)
-        ensures { Spoke (L.calls link.old) (L.calls link.new) self.old self.new }
+        ensures lists { Spoke (L.calls link.old) (L.calls link.new) self.old self.new }
+        ensures faults { FailsBy (has_failed self.old) (has_failed self.new) (L.faults link.old)
+            (L.faults link.new) }
+        ensures rests { Rests (L.calls link.old) (L.calls link.new) self.old self.new }
     {
         self.say(link);
         self.standing.end_round();
@@ -417,13 +455,19 @@ impl Session {
     pub fn speak<L: Link>(&mut self, link: &mut L) -> Spoken
         ensures lists { Goes to_speak to_listen (L.calls link.old) (L.calls link.new) self.old
             self.new }
-        ensures outcome { result ≡ spoken_of self.new.standing.course }
+
+        // The link's count of faults rises exactly where the link fails in this call.
+        ensures faults { FailsBy (has_failed self.old) (has_failed self.new) (L.faults link.old)
+            (L.faults link.new) }
+        ensures rests { Rests (L.calls link.old) (L.calls link.new) self.old self.new }
+        ensures outcome { result ≡ come_to self.new }
     {
         self.say_round(link);
         self.outcome()
     }
 
-    /// A whole round, at a reading of the clock: `listen`, `step` and `speak`.
+    /// A whole round, at a reading of the clock: `listen`, `step` and `speak`. Want of memory is
+    /// that of `step`.
     pub fn round<L: Link>(
         &mut self,
         site: &Site,
@@ -433,10 +477,16 @@ impl Session {
     ) -> Result<Spoken, Memory>
         requires site { IsSite site.now }
         requires reading { reading < MOMENT_END }
-        ensures lists { OnOk result (GoesRound site.now (L.calls link.old) (L.calls link.new)
-            book.old book.new self.old self.new) }
-        ensures outcome { IfOk result (λ spoken. spoken ≡ spoken_of self.new.standing.course) }
-        ensures err { OnErr result (book.new ≡ book.old) }
+        ensures lists { OnOk result (GoesRound site.now reading (L.calls link.old)
+            (L.calls link.new) book.old book.new self.old self.new) }
+        ensures faults { OnOk result (FailsBy (has_failed self.old) (has_failed self.new)
+            (L.faults link.old) (L.faults link.new)) }
+        ensures outcome { IfOk result (λ spoken. spoken ≡ come_to self.new) }
+        ensures memory { Spends result book.old book.new self.old self.new }
+
+        // Where it wants memory, its calls of the link are those of a listen.
+        ensures heard { OnErr result (OnlyListens (L.calls link.old) (L.calls link.new)
+            (L.faults link.old) (L.faults link.new) self.old) }
     {
         self.listen(link);
         self.step(site, book, reading)?;

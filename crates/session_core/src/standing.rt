@@ -1,7 +1,8 @@
 // How a session stands, but for its stream.
 ghost use Rattle.std.specs.Prelude.{◌≡◌, IfOk, if◌then◌else◌};
 ghost use Rattle.session_core.specs.Course.{is_going, is_live, is_over, is_blocked};
-ghost use Rattle.session_core.specs.Course.{has_closed};
+ghost use Rattle.session_core.specs.Course.{has_closed, is_spent};
+ghost use Rattle.session_core.specs.declared.course.Course.TheVariants.{Spent};
 ghost use Rattle.session_core.specs.declared.ended.Ended.TheVariants.{PeerClosed};
 ghost use Rattle.session_core.specs.Handling.{ended_by, aborted};
 ghost use Rattle.session_core.specs.Session.{begun};
@@ -80,6 +81,13 @@ impl Standing {
         ensures { result ≡ is_over self.now.course }
     {
         matches!(self.course, Course::Over(_))
+    }
+
+    // Whether it wanted memory.
+    pub(crate) fn is_spent(&self) -> bool
+        ensures { result ≡ is_spent self.now.course }
+    {
+        matches!(self.course, Course::Spent)
     }
 
     // Whether it has a link: it handles messages, or waits until its last block was taken.
@@ -163,6 +171,13 @@ impl Standing {
         if let Arrival::Octets = self.arrival {
             self.heard = now;
         }
+    }
+
+    // It wanted memory, and does nothing any more.
+    pub(crate) fn spend(&mut self)
+        ensures { self.new ≡ record self.old { course = Spent } }
+    {
+        self.course = Course::Spent;
     }
 
     // Whether the round handles no message.

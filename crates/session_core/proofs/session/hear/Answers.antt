@@ -6,8 +6,8 @@ use Rattle.session_core.proofs.Rounds.{heard_some, space_so, piece_so, arrival_s
 use Rattle.session_core.proofs.Streams.{fed}
 use Rattle.session_core.proofs.session.hear.Goals as goal
 
-pub returns-in-Arrived : goal.returns-in-Arrived
-returns-in-Arrived g c =
+pub returns-in-Arrived-clause-heard : goal.returns-in-Arrived-clause-heard
+returns-in-Arrived-clause-heard g c =
     let space = take c.min-room.result c.args.space.now in
     let filled = c.poll.new.into in
     let count = c.in-Arrived.count in
@@ -15,7 +15,7 @@ returns-in-Arrived g c =
     c.poll.ensures.within in
     heard_some _ _ _ _ _ _ (length space) (take count filled)
     (space_so c.args.feeder.now c.room.result c.min-room.result c.args.space.now
-    c.min-room.ensures c.room.ensures.room c.requires)
+    c.min-room.ensures c.room.ensures.room c.requires.space)
     (subst
     (λ (p : Poll).
     Tells (g.L.Link.calls c.args.link.now) (g.L.Link.calls c.poll.new.self)

@@ -4,5 +4,5 @@ use Rattle.session_core.proofs.session.Session.round.Goals as goal
 pub returns-clause-lists : goal.returns-clause-lists
 returns-clause-lists g c =
     goes_round c.args.site.now _ _ _ c.args.book.now c.step.new.book c.args.reading
-    c.args.self.now c.listen.new.self c.step.new.self c.speak.new.self c.listen.ensures
-    c.in_ok-step.ensures.lists c.in_ok-step.ensures.book c.speak.ensures.lists
+    c.args.self.now c.listen.new.self c.step.new.self c.speak.new.self c.listen.ensures.lists
+    c.listen.ensures.ended c.in_ok-step.ensures.lists c.speak.ensures.lists

@@ -1,0 +1,457 @@
+-- What a round's calls leave of what a session has come to.
+use Rattle.std.proofs.Common.{◌≡◌, ℕ, Bool, true, false, not, ◌&&◌, ◌||◌, if◌then◌else◌, Option}
+use Rattle.std.proofs.Common.{Some, None, List, [], Ok, Err, refl, sym, ap, subst, ◌∙◌, arith}
+use Rattle.std.specs.Prelude.{is_some, IsTrue}
+use Rattle.octet_core.specs.declared.offer.Offer.{Offer}
+use Rattle.octet_core.specs.declared.offer.Offer.TheVariants.{Whole, Stalled, Failed as Refused}
+use Rattle.isp1_tml.specs.Message.{heartbeat, spelling}
+use Rattle.isp1_tml.specs.Feeding.{next_of as next_held}
+use Rattle.link_model.specs.declared.call.Call.{Call}
+use Rattle.link_model.specs.declared.call.Heard.{Heard}
+use Rattle.link_model.specs.declared.call.Heard.TheVariants.{Arrived, Nothing, Closed, Failed}
+use Rattle.link_model.specs.Calls.{Tells}
+use Rattle.link_model.specs.Counts.{CountsWhere, offer_failed}
+use Rattle.station_config.specs.declared.site.Site.{Site}
+use Rattle.assoc_core.specs.declared.step.Step.{Step}
+use Rattle.assoc_core.specs.declared.step.Step.TheVariants.{Pass, Denied, Abort}
+use Rattle.cltu_queue.specs.declared.book_reply.BookReply.{BookReply}
+use Rattle.session_core.specs.declared.course.Course.{Course}
+use Rattle.session_core.specs.declared.course.Course.TheVariants.{Going, Closing as ClosingWith}
+use Rattle.session_core.specs.declared.course.Course.TheVariants.{Over, LinkFailed, Spent}
+use Rattle.session_core.specs.declared.ended.Ended.{Ended}
+use Rattle.session_core.specs.declared.ended.Ended.TheVariants.{PeerClosed, Range}
+use Rattle.session_core.specs.declared.standing.Standing.{Standing}
+use Rattle.session_core.specs.Numbers.{communications_failure, other_reason}
+use Rattle.session_core.specs.Course.{is_going, is_live, is_over, is_spent, is_blocked, has_closed}
+use Rattle.session_core.specs.Message.{Said, context, heartbeat as beat, bind, unbind, peer_abort}
+use Rattle.session_core.specs.Message.{undecoded, out_of_place, said_in, judged}
+use Rattle.session_core.specs.Handling.{ended_by, aborted, is_agreed, after_passing, concluded}
+use Rattle.session_core.specs.Handling.{is_lost, invoked, after_judged}
+use Rattle.session_core.specs.Steps.{Next, has_message, has_block, round_begun, waits, may_poll}
+use Rattle.session_core.specs.Steps.{after_wait, after_offer, at_moment, is_idle, with_next, acted}
+use Rattle.session_core.specs.Steps.{pulse_of, is_dead, is_due, timed, with_heartbeat, after_step}
+use Rattle.session_core.specs.Steps.{may_speak, may_poll_by, course_at_end, round_ended}
+use Rattle.session_core.specs.Session.{Told, offer_calls, poll_calls, standing_waited}
+use Rattle.session_core.specs.Session.{standing_heard, standing_spoke, spoken_of, is_fault}
+use Rattle.session_core.specs.Kept.{Kept, space_of, Waited, PolledOnce, Said as SaidOnce, kept_after}
+use Rattle.session_core.specs.Outcome.{come_to, has_failed, has_ended, is_still, FailsBy, Rests}
+use Rattle.session_core.specs.Outcome as kept
+use Rattle.session_core.proofs.Truths.{both_of, none_of}
+use Rattle.session_core.proofs.Ends.{IsStill, not_going}
+use Rattle.session_core.proofs.Rounds.{tells-tells, going_polls}
+use Rattle.session_core.proofs.Sound.{busy_going}
+
+-- ---- tests of courses
+
+-- a course of a session that goes on, closes or has ended
+abbrev is_plain : Course → Bool
+is_plain c = is_live c || is_over c
+
+-- a test that fails of each such course
+pub record Rare (P : Course → Bool) : Type 0 where
+  going : P Going ≡ false
+  closing : (end : Ended) → P (ClosingWith end) ≡ false
+  over : (end : Ended) → P (Over end) ≡ false
+
+abbrev pub faulty : Course → Bool
+faulty c = is_fault (spoken_of c)
+
+pub faulty_rare : Rare faulty
+faulty_rare = record { going = refl; closing = λ end. refl; over = λ end. refl }
+
+pub spent_rare : Rare is_spent
+spent_rare = record { going = refl; closing = λ end. refl; over = λ end. refl }
+
+plain_rare : (P : Course → Bool) → Rare P → (c : Course) → is_plain c ≡ true → P c ≡ false
+plain_rare P rare Going e = rare.going
+plain_rare P rare (ClosingWith end) e = rare.closing end
+plain_rare P rare (Over end) e = rare.over end
+plain_rare P rare LinkFailed e = absurd (cc)
+plain_rare P rare Spent e = absurd (cc)
+
+live_plain : (c : Course) → is_live c ≡ true → is_plain c ≡ true
+live_plain c e = ap (λ (live : Bool). live || is_over c) e
+
+pub live_rare : (P : Course → Bool) → Rare P → (c : Course) → is_live c ≡ true → P c ≡ false
+live_rare P rare c e = plain_rare P rare c (live_plain c e)
+
+-- a test that fails of a session with a link, and of one whose link has failed
+pub record Linkless (P : Course → Bool) : Type 0 where
+  live : (c : Course) → is_live c ≡ true → P c ≡ false
+  failing : P LinkFailed ≡ false
+
+pub spent_linkless : Linkless is_spent
+spent_linkless = record { live = live_rare is_spent spent_rare; failing = refl }
+
+over_live : (c : Course) → is_live c ≡ true → is_over c ≡ false
+over_live Going e = refl
+over_live (ClosingWith end) e = refl
+over_live (Over end) e = absurd (cc)
+over_live LinkFailed e = refl
+over_live Spent e = refl
+
+pub over_linkless : Linkless is_over
+over_linkless = record { live = over_live; failing = refl }
+
+pub going_live : (c : Course) → is_going c ≡ true → is_live c ≡ true
+going_live Going e = refl
+going_live (ClosingWith end) e = refl
+going_live (Over end) e = absurd (cc)
+going_live LinkFailed e = absurd (cc)
+going_live Spent e = absurd (cc)
+
+-- ---- the link's answers
+
+pub waited_keeps : (P : Course → Bool) → Linkless P → (s : Standing) (waited : Option Offer)
+    → is_some waited ≡ waits s → P (standing_waited (round_begun s) waited).course ≡ P s.course
+waited_keeps P h s None e = refl
+waited_keeps P h s (Some Whole) e = refl
+waited_keeps P h s (Some Stalled) e = refl
+waited_keeps P h s (Some Refused) e =
+    h.failing ∙ sym (h.live s.course (both_of (is_live s.course) (has_block s) e).first)
+
+pub heard_keeps : (P : Course → Bool) → Linkless P → (s : Standing) (heard : Option Heard)
+    (next : Next) → is_some heard ≡ may_poll s next
+    → P (standing_heard s heard).course ≡ P s.course
+heard_keeps P h s None next e = refl
+heard_keeps P h s (Some (Arrived octets)) next e = refl
+heard_keeps P h s (Some Nothing) next e = refl
+heard_keeps P h s (Some Closed) next e = refl
+heard_keeps P h s (Some Failed) next e =
+    h.failing ∙ sym (h.live s.course (going_live s.course (going_polls s next e)))
+
+-- a session that speaks has a link
+speaks_live : (s : Standing) → true ≡ may_speak s → is_live s.course ≡ true
+speaks_live s e =
+    (both_of (is_live s.course) (has_block s)
+    (sym (both_of (is_live s.course && has_block s) (not (is_blocked s.arrival)) e).first)).first
+
+pub spoke_keeps : (P : Course → Bool) → Linkless P → (s : Standing) (spoke : Option Offer)
+    → is_some spoke ≡ may_speak s → P (standing_spoke s spoke).course ≡ P s.course
+spoke_keeps P h s None e = refl
+spoke_keeps P h s (Some Whole) e = refl
+spoke_keeps P h s (Some Stalled) e = refl
+spoke_keeps P h s (Some Refused) e = h.failing ∙ sym (h.live s.course (speaks_live s e))
+
+pub end_keeps : (P : Course → Bool) → Rare P → (c : Course) (waits : Bool)
+    → P (course_at_end c waits) ≡ P c
+end_keeps P rare Going waits = refl
+end_keeps P rare (ClosingWith end) true = refl
+end_keeps P rare (ClosingWith end) false = rare.over end ∙ sym (rare.closing end)
+end_keeps P rare (Over end) waits = refl
+end_keeps P rare LinkFailed waits = refl
+end_keeps P rare Spent waits = refl
+
+-- ---- a step
+
+plain_if : (b : Bool) (s t : Standing) → is_plain s.course ≡ true → is_plain t.course ≡ true
+    → is_plain (if b then s else t).course ≡ true
+plain_if true s t h k = h
+plain_if false s t h k = k
+
+plain_passing : (site : Site) (s : Standing) (said : Said) (reply : BookReply)
+    → is_plain s.course ≡ true → is_plain (after_passing site s said reply).course ≡ true
+plain_passing site s (context interval factor) reply h =
+    plain_if (is_agreed site interval factor) _ (ended_by s (Range interval factor)) h refl
+plain_passing site s beat reply h = h
+plain_passing site s (bind b) reply h = h
+plain_passing site s (unbind u) reply h = refl
+plain_passing site s (peer_abort diagnostic) reply h = refl
+plain_passing site s undecoded reply h = h
+plain_passing site s out_of_place reply h = h
+
+plain_concluded : (site : Site) (s : Standing) (said : Said) (step : Step) (reply : BookReply)
+    → is_plain s.course ≡ true → is_plain (concluded site s said step reply).course ≡ true
+plain_concluded site s said Pass reply h = plain_passing site s said reply h
+plain_concluded site s said Denied reply h = refl
+plain_concluded site s said (Abort diagnostic) reply h = refl
+
+plain_judged : (site : Site) (s : Standing) (said : Said) (step : Step) (reply : BookReply)
+    → is_plain s.course ≡ true → is_plain (after_judged site s said step reply).course ≡ true
+plain_judged site s said step reply h =
+    plain_if (is_lost reply) (aborted s other_reason) (concluded site s said step reply) refl
+    (plain_concluded site s said step reply h)
+
+plain_next : (site : Site) (s : Standing) (next : Next) (reply : BookReply)
+    → is_plain s.course ≡ true → is_plain (with_next site s next reply).course ≡ true
+plain_next site s (Err fault) reply h = refl
+plain_next site s (Ok None) reply h =
+    plain_if (has_closed s.arrival) (ended_by s PeerClosed) s refl h
+plain_next site s (Ok (Some message)) reply h =
+    let said = said_in s.association message in
+    let step = judged site s.association said s.moment in
+    plain_judged site (invoked s said step) said step reply h
+
+keeps_if : (P : Course → Bool) (b : Bool) (s t : Standing) → (b ≡ false → P t.course ≡ P s.course)
+    → P (if b then s else t).course ≡ P s.course
+keeps_if P true s t h = refl
+keeps_if P false s t h = h refl
+
+acted_keeps : (P : Course → Bool) → Rare P → (site : Site) (s : Standing) (next : Next)
+    (reply : BookReply) → P (acted site s next reply).course ≡ P s.course
+acted_keeps P rare site s next reply =
+    keeps_if P (is_idle s) s (with_next site s next reply)
+    (λ busy.
+    let going = busy_going (is_blocked s.arrival) (is_going s.course) busy in
+    let plain = live_plain s.course (going_live s.course going) in
+    plain_rare P rare (with_next site s next reply).course (plain_next site s next reply plain)
+    ∙ sym (plain_rare P rare s.course plain))
+
+ends_if : (P : Course → Bool) → Rare P → (b : Bool) (s : Standing)
+    → (b ≡ true → is_live s.course ≡ true)
+    → P (if b then aborted s communications_failure else s).course ≡ P s.course
+ends_if P rare true s live = rare.over _ ∙ sym (live_rare P rare s.course (live refl))
+ends_if P rare false s live = refl
+
+timed_keeps : (P : Course → Bool) → Rare P → (s : Standing) → P (timed s).course ≡ P s.course
+timed_keeps P rare s =
+    ends_if P rare (is_live s.course && is_dead (pulse_of s) s.moment) s
+    (λ e. (both_of (is_live s.course) (is_dead (pulse_of s) s.moment) (sym e)).first)
+
+beats_if : (P : Course → Bool) (b : Bool) (s : Standing)
+    → P (if b then record s { block = spelling heartbeat } else s).course ≡ P s.course
+beats_if P true s = refl
+beats_if P false s = refl
+
+pub step_keeps : (P : Course → Bool) → Rare P → (site : Site) (s : Standing) (next : Next)
+    (now : ℕ) (reply : BookReply) → P (after_step site s next now reply).course ≡ P s.course
+step_keeps P rare site s next now reply =
+    let t = acted site (at_moment s now) next reply in
+    let u = timed t in
+    beats_if P ((is_live u.course && not (has_block u)) && is_due (pulse_of u) u.moment) u
+    ∙ timed_keeps P rare t
+    ∙ acted_keeps P rare site (at_moment s now) next reply
+
+pub told_keeps : (P : Course → Bool) → Rare P → (site : Site) (v : Kept) (told : Option Told)
+    → P (kept_after site v told).standing.course ≡ P v.standing.course
+told_keeps P rare site v None = refl
+told_keeps P rare site v (Some told) =
+    step_keeps P rare site v.standing _ told.moment told.answer.reply
+
+-- a session that has ended isn't spent
+pub over_unspent : (c : Course) → true ≡ is_over c → is_spent c ≡ false
+over_unspent (Over end) e = refl
+over_unspent Going e = refl
+over_unspent (ClosingWith end) e = refl
+over_unspent LinkFailed e = refl
+over_unspent Spent e = absurd (cc)
+
+-- ---- counts of faults
+
+pub uncounted : (b : Bool) (n : ℕ) → FailsBy b b n n
+uncounted true n = record {
+  counts = record {
+    never_falls = omega arith;
+    rose = λ e. absurd (cc);
+    raised = λ e. absurd (cc);
+    kept = λ e. refl;
+  };
+  stays = λ e. e;
+}
+uncounted false n = record {
+  counts = record {
+    never_falls = omega arith;
+    rose = λ e. absurd (cc);
+    raised = λ e. absurd (cc);
+    kept = λ e. refl;
+  };
+  stays = λ e. e;
+}
+
+-- a call that didn't fail
+pub quietly_counted : (b : Bool) (m n : ℕ) → CountsWhere false m n → FailsBy b b m n
+quietly_counted b m n h = subst (λ (i : ℕ). FailsBy b b m i) (sym (h.kept refl)) (uncounted b m)
+
+-- a call that was made while the link hadn't failed
+pub counted_by : (was is fails : Bool) (m n : ℕ) → was ≡ false → is ≡ fails
+    → CountsWhere fails m n → FailsBy was is m n
+counted_by true is fails m n e same h = absurd (cc)
+counted_by false true true m n e same h = record { counts = h; stays = λ e. absurd (cc) }
+counted_by false false false m n e same h = record { counts = h; stays = λ e. absurd (cc) }
+counted_by false true false m n e same h = absurd (cc)
+counted_by false false true m n e same h = absurd (cc)
+
+-- one call behind another
+pub both_count : (x y z : Bool) (l m n : ℕ) → FailsBy x y l m → FailsBy y z m n → FailsBy x z l n
+both_count true true true l m n h k =
+    subst (λ (i : ℕ). FailsBy true true l i) (sym (k.counts.kept refl)) h
+both_count false true true l m n h k =
+    subst (λ (i : ℕ). FailsBy false true l i) (sym (k.counts.kept refl)) h
+both_count false false true l m n h k =
+    subst (λ (i : ℕ). FailsBy false true i n) (h.counts.kept refl) k
+both_count false false false l m n h k =
+    subst (λ (i : ℕ). FailsBy false false i n) (h.counts.kept refl) k
+both_count true false z l m n h k = let wrong : false ≡ true = h.stays refl in absurd (cc)
+both_count true true false l m n h k = let wrong : false ≡ true = k.stays refl in absurd (cc)
+both_count false true false l m n h k = let wrong : false ≡ true = k.stays refl in absurd (cc)
+
+wait_fails : (s : Standing) (said : Offer) → faulty s.course ≡ false
+    → faulty (after_wait (round_begun s) said).course ≡ offer_failed said
+wait_fails s Whole e = e
+wait_fails s Stalled e = e
+wait_fails s Refused e = refl
+
+pub wait_counts : (s began after : Standing) (said : Offer) (m n : ℕ) → true ≡ waits s
+    → began ≡ round_begun s → after ≡ after_wait began said → CountsWhere (offer_failed said) m n
+    → FailsBy (faulty s.course) (faulty after.course) m n
+wait_counts s began after said m n may begun_so is =
+    let live = (both_of (is_live s.course) (has_block s) may).first in
+    let was = live_rare faulty faulty_rare s.course live in
+    counted_by (faulty s.course) (faulty after.course) (offer_failed said) m n was
+    (ap (λ (t : Standing). faulty t.course) is
+    ∙ ap (λ (t : Standing). faulty (after_wait t said).course) begun_so
+    ∙ wait_fails s said was)
+
+offer_fails : (s : Standing) (said : Offer) → faulty s.course ≡ false
+    → faulty (after_offer s said).course ≡ offer_failed said
+offer_fails s Whole e = e
+offer_fails s Stalled e = e
+offer_fails s Refused e = refl
+
+pub offer_counts : (s after : Standing) (said : Offer) (m n : ℕ) → true ≡ may_speak s
+    → after ≡ after_offer s said → CountsWhere (offer_failed said) m n
+    → FailsBy (faulty s.course) (faulty after.course) m n
+offer_counts s after said m n may is =
+    let was = live_rare faulty faulty_rare s.course (speaks_live s may) in
+    counted_by (faulty s.course) (faulty after.course) (offer_failed said) m n was
+    (ap (λ (t : Standing). faulty t.course) is ∙ offer_fails s said was)
+
+pub going_unfailed : (c : Course) → is_going c ≡ true → faulty c ≡ false
+going_unfailed c e = live_rare faulty faulty_rare c (going_live c e)
+
+-- a session that may poll goes on
+pub polls_going : (s : Standing) (is_held : Bool) → true ≡ may_poll_by s is_held
+    → is_going s.course ≡ true
+polls_going s is_held e =
+    let free = both_of (is_going s.course && not (is_blocked s.arrival)) (not is_held) e in
+    (both_of (is_going s.course) (not (is_blocked s.arrival)) (sym free.first)).first
+
+-- ---- a session that is still
+
+still_by : (c : Course) → not (is_live c) ≡ true → IsStill c
+still_by Going e = absurd (cc)
+still_by (ClosingWith end) e = absurd (cc)
+still_by (Over end) e = refl
+still_by LinkFailed e = refl
+still_by Spent e = refl
+
+-- what a listen leaves of a session that is still: no call, and what it has come to
+record Stays (before after : Option (List Call)) (c d : Course) : Type 0 where
+  told : Tells before after []
+  same : d ≡ c
+
+still_waits : (a b : Option (List Call)) (old new : Kept) → Waited a b old new
+    → IsStill old.standing.course → Stays a b old.standing.course new.standing.course
+still_waits a b old new w still =
+    let none : w.waited ≡ None =
+    none_of w.waited
+    (w.offers ∙ ap (λ (live : Bool). live && has_block old.standing) still) in
+    record {
+      told = subst (λ (x : Option Offer). Tells a b (offer_calls old.standing x)) none w.told;
+      same =
+          ap (λ (v : Kept). v.standing.course) w.new_is
+          ∙ ap
+          (λ (x : Option Offer). (standing_waited (round_begun old.standing) x).course)
+          none;
+    }
+
+still_polls : (a b : Option (List Call)) (old new : Kept) → PolledOnce a b old new
+    → IsStill old.standing.course → Stays a b old.standing.course new.standing.course
+still_polls a b old new p still =
+    let s = old.standing in
+    let none : p.heard ≡ None =
+    none_of p.heard
+    (p.polls
+    ∙ ap
+    (λ (going : Bool).
+    (going && not (is_blocked s.arrival)) && not (has_message (next_held old.feeder)))
+    (not_going s.course still)) in
+    record {
+      told =
+          subst (λ (x : Option Heard). Tells a b (poll_calls (space_of old.feeder) x)) none
+          p.told;
+      same =
+          ap (λ (t : Standing). t.course) p.standing
+          ∙ ap (λ (x : Option Heard). (standing_heard s x).course) none;
+    }
+
+stays_both : (a b c : Option (List Call)) (x y z : Course) → Stays a b x y → (IsStill y → Stays b c y z)
+    → IsStill x → Stays a c x z
+stays_both a b c x y z h k still =
+    let later = k (ap is_live h.same ∙ still) in
+    record { told = tells-tells a b c [] [] h.told later.told; same = later.same ∙ h.same }
+
+pub listened_keeps : (P : Course → Bool) → Linkless P → (a b c : Option (List Call))
+    (old between new : Kept) → Waited a b old between → PolledOnce b c between new
+    → P new.standing.course ≡ P old.standing.course
+listened_keeps P h a b c old between new w p =
+    ap (λ (t : Standing). P t.course) p.standing
+    ∙ heard_keeps P h between.standing p.heard (next_held between.feeder) p.polls
+    ∙ ap (λ (v : Kept). P v.standing.course) w.new_is
+    ∙ waited_keeps P h old.standing w.waited w.offers
+
+pub rests_listened : (a b c : Option (List Call)) (old between new : Kept)
+    → Waited a b old between → PolledOnce b c between new → Rests a c old new
+rests_listened a b c old between new w p =
+    let stays : is_still old ≡ true → Stays a c old.standing.course new.standing.course =
+    λ e.
+    let still = still_by old.standing.course e in
+    stays_both a b c old.standing.course between.standing.course new.standing.course
+    (still_waits a b old between w still) (still_polls b c between new p) still in
+    record {
+      silent = λ e. (stays e).told;
+      same = λ e. ap spoken_of (stays e).same;
+      spent = listened_keeps is_spent spent_linkless a b c old between new w p;
+    }
+
+-- ---- speak
+
+still_end : (c : Course) (waits : Bool) → IsStill c → course_at_end c waits ≡ c
+still_end Going waits e = absurd (cc)
+still_end (ClosingWith end) waits e = absurd (cc)
+still_end (Over end) waits e = refl
+still_end LinkFailed waits e = refl
+still_end Spent waits e = refl
+
+still_says : (a b : Option (List Call)) (old mid new : Kept) → SaidOnce a b old mid
+    → new ≡ record mid { standing = round_ended mid.standing } → IsStill old.standing.course
+    → Stays a b old.standing.course new.standing.course
+still_says a b old mid new w is still =
+    let s = old.standing in
+    let none : w.spoke ≡ None =
+    none_of w.spoke
+    (w.offers
+    ∙ ap (λ (live : Bool). (live && has_block s) && not (is_blocked s.arrival)) still) in
+    record {
+      told = subst (λ (x : Option Offer). Tells a b (offer_calls s x)) none w.told;
+      same =
+          ap (λ (v : Kept). v.standing.course) is
+          ∙ ap (λ (v : Kept). (round_ended v.standing).course) w.new_is
+          ∙ ap (λ (x : Option Offer). (round_ended (standing_spoke s x)).course) none
+          ∙ still_end s.course (has_block s) still;
+    }
+
+pub rests_spoken : (a b : Option (List Call)) (old mid new : Kept) → SaidOnce a b old mid
+    → new ≡ record mid { standing = round_ended mid.standing } → Rests a b old new
+rests_spoken a b old mid new w is =
+    let stays : is_still old ≡ true → Stays a b old.standing.course new.standing.course =
+    λ e. still_says a b old mid new w is (still_by old.standing.course e) in
+    record {
+      silent = λ e. (stays e).told;
+      same = λ e. ap spoken_of (stays e).same;
+      spent =
+          ap (λ (v : Kept). kept.is_spent v) is
+          ∙ end_keeps is_spent spent_rare mid.standing.course (has_block mid.standing)
+          ∙ ap (λ (v : Kept). kept.is_spent v) w.new_is
+          ∙ spoke_keeps is_spent spent_linkless old.standing w.spoke w.offers;
+    }
+
+pub end_counts : (mid new : Kept) (was : Bool) (m n : ℕ)
+    → new ≡ record mid { standing = round_ended mid.standing } → FailsBy was (has_failed mid) m n
+    → FailsBy was (has_failed new) m n
+end_counts mid new was m n is h =
+    subst (λ (b : Bool). FailsBy was b m n)
+    (sym
+    (ap (λ (v : Kept). has_failed v) is
+    ∙ end_keeps faulty faulty_rare mid.standing.course (has_block mid.standing)))
+    h

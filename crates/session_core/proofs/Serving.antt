@@ -1,0 +1,143 @@
+-- Rounds from a session's beginning, over whole lists.
+use Rattle.std.proofs.Common.{◌≡◌, ℕ, Bool, false, if◌then◌else◌, List, [], ◌∷◌, ◌++◌, length, take}
+use Rattle.std.proofs.Common.{Option, refl, sym, ap, subst, ◌∙◌}
+use Rattle.std.proofs.lemmas.List.{append-nil}
+use Rattle.std.proofs.lemmas.List.Elements.{filter_map-append}
+use Rattle.link_model.specs.declared.call.Call.{Call}
+use Rattle.link_model.specs.Calls.{Tells}
+use Rattle.station_book.specs.State.{Event}
+use Rattle.station_book.specs.State as book
+use Rattle.station_book.specs.History.{IsLegal, then_after, replay, reading_of}
+use Rattle.session_core.specs.declared.course.Course.{Course}
+use Rattle.session_core.specs.declared.course.Course.TheVariants as course
+use Rattle.session_core.specs.declared.spoken.Spoken.{Spoken}
+use Rattle.session_core.specs.declared.spoken.Spoken.TheVariants.{Going}
+use Rattle.session_core.specs.declared.standing.Standing.{Standing}
+use Rattle.session_core.specs.Course.{is_over}
+use Rattle.session_core.specs.Session.{session_calls, session_events, session_end, spoken_of}
+use Rattle.session_core.specs.Kept.{Kept}
+use Rattle.session_core.specs.Outcome.{come_to, has_ended}
+use Rattle.session_core.specs.Lists.{Began, start_of, StandsAt, to_listen, Part, none_made}
+use Rattle.session_core.specs.Lists.{made_listen, made_step, stage_of, readings_in, GoesRound}
+use Rattle.session_core.specs.Serving.{Serves}
+use Rattle.session_core.specs.Laws.{EndsAsItStands}
+use Rattle.session_core.proofs.Listed.{At, at_of}
+use Rattle.session_core.proofs.Rounds.{tells-nil, tells-tells}
+
+-- ---- histories
+
+replay_both : (s : book.State) (h k : List Event) → replay s (h ++ k) ≡ replay (replay s h) k
+replay_both s [] k = refl
+replay_both s (e ∷ h) k = replay_both (then_after s e) h k
+
+legal_both : (s : book.State) (h k : List Event) → IsLegal s h → IsLegal (replay s h) k
+    → IsLegal s (h ++ k)
+legal_both s [] k is more = more
+legal_both s (e ∷ h) k is more = (is.0, legal_both (then_after s e) h k is.1 more)
+
+-- ---- the end of rounds
+
+end_at : (part : Part) → stage_of part ≡ to_listen → (b : Began) (v : Kept) (calls : List Call)
+    (events : List Event) (h : At part b v calls events)
+    → come_to v ≡ session_end b.site (start_of b) h.rounds
+end_at none_made e b v calls events h =
+    ap (λ (s : Standing). spoken_of s.course) h.shows.standing
+end_at (made_listen waited heard) e b v calls events h = absurd (cc)
+end_at (made_step waited heard told) e b v calls events h = absurd (cc)
+
+pub ends_as_it_stands : EndsAsItStands
+ends_as_it_stands b v calls events h =
+    end_at h.part h.stage_is b v calls events (at_of to_listen b v calls events h)
+
+-- ---- rounds so far
+
+-- from a session's beginning, rounds at these readings made calls of a link and events of a book,
+-- and the session, which goes on, stands for them
+pub record Lasts (b : Began) (before after : Option (List Call)) (book_before
+    book_after : book.State) (readings : List ℕ) (v : Kept) : Type 0 where
+  pub calls : List Call
+  pub events : List Event
+  pub told : Tells before after calls
+  pub legal : IsLegal book_before events
+  pub book_is : book_after ≡ replay book_before events
+  pub reads : readings_in events ≡ readings
+  pub stands : StandsAt to_listen b v calls events
+
+pub lasts_first : (b : Began) (before : Option (List Call)) (bk : book.State) (v : Kept)
+    → StandsAt to_listen b v [] [] → Lasts b before before bk bk [] v
+lasts_first b before bk v stands = record {
+  calls = [];
+  events = [];
+  told = tells-nil before;
+  legal = tt;
+  book_is = refl;
+  reads = refl;
+  stands = stands;
+}
+
+going_on : (c : Course) → spoken_of c ≡ Going → is_over c ≡ false
+going_on course.Going e = refl
+going_on (course.Closing end) e = refl
+going_on (course.Over end) e = absurd (cc)
+going_on course.LinkFailed e = refl
+going_on course.Spent e = refl
+
+-- one round more
+pub lasts_on : (b : Began) (a c d : Option (List Call)) (bk mid now : book.State)
+    (readings : List ℕ) (reading : ℕ) (v w : Kept) → Lasts b a c bk mid readings v
+    → come_to v ≡ Going → GoesRound b.site reading c d mid now v w
+    → Lasts b a d bk now (readings ++ reading ∷ []) w
+lasts_on b a c d bk mid now readings reading v w h came r = record {
+  calls = h.calls ++ r.own;
+  events = h.events ++ r.gained;
+  told = tells-tells a c d h.calls r.own h.told r.told;
+  legal =
+      legal_both bk h.events r.gained h.legal
+      (subst (λ (s : book.State). IsLegal s r.gained) h.book_is r.legal);
+  book_is =
+      r.book_is
+      ∙ ap (λ (s : book.State). replay s r.gained) h.book_is
+      ∙ sym (replay_both bk h.events r.gained);
+  reads =
+      filter_map-append (λ (e : Event). reading_of e.call) h.events r.gained
+      ∙ ap (λ (x : List ℕ). x ++ readings_in r.gained) h.reads
+      ∙ ap (λ (x : List ℕ). readings ++ x)
+      (r.reads
+      ∙ ap (λ (over : Bool). if over then [] else reading ∷ [])
+      (going_on v.standing.course came));
+  stands = r.stands b h.calls h.events refl h.stands;
+}
+
+-- ---- rounds at an end
+
+serves_at : (part : Part) → stage_of part ≡ to_listen → (b : Began)
+    (a d : Option (List Call)) (bk now : book.State) (readings : List ℕ) (made : ℕ) (end : Spoken)
+    (v : Kept) (h : Lasts b a d bk now (take made readings) v) → At part b v h.calls h.events
+    → end ≡ come_to v → (end ≡ Going → made ≡ length readings)
+    → Serves b a d bk now readings end
+serves_at none_made e b a d bk now readings made end v h at ends all =
+    let calls_are = at.calls_are ∙ append-nil (session_calls b.site (start_of b) at.rounds) in
+    let events_are =
+    at.events_are ∙ append-nil (session_events b.site b.door (start_of b) at.rounds) in
+    record {
+      rounds = at.rounds;
+      right = at.right;
+      told = subst (λ (x : List Call). Tells a d x) calls_are h.told;
+      legal = subst (λ (x : List Event). IsLegal bk x) events_are h.legal;
+      book_is = h.book_is ∙ ap (λ (x : List Event). replay bk x) events_are;
+      ends = ends ∙ end_at none_made e b v h.calls h.events at;
+      made = made;
+      reads = ap readings_in (sym events_are) ∙ h.reads;
+      all = all;
+    }
+serves_at (made_listen waited heard) e b a d bk now readings made end v h at ends all = absurd (cc)
+serves_at (made_step waited heard told) e b a d bk now readings made end v h at ends all =
+    absurd (cc)
+
+pub serves_by : (b : Began) (a d : Option (List Call)) (bk now : book.State)
+    (readings : List ℕ) (made : ℕ) (end : Spoken) (v : Kept)
+    → Lasts b a d bk now (take made readings) v → end ≡ come_to v
+    → (end ≡ Going → made ≡ length readings) → Serves b a d bk now readings end
+serves_by b a d bk now readings made end v h =
+    serves_at h.stands.part h.stands.stage_is b a d bk now readings made end v h
+    (at_of to_listen b v h.calls h.events h.stands)

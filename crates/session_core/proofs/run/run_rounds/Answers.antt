@@ -1,0 +1,74 @@
+use Rattle.std.proofs.Common.{◌≡◌, ◌+◌, ◌∙◌, ℕ, List, false, refl, sym, subst, take, arith}
+use Rattle.std.proofs.lemmas.List.{take_more}
+use Rattle.link_model.specs.Counts.{CountsWhere}
+use Rattle.session_core.specs.declared.spoken.Spoken.{Spoken}
+use Rattle.session_core.specs.Session.{is_fault}
+use Rattle.session_core.specs.Outcome.{FailsBy}
+use Rattle.session_core.specs.Serving.{began_of}
+use Rattle.session_core.proofs.Fates.{uncounted, both_count}
+use Rattle.session_core.proofs.Serving.{Lasts, lasts_first, lasts_on, serves_by}
+use Rattle.session_core.proofs.run.run_rounds.Goals as goal
+
+pub loop-reading-init : goal.loop-reading-init
+loop-reading-init g c = record {
+  lasts = lasts_first _ _ _ _ (c.in_ok-session.ensures.lists (began_of c.args.start) refl refl refl);
+  going = c.in_ok-session.ensures.going;
+  faults =
+      subst
+      (λ (s : Spoken).
+      FailsBy false (is_fault s) (g.L.Link.faults c.args.link.now)
+      (g.L.Link.faults c.args.link.now))
+      (sym c.in_ok-session.ensures.going)
+      (uncounted false (g.L.Link.faults c.args.link.now));
+}
+
+pub loop-reading-preserved : goal.loop-reading-preserved
+loop-reading-preserved g c = record {
+  lasts =
+      subst
+      (λ (xs : List ℕ).
+      Lasts (began_of c.args.start) (g.L.Link.calls c.args.link.now)
+      (g.L.Link.calls c.round.new.link) c.args.book.now c.round.new.book xs c.round.new.self)
+      (sym (take_more c.args.readings.now c.loop-reading.reading-index 0 (omega arith)))
+      (lasts_on (began_of c.args.start) _ _ _ _ _ _ _ _ _ _ c.loop-reading.invariant.lasts
+      c.loop-reading.invariant.going c.in_ok-end.ensures.lists);
+  going = sym c.in_ok-end.ensures.outcome ∙ c.in-Going.is;
+  faults = both_count _ _ _ _ _ _ c.loop-reading.invariant.faults c.in_ok-end.ensures.faults;
+}
+
+pub returns-in_default-clause-session : goal.returns-in_default-clause-session
+returns-in_default-clause-session g c =
+    serves_by (began_of c.args.start) _ _ _ _ c.args.readings.now
+    (c.loop-reading.reading-index + 1) _ c.round.new.self
+    (subst
+    (λ (xs : List ℕ).
+    Lasts (began_of c.args.start) (g.L.Link.calls c.args.link.now)
+    (g.L.Link.calls c.round.new.link) c.args.book.now c.round.new.book xs c.round.new.self)
+    (sym (take_more c.args.readings.now c.loop-reading.reading-index 0 (omega arith)))
+    (lasts_on (began_of c.args.start) _ _ _ _ _ _ _ _ _ _ c.loop-reading.invariant.lasts
+    c.loop-reading.invariant.going c.in_ok-end.ensures.lists))
+    c.in_ok-end.ensures.outcome
+    (λ going. absurd (c.in_default.not-Going going))
+
+pub returns-in_default-clause-faults : goal.returns-in_default-clause-faults
+returns-in_default-clause-faults g c =
+    let h = both_count _ _ _ _ _ _ c.loop-reading.invariant.faults c.in_ok-end.ensures.faults in
+    subst
+    (λ (s : Spoken).
+    CountsWhere (is_fault s) (g.L.Link.faults c.args.link.now)
+    (g.L.Link.faults c.round.new.link))
+    (sym c.in_ok-end.ensures.outcome) h.counts
+
+pub returns-clause-session : goal.returns-clause-session
+returns-clause-session g c =
+    serves_by (began_of c.args.start) _ _ _ _ c.args.readings.now c.loop-reading.reading-index _
+    c.loop-reading.session c.loop-reading.invariant.lasts
+    (sym c.loop-reading.invariant.going) (λ going. omega arith)
+
+pub returns-clause-faults : goal.returns-clause-faults
+returns-clause-faults g c =
+    subst
+    (λ (s : Spoken).
+    CountsWhere (is_fault s) (g.L.Link.faults c.args.link.now)
+    (g.L.Link.faults c.loop-reading.link))
+    c.loop-reading.invariant.going c.loop-reading.invariant.faults.counts

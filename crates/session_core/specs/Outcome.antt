@@ -1,0 +1,51 @@
+-- What a session has come to, and what its calls leave of that. This product's own rule.
+use Rattle.std.specs.Prelude.{◌≡◌, ℕ, Bool, not, ◌&&◌, IsTrue, Option, List, [], Result, OnErr}
+use Rattle.std.specs.Prelude.{is_err, IsErr}
+use Rattle.link_model.specs.declared.call.Call.{Call}
+use Rattle.link_model.specs.Calls.{Tells}
+use Rattle.link_model.specs.Counts.{CountsWhere}
+use Rattle.station_book.specs.State as book
+use Rattle.session_core.specs.declared.spoken.Spoken.{Spoken}
+use Rattle.session_core.specs.Course as course
+use Rattle.session_core.specs.Session.{spoken_of, is_fault}
+use Rattle.session_core.specs.Kept.{Kept}
+
+-- what its latest round came to
+abbrev pub come_to : Kept → Spoken
+come_to v = spoken_of v.standing.course
+
+abbrev pub has_ended : Kept → Bool
+has_ended v = course.is_over v.standing.course
+
+-- a poll or an offer of it failed
+abbrev pub has_failed : Kept → Bool
+has_failed v = is_fault (come_to v)
+
+-- a step of it wanted memory
+abbrev pub is_spent : Kept → Bool
+is_spent v = course.is_spent v.standing.course
+
+-- it has ended, its link has failed, or it is spent
+abbrev pub is_still : Kept → Bool
+is_still v = not (course.is_live v.standing.course)
+
+-- A call found the link failed or not, and left it failed or not. The link's count of faults went
+-- up by one exactly where the link failed in this call, and one that has failed stays so.
+pub record FailsBy (was is : Bool) (before now : ℕ) : Type 0 where
+  pub counts : CountsWhere (not was && is) before now
+  pub stays : IsTrue was → IsTrue is
+
+-- A session that is still doesn't call its link, and comes to nothing else. Whether a session is
+-- spent doesn't change.
+pub record Rests (before after : Option (List Call)) (old new : Kept) : Type 0 where
+  pub silent : IsTrue (is_still old) → Tells before after []
+  pub same : IsTrue (is_still old) → come_to new ≡ come_to old
+  pub spent : is_spent new ≡ is_spent old
+
+-- A call is refused for want of memory alone, which leaves the book as it was. It is refused exactly
+-- where the session is spent behind it, and where it was spent before.
+pub record Spends {T E : Type 0} (result : Result T E) (book_before book_after : book.State)
+    (old new : Kept) : Type 0 where
+  pub left : OnErr result (book_after ≡ book_before)
+  pub spent : is_spent new ≡ is_err result
+  pub repeats : IsTrue (is_spent old) → IsErr result
