@@ -2,5 +2,4 @@ pub mod Behind
 pub mod Pass
 pub mod Turns
 pub mod Messages
-pub mod Steps
 pub mod Held

@@ -6,9 +6,8 @@ use Rattle.archive_terms.specs.Archive.{Entry, is_closed}
 use Rattle.archive_terms.specs.Selection.{Selection, by_quality, picked}
 use Rattle.archive_terms.specs.Delivery.{Item, Terms, offline, selection_of, offline_buffers}
 use Rattle.archive_terms.specs.Continuity.{told_buffers}
-use Rattle.drill_text.specs.Transcript.{refused}
 use Rattle.station_law.specs.State.{State, moment}
-use Rattle.station_law.specs.Said.{Told, told, begun, handed, Said, Handed}
+use Rattle.station_law.specs.Said.{Told, told, refused, begun, handed, Said, Handed}
 use Rattle.station_law.specs.Answer.{Answer, says}
 
 abbrev pub selection : Cds → Cds → ℕ → Selection
@@ -46,5 +45,5 @@ handed_at_start entries start stop quality = record {
 -- what a START answers: one whose stop time lies before its start time is refused
 abbrev pub desk : State → Cds → Cds → ℕ → Answer
 desk state start stop quality =
-    says (if nat_lt (moment stop) (moment start) then told (refused, tt) ∷ []
+    says (if nat_lt (moment stop) (moment start) then told refused ∷ []
     else said_at_start state.published start stop quality) state

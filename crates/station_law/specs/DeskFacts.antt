@@ -3,6 +3,7 @@ use Rattle.std.proofs.Common.{◌≡◌, ℕ, ◌≤◌, Bool, true, false, nat_
 use Rattle.std.proofs.Common.{List, [], ◌∷◌, ◌++◌, length, map, take, refl, sym, ap, ◌∙◌}
 use Rattle.std.proofs.Common.{append_assoc, Option, arith}
 use Rattle.std.proofs.lemmas.List.{append-nil}
+use Rattle.std.proofs.lemmas.List.Sums.{sum_by-cons}
 use Rattle.std.specs.List.{flat_map}
 use Rattle.cds_time.specs.declared.cds.Cds.{Cds}
 use Rattle.archive_terms.specs.Archive.{Entry, IsArchive, is_closed}
@@ -10,9 +11,9 @@ use Rattle.archive_terms.specs.Selection.{Selection, picked}
 use Rattle.archive_terms.specs.Delivery.{Item, Terms, all_items, offline_buffers}
 use Rattle.archive_terms.specs.Rounds.{to_hand_over}
 use Rattle.archive_terms.specs.Continuity.{told_items, told_buffers, last_frame}
-use Rattle.drill_text.specs.Transcript.{refused}
 use Rattle.station_law.specs.State.{State, moment}
-use Rattle.station_law.specs.Said.{Told, Handed, told, handed, handed_by}
+use Rattle.station_law.specs.Said.{Told, Handed, told, refused, handed, handed_by}
+use Rattle.station_law.specs.Said.{begun, buffers_handed, told_once, buffers_told}
 use Rattle.station_law.specs.Answer.{says}
 use Rattle.station_law.specs.Sound.{IsSound, IsRight, items_of, Keeps}
 use Rattle.station_law.specs.EntriesFacts.{leaves_all}
@@ -58,6 +59,14 @@ hands_more t some (one ∷ more) earlier =
     ∙ ap (λ bs. record { connection = 0; terms = t; buffers = bs } ∷ earlier)
     (append_assoc some (one ∷ []) more)
 
+-- each buffer is told
+count_told : (buffers : List Told) → buffers_told (map (handed 0) buffers) ≡ length buffers
+count_told [] = refl
+count_told (buffer ∷ buffers) =
+    let sum = sum_by-cons told_once (handed 0 buffer) (map (handed 0) buffers) in
+    let rest = count_told buffers in
+    omega (arith, sum, rest)
+
 not_before : (a b : ℕ) → a ≤ b → nat_lt b a ≡ false
 not_before a b le = grind arith
 
@@ -89,16 +98,25 @@ module _ (laws : Delivers) (state : State) (start stop : Cds) (quality : ℕ) wh
   }
 
   by_case : (back : Bool) → IsSound state
-      → Keeps state (says (if back then told (refused, tt) ∷ []
+      → Keeps state (says (if back then told refused ∷ []
       else said_at_start state.published start stop quality) state)
   unfolding began
-  by_case true sound = leaves_all state state _ (told (refused, tt) ∷ []) refl refl (λ starts. refl)
+  by_case true sound = leaves_all state state _ (told refused ∷ []) refl refl (λ starts. refl) refl
       sound
   by_case false sound = record {
     sound = record { archive = sound.archive; settled = sound.settled };
     moves = sym (append-nil state.published);
     right = λ starts all. rw (hands_more (terms start stop quality) []
         (told_desk state.published start stop quality) starts) (right, all);
+    whole = λ starts.
+        let buffers = told_desk state.published start stop quality in
+        let count = count_told buffers in
+        let handed_are = ap buffers_handed (hands_more (terms start stop quality) [] buffers
+        starts) in
+        let sum = sum_by-cons (λ (one : Handed). length one.buffers) began starts in
+        let said = sum_by-cons told_once (begun 0 (terms start stop quality))
+        (map (handed 0) buffers) in
+        handed_are ∙ omega (arith, count, sum, said);
   }
 
   pub facts : IsSound state → Keeps state (desk state start stop quality)

@@ -5,14 +5,12 @@ use Rattle.std.specs.Prelude.{Option, Some, None, List, [], ◌∷◌, ◌++◌,
 use Rattle.std.specs.List.{sum_by}
 use Rattle.archive_terms.specs.Archive.{Entry, keeps_order, is_short}
 use Rattle.record_form.specs.Spelling.{entry_octets}
-use Rattle.words.specs.Table.{Says}
-use Rattle.drill_text.specs.Transcript.{transcript, backward, too, full}
 use Rattle.station_law.specs.declared.refusal.Refusal.{Refusal}
 use Rattle.station_law.specs.declared.refusal.Refusal.TheVariants as refusals
 use Rattle.station_law.specs.declared.step_done.StepDone.{StepDone}
 use Rattle.station_law.specs.declared.step_done.StepDone.TheVariants.{Fine, Full}
 use Rattle.station_law.specs.State.{State}
-use Rattle.station_law.specs.Said.{told}
+use Rattle.station_law.specs.Said.{told, Notice, backward, too_long, full}
 use Rattle.station_law.specs.Answer.{Answer, ends}
 
 -- how many octets of the file an entry wants as a batch of its own: its own, and 7
@@ -39,10 +37,10 @@ refusal state entry =
     else None
 
 -- the line of a refusal, and how the entry's line ends
-abbrev pub line_of : Refusal → Says transcript
-line_of refusals.Backward = (backward, tt)
-line_of refusals.TooLong = (too, tt)
-line_of (refusals.Full wanted left) = (full, (wanted, left))
+abbrev pub notice_of : Refusal → Notice
+notice_of refusals.Backward = backward
+notice_of refusals.TooLong = too_long
+notice_of (refusals.Full wanted left) = full wanted left
 
 abbrev pub done_of : Refusal → StepDone
 done_of (refusals.Full wanted left) = Full
@@ -60,7 +58,7 @@ stores state entry = record {
 
 abbrev pub by_refusal : State → Entry → Option Refusal → Answer
 by_refusal state entry None = stores state entry
-by_refusal state entry (Some why) = ends (done_of why) (told (line_of why) ∷ []) state
+by_refusal state entry (Some why) = ends (done_of why) (told (notice_of why) ∷ []) state
 
 -- what the line of an entry answers
 abbrev pub offer : State → Entry → Answer

@@ -1,6 +1,6 @@
 -- The facts of an entry's line.
 use Rattle.std.proofs.Common.{◌≡◌, Bool, true, false, ◌&&◌, not, if◌then◌else◌, Some, None}
-use Rattle.std.proofs.Common.{IsTrue, List, [], ◌∷◌, ◌++◌, refl, sym, ◌∙◌, arith}
+use Rattle.std.proofs.Common.{IsTrue, List, [], ◌∷◌, ◌++◌, ◌+◌, refl, sym, ap, ◌∙◌, arith}
 use Rattle.std.proofs.lemmas.List.{append-nil}
 use Rattle.archive_terms.specs.Archive.{Entry, is_archive, IsArchive, is_valid, is_short}
 use Rattle.archive_terms.specs.Archive.{keeps_order, may_follow}
@@ -8,11 +8,11 @@ use Rattle.station_law.specs.declared.step_done.StepDone.{StepDone}
 use Rattle.station_law.specs.declared.refusal.Refusal.{Refusal}
 use Rattle.station_law.specs.declared.refusal.Refusal.TheVariants as refusals
 use Rattle.station_law.specs.State.{State}
-use Rattle.station_law.specs.Said.{Said, Handed, handed_by, told}
+use Rattle.station_law.specs.Said.{Said, Handed, handed_by, told, buffers_handed, buffers_told}
 use Rattle.station_law.specs.Answer.{ends}
 use Rattle.station_law.specs.Sound.{IsSound, Keeps}
 use Rattle.station_law.specs.Once.{are_right_later}
-use Rattle.station_law.specs.Entries.{need, free, line_of, done_of, by_refusal, offer}
+use Rattle.station_law.specs.Entries.{need, free, notice_of, done_of, by_refusal, offer}
 
 -- an archive grows by an entry that may follow it
 abbrev pub Grows : Type 0
@@ -21,12 +21,16 @@ Grows = (a : List Entry) (e : Entry) → is_archive (a ++ e ∷ []) ≡ (is_arch
 -- a line that hands nothing over and changes nothing that is published
 pub leaves_all : (before next : State) (done : StepDone) (said : List Said)
     → next.published ≡ before.published → next.unsettled ≡ before.unsettled
-    → ((starts : List Handed) → handed_by starts said ≡ starts)
+    → ((starts : List Handed) → handed_by starts said ≡ starts) → buffers_told said ≡ 0
     → IsSound before → Keeps before (ends done said next)
-leaves_all before next done said same settled hands sound = record {
+leaves_all before next done said same settled hands none sound = record {
   sound = record { archive = rw same sound.archive; settled = settled ∙ sound.settled };
   moves = same ∙ sym (append-nil before.published);
   right = λ starts right. rw (hands starts, same) right;
+  whole = λ starts.
+      let all : buffers_handed (handed_by starts said) ≡ buffers_handed starts =
+      ap buffers_handed (hands starts) in
+      omega (arith, all, none);
 }
 
 -- an entry that isn't refused may follow
@@ -43,11 +47,12 @@ module _ (grows : Grows) (state : State) (entry : Entry) (sound : IsSound state)
     moves = refl;
     right = λ starts right. are_right_later state.published (state.published ++ entry ∷ []) starts
         (entry ∷ [], refl) right;
+    whole = λ starts. omega arith;
   }
 
   refused : (why : Refusal) → Keeps state (by_refusal state entry (Some why))
-  refused why = leaves_all state state (done_of why) (told (line_of why) ∷ []) refl refl
-      (λ starts. refl) sound
+  refused why = leaves_all state state (done_of why) (told (notice_of why) ∷ []) refl refl
+      (λ starts. refl) refl sound
 
   by_case : (ordered short over : Bool) → keeps_order state.published entry ≡ ordered
       → is_short entry ≡ short

@@ -5,6 +5,7 @@ pub mod Sound
 pub mod Runs
 pub mod Once
 pub mod Output
+pub mod Steps
 pub mod Entries
 pub mod EntriesFacts
 pub mod Desk

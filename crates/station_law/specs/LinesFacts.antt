@@ -24,7 +24,7 @@ pub record Laws : Type 0 where
   pub delivers : Delivers
 
 wrong : (state : State) → IsSound state → Keeps state (is_wrong state)
-wrong state sound = leaves_all state state _ [] refl refl (λ starts. refl) sound
+wrong state sound = leaves_all state state _ [] refl refl (λ starts. refl) refl sound
 
 module _ (laws : Laws) where
   offered : (state : State) (entry : terms.Entry) (valid : Bool) → is_valid entry ≡ valid
@@ -33,13 +33,13 @@ module _ (laws : Laws) where
   offered state entry false valid sound = wrong state sound
 
   pub facts : IsLawful step
-  facts state Skip sound = leaves_all state state _ [] refl refl (λ starts. refl) sound
+  facts state Skip sound = leaves_all state state _ [] refl refl (λ starts. refl) refl sound
   facts state (Offer entry) sound =
       offered state (entry_of entry) (is_valid (entry_of entry)) refl sound
   facts state (Desk start stop quality) sound =
       desk.facts laws.delivers state start stop quality sound
   facts state (Clock at) sound =
-      leaves_all state (step state (Clock at)).next _ [] refl refl (λ starts. refl) sound
+      leaves_all state (step state (Clock at)).next _ [] refl refl (λ starts. refl) refl sound
   facts state _ sound = wrong state sound
 
   facts_read : (state : State) (line : Option ScriptLine) → IsSound state

@@ -60,16 +60,22 @@ course_on true course before given after is moves = sym (append-nil after)
 course_on false course before given after is moves =
     moves ∙ ap (λ xs. xs ++ given) is ∙ append_assoc course.found course.given given
 
+found_with : (count : ℕ) (course : Course) (before given : List Entry)
+    → before ≡ course.found ++ course.given
+    → IsFound course before given (before ++ take count given)
+found_with count course before given is = record {
+  keeps = (take count given, refl);
+  count = length course.given + count;
+  is = ap (λ xs. xs ++ take count given) is
+      ∙ append_assoc course.found course.given (take count given)
+      ∙ ap (λ xs. course.found ++ xs) (sym (take-append-add course.given given count));
+}
+
 found_by : (recovers : Bool) (course : Course) (before given after : List Entry)
     → before ≡ course.found ++ course.given → Moves recovers before given after
     → IsTrue recovers → IsFound course before given after
-found_by true course before given after is moves recovers = record {
-  keeps = (take moves.0 given, moves.1);
-  count = length course.given + moves.0;
-  is = moves.1 ∙ ap (λ xs. xs ++ take moves.0 given) is
-      ∙ append_assoc course.found course.given (take moves.0 given)
-      ∙ ap (λ xs. course.found ++ xs) (sym (take-append-add course.given given moves.0));
-}
+found_by true course before given after is moves recovers =
+    subst (IsFound course before given) (sym moves.1) (found_with moves.0 course before given is)
 found_by false course before given after is moves recovers = absurd cc
 
 -- ---- tests and texts
@@ -182,6 +188,7 @@ module _ {L : Type 0} (step : State → L → Answer) (lawful : IsLawful step) w
       let one = lawful before line here.sound in
       let starts = handed_after step first [] earlier in
       let begun : Course = record { found = first.published; given = [] } in
+      let stored = course_stands first begun earlier sound (sym (append-nil first.published)) in
       record {
         text = split 1 first earlier (line ∷ later) good;
         archive = λ some.
@@ -194,8 +201,10 @@ module _ {L : Type 0} (step : State → L → Answer) (lawful : IsLawful step) w
             (after step (step before line).next (take some later)).published
             (handed_by starts (step before line).said) then.published
             (one.right starts here.right);
+        whole = one.whole starts;
+        found = λ count. found_with count (course_after step first begun earlier)
+            before.published (step before line).given stored;
         recovered = found_by (step before line).recovers (course_after step first begun earlier)
-            before.published (step before line).given (step before line).next.published
-            (course_stands first begun earlier sound (sym (append-nil first.published)))
+            before.published (step before line).given (step before line).next.published stored
             one.moves;
       }

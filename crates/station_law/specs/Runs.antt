@@ -6,7 +6,7 @@ use Rattle.archive_terms.specs.Archive.{Entry, IsArchive}
 use Rattle.station_law.specs.declared.step_done.StepDone.{StepDone}
 use Rattle.station_law.specs.declared.step_done.StepDone.TheVariants.{Fine, Full, WrongState}
 use Rattle.station_law.specs.State.{State}
-use Rattle.station_law.specs.Said.{Handed, texts, handed_by}
+use Rattle.station_law.specs.Said.{Handed, texts, handed_by, buffers_handed, buffers_told}
 use Rattle.station_law.specs.Answer.{Answer}
 use Rattle.station_law.specs.Sound.{Begins, AreRight}
 
@@ -116,9 +116,11 @@ pub record IsFound (course : Course) (before answer_given found : List Entry) : 
   pub is : found ≡ course.found ++ take count (course.given ++ answer_given)
 
 -- What is promised of a line that stands in a script behind others in order, with the world before
--- it and its answer: where its text stands; what is published is an archive then and after any first
--- few of the later lines, and what each START has handed over up to it is right for it; and what it
--- found, where it recovers the archive.
+-- it and its answer: where its text stands; what is published is an archive then and after any
+-- first few of the later lines, and what each START has handed over up to it is right for it; each
+-- buffer that it tells is one that a START handed over; what is published and a front of what the
+-- line gives to stores is what a recovery may find; and what it found, where it recovers the
+-- archive.
 pub record IsAnswered {L : Type 0} (step : State → L → Answer) (first : State)
     (earlier later : List L) (line : L) : Type 0 where
   pub text : transcript step first (earlier ++ line ∷ later) ≡ transcript step first earlier
@@ -129,6 +131,15 @@ pub record IsAnswered {L : Type 0} (step : State → L → Answer) (first : Stat
       (after step (step (after step first earlier) line).next (take some later)).published
       (handed_by (handed_after step first [] earlier)
       (step (after step first earlier) line).said)
+  pub whole : buffers_handed (handed_by (handed_after step first [] earlier)
+      (step (after step first earlier) line).said)
+      ≡ buffers_handed (handed_after step first [] earlier)
+      + buffers_told (step (after step first earlier) line).said
+  pub found : (count : ℕ)
+      → IsFound (course_after step first (record { found = first.published; given = [] }) earlier)
+      (after step first earlier).published (step (after step first earlier) line).given
+      ((after step first earlier).published
+      ++ take count (step (after step first earlier) line).given)
   pub recovered : IsTrue (step (after step first earlier) line).recovers
       → IsFound (course_after step first (record { found = first.published; given = [] }) earlier)
       (after step first earlier).published (step (after step first earlier) line).given

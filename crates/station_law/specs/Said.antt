@@ -1,7 +1,8 @@
 -- What a line of a script says: the lines of the transcript that it makes, and what it hands over.
 -- The text, and what each START handed over, are functions of one list, so they can't differ.
 use Rattle.std.specs.Prelude.{ℕ, ℤ, ◌==◌, if◌then◌else◌, Option, Some, List, [], ◌∷◌, ◌++◌, map}
-use Rattle.std.specs.List.{flat_map}
+use Rattle.std.specs.Prelude.{length}
+use Rattle.std.specs.List.{flat_map, sum_by}
 use Rattle.ber_core.specs.Tree.{Tree}
 use Rattle.ber_core.specs.Spelling.{canonical}
 use Rattle.isp1_tml.specs.Message.{Content, spelling, pdu}
@@ -12,15 +13,29 @@ use Rattle.archive_terms.specs.Delivery.{Item, archived, end_of_data, Terms}
 use Rattle.words.specs.Line as line
 use Rattle.words.specs.Table.{Says}
 use Rattle.drill_text.specs.Transcript.{transcript, lines, sent}
+use Rattle.drill_text.specs.Transcript as forms
 
 -- a buffer as it is told: its items, each frame with its continuity
 abbrev pub Told : Type 0
 Told = List (Item × Option ℤ)
 
--- a line of the transcript that hands nothing over; a START begins on a connection; or an offer of
--- a buffer was taken whole on it. The desk is connection 0.
+-- a line of the transcript that hands nothing over: why an entry or a START is refused
+pub data Notice : Type 0 where
+  backward : Notice
+  too_long : Notice
+  full : ℕ → ℕ → Notice
+  refused : Notice
+
+abbrev pub says_of : Notice → Says transcript
+says_of backward = (forms.backward, tt)
+says_of too_long = (forms.too, tt)
+says_of (full need free) = (forms.full, (need, free))
+says_of refused = (forms.refused, tt)
+
+-- such a line; a START begins on a connection; or an offer of a buffer was taken whole on it. The
+-- desk is connection 0.
 pub data Said : Type 0 where
-  told : Says transcript → Said
+  told : Notice → Said
   begun : ℕ → Terms → Said
   handed : ℕ → Told → Said
 
@@ -46,7 +61,7 @@ sent_text connection octets = line_text (sent, (connection, octets))
 
 -- the text of what is said
 abbrev pub text_of : Said → List ℕ
-text_of (told says) = line_text says
+text_of (told notice) = line_text (says_of notice)
 text_of (begun connection terms) = []
 text_of (handed connection buffer) = sent_text connection (spelling (buffer_message buffer))
 
@@ -69,7 +84,7 @@ with_buffer connection buffer (last ∷ earlier) =
 
 -- the STARTs so far, the last one first, each with all that it has handed over
 abbrev pub handed_with : List Handed → Said → List Handed
-handed_with starts (told says) = starts
+handed_with starts (told notice) = starts
 handed_with starts (begun connection terms) =
     record { connection = connection; terms = terms; buffers = [] } ∷ starts
 handed_with starts (handed connection buffer) = with_buffer connection buffer starts
@@ -77,3 +92,14 @@ handed_with starts (handed connection buffer) = with_buffer connection buffer st
 abbrev pub handed_by : List Handed → List Said → List Handed
 handed_by starts [] = starts
 handed_by starts (one ∷ others) = handed_by (handed_with starts one) others
+
+-- how many buffers STARTs have handed over, and how many of them lines of the transcript tell
+abbrev pub buffers_handed : List Handed → ℕ
+buffers_handed starts = sum_by (λ start. length start.buffers) starts
+
+abbrev pub told_once : Said → ℕ
+told_once (handed connection buffer) = 1
+told_once _ = 0
+
+abbrev pub buffers_told : List Said → ℕ
+buffers_told said = sum_by told_once said

@@ -1,13 +1,14 @@
 -- The facts that each line brings. The promises of a whole script follow from these alone
 -- (specs/Once.antt), whatever the lines are.
-use Rattle.std.specs.Prelude.{◌≡◌, ℕ, Bool, true, false, None, List, [], ◌++◌, length, map, take}
+use Rattle.std.specs.Prelude.{◌≡◌, ℕ, ◌+◌, Bool, true, false, None, List, [], ◌++◌, length, map}
+use Rattle.std.specs.Prelude.{take}
 use Rattle.std.specs.List.{AllByRecursion, flat_map}
 use Rattle.archive_terms.specs.Archive.{Entry, IsArchive}
 use Rattle.archive_terms.specs.Delivery.{Item}
 use Rattle.archive_terms.specs.Rounds.{to_hand_over}
 use Rattle.archive_terms.specs.Continuity.{told_buffers}
 use Rattle.station_law.specs.State.{State}
-use Rattle.station_law.specs.Said.{Told, Handed, handed_by}
+use Rattle.station_law.specs.Said.{Told, Handed, handed_by, buffers_handed, buffers_told}
 use Rattle.station_law.specs.Answer.{Answer}
 
 -- a list stands before another
@@ -47,9 +48,13 @@ abbrev pub AreRight : List Entry → List Handed → Type 0
 AreRight archive starts = AllByRecursion (IsRight archive) starts
 
 -- The facts of a line, beside its text: the invariant holds behind it; the published entries only
--- grow, or are what a recovery found; and what each START has handed over so far is right.
+-- grow, or are what a recovery found; what each START has handed over so far is right; and each
+-- buffer that the line tells as handed over is a START's.
 pub record Keeps (before : State) (answer : Answer) : Type 0 where
   pub sound : IsSound answer.next
   pub moves : Moves answer.recovers before.published answer.given answer.next.published
   pub right : (starts : List Handed) → AreRight before.published starts
       → AreRight answer.next.published (handed_by starts answer.said)
+  pub whole : (starts : List Handed)
+      → buffers_handed (handed_by starts answer.said)
+      ≡ buffers_handed starts + buffers_told answer.said

@@ -2,8 +2,9 @@
 ghost use Rattle.std.specs.Prelude.{◌≡◌, IfOk, OnErr};
 ghost use Rattle.drill_text.specs.Transcript.{said};
 ghost use Rattle.frame_archive.specs.declared.fault.OfferFault.TheVariants as OfferFault;
-ghost use Rattle.station_law.specs.Entries.{line_of, done_of};
+ghost use Rattle.station_law.specs.Entries.{notice_of, done_of};
 ghost use Rattle.station_law.specs.Held.{fault_of, IsOfOffer};
+ghost use Rattle.station_law.specs.Said.{says_of};
 
 use crate::step_done::StepDone;
 use drill_text::TranscriptLine;
@@ -41,7 +42,7 @@ impl Refusal {
 
     // Its line of the transcript.
     pub fn line(&self) -> TranscriptLine<'_>
-        ensures { said result ≡ line_of self.now }
+        ensures { said result ≡ says_of (notice_of self.now) }
     {
         match self {
             Refusal::Backward => TranscriptLine::Backward,

@@ -9,7 +9,7 @@ use Rattle.station_law.specs.Pass.{frame_in, picked_of}
 use Rattle.return_pdu.specs.Fields.{IsFrame}
 use Rattle.station_law.proofs.Pass.{end_text, pass_text-start}
 use Rattle.station_law.proofs.Turns.{storable_at, pass_done, pass_one, pass_two}
-use Rattle.station_law.proofs.Steps.{at_start, step_on, at_end, ends_with, stopped_by}
+use Rattle.station_law.specs.Steps.{at_start, step_on, at_end, ends_with, stopped_by}
 use Rattle.station_law.proofs.desk.answer_start.Goals as goal
 use Rattle.station_law.proofs.desk.answer_start.Goals.{in-None}
 use Rattle.station_law.proofs.desk.answer_start.Goals.{in-Some-held+in_ok-send_two-in-Some-held}

@@ -8,7 +8,7 @@ use Rattle.station_law.specs.Pass.{frame_in}
 use Rattle.station_law.specs.Desk.{said_at_start}
 use Rattle.station_law.specs.Said.{texts}
 use Rattle.station_law.proofs.Pass.{pass_text}
-use Rattle.station_law.proofs.Steps.{Behind}
+use Rattle.station_law.specs.Steps.{Behind}
 use Rattle.station_law.proofs.desk.answer_start.Given as goal
 
 -- what the pass hands over of the entries to come is what is still to be written of the START's

@@ -1,4 +1,5 @@
--- Texts that are written one after another.
+-- Texts that are written one after another: facts for callers that write several, which stand here
+-- since a clause can range over no facts.
 use Rattle.std.proofs.Common.{◌≡◌, ℕ, List, [], ◌++◌, Option, Result, Ok, Err, sym, subst, ◌∙◌}
 use Rattle.std.proofs.Common.{refl, append_assoc, inr, ⊎_elim}
 use Rattle.std.proofs.lemmas.List.{append-nil}
@@ -35,6 +36,11 @@ at_start output faults whole = record {
   splits = refl;
   wrote = writes-none WriteFault output faults tt;
 }
+
+-- the same text, as another term
+pub behind_as : (start now : Option (List ℕ)) (f g : ℕ) (whole text other : List ℕ) → text ≡ other
+    → Behind start now f g whole text → Behind start now f g whole other
+behind_as start now f g whole text other is behind = subst (Behind start now f g whole) is behind
 
 -- a text was written
 pub step_on : {T : Type 0} (start now next : Option (List ℕ)) (f g h : ℕ) (whole text rest : List ℕ)
