@@ -2,6 +2,7 @@
 use Rattle.std.proofs.Common.{◌≡◌, ◌⊎◌, inl, inr, zero, suc, ℕ, ◌+◌, ◌-◌, Bool, true, false, not}
 use Rattle.std.proofs.Common.{nat_le, nat_lt, if◌then◌else◌, IsTrue, Option, Some, None, option_map}
 use Rattle.std.proofs.Common.{List, [], ◌∷◌, ◌++◌, length, take, refl, sym, ap, subst, ◌∙◌, arith}
+use Rattle.std.proofs.Common.{Result, Ok, Err, OnErr}
 use Rattle.std.proofs.lemmas.Bool.{and_parts}
 use Rattle.std.proofs.lemmas.List.{append-nil}
 use Rattle.std.proofs.lemmas.List.Sums.{sum_by_push}
@@ -14,8 +15,8 @@ use Rattle.record_form.specs.declared.entry.Entry as form
 use Rattle.disk_model.specs.Images.{Pending}
 use Rattle.disk_model.specs.MemoryDisk.{DiskState, pending_of}
 use Rattle.std.specs.Option.{IfSome}
-use Rattle.gate_journal.specs.File.{IsBatch, gated, joined, StandsAt}
-use Rattle.gate_journal.specs.Kept.{Keeps}
+use Rattle.gate_journal.specs.File.{IsBatch, gated, joined, StandsAt, StandsFor}
+use Rattle.gate_journal.specs.Kept.{Keeps, IsOldOrNew}
 use Rattle.gate_journal.specs.declared.order.Times.{Times}
 use Rattle.frame_archive.specs.declared.fault.OfferFault.{OfferFault}
 use Rattle.frame_archive.specs.declared.fault.OfferFault.TheVariants as faults
@@ -29,6 +30,8 @@ use Rattle.station_law.specs.declared.refusal.Refusal.TheVariants as refusals
 use Rattle.station_law.specs.State.{State}
 use Rattle.station_law.specs.Entries.{need, used, free, refusal, stores, by_refusal, offer}
 use Rattle.station_law.specs.Held.{told_by, IsHeld, fault_of, IsOfOffer}
+use Rattle.station_law.specs.Stopped.{HoldsAlone, IsLeft}
+use Rattle.station_law.specs.State.{Seen}
 
 -- nothing waits where none is counted
 pub none_waits : {X : Type 0} (xs : List X) → nat_lt 0 (length xs) ≡ false → xs ≡ []
@@ -77,6 +80,19 @@ module _ (archive : ArchiveState DiskState) (published : List Entry) (times : Ti
 
   count_is : archive.count ≡ length published
   count_is = sym held.acknowledges.agrees.counted
+
+stands_alone : (entries : List Entry) (image : List ℕ) → IsOldOrNew entries [] image
+    → StandsFor entries image
+stands_alone entries image (inl old) = old
+stands_alone entries image (inr new) =
+    subst (λ (es : List Entry). StandsFor es image) (append-nil entries) new
+
+-- each image of its disk stands for what is published
+pub holds_alone : (archive : ArchiveState DiskState) (published : List Entry) (times : Times)
+    → IsHeld archive published times → archive.waiting ≡ [] → HoldsAlone archive.disk published
+holds_alone archive published times held rests = λ image is.
+    stands_alone published image (subst (λ (batch : List Entry). IsOldOrNew published batch image)
+    (none_taken archive.failed archive.waiting rests) (held.acknowledges.images image is))
 
 -- ---- refusals
 
@@ -385,3 +401,49 @@ held_new finds made opened same keeps capacity entries archive rests uses acknow
       times_are = sym (ap (λ (a : ArchiveState DiskState). a.times) rests ∙ ap times_of none);
       rests = λ waits. ap (λ (a : ArchiveState DiskState). a.is_stale) rests;
     }
+
+-- ---- what a store leaves that is refused memory
+
+-- the entry waits, and was given to a store that failed or to none
+pub left_unsettled : (archive offered stored : ArchiveState DiskState) (entry : Entry)
+    → archive.waiting ≡ [] → offered ≡ with_waiting archive entry
+    → failed_batch offered ≡ failed_batch archive
+    → (stored ≡ offered) ⊎ (stored ≡ with_failed offered stored.disk)
+    → (failed_batch stored ≡ failed_batch archive) ⊎ (failed_batch stored ≡ entry ∷ [])
+left_unsettled archive offered stored entry rests is same (inl still) =
+    inl (ap failed_batch still ∙ same)
+left_unsettled archive offered stored entry rests is same (inr failed) =
+    let waits : offered.waiting ≡ entry ∷ [] =
+    ap (λ (a : ArchiveState DiskState). a.waiting) is
+    ∙ ap (λ xs. xs ++ entry ∷ []) rests in
+    inr (ap failed_batch failed ∙ ap (λ (ws : List Entry). take (length ws) ws) waits)
+
+pub left_capacity : (archive offered stored : ArchiveState DiskState) (entry : Entry)
+    → offered ≡ with_waiting archive entry
+    → (stored ≡ offered) ⊎ (stored ≡ with_failed offered stored.disk)
+    → stored.capacity ≡ archive.capacity
+left_capacity archive offered stored entry is (inl still) =
+    ap (λ (a : ArchiveState DiskState). a.capacity) still
+    ∙ ap (λ (a : ArchiveState DiskState). a.capacity) is
+left_capacity archive offered stored entry is (inr failed) =
+    ap (λ (a : ArchiveState DiskState). a.capacity) failed
+    ∙ ap (λ (a : ArchiveState DiskState). a.capacity) is
+
+-- nothing was done
+pub left_same : (before : Seen) (given : List Entry) → IsLeft before given before
+left_same before given = record {
+  published = refl;
+  capacity = refl;
+  clock = refl;
+  unsettled = inl refl;
+}
+
+-- an entry that isn't refused was given to a store
+pub given_is : (state : State) (entry : Entry) → None ≡ refusal state entry
+    → entry ∷ [] ≡ (offer state entry).given
+given_is state entry is = ap (λ found. (by_refusal state entry found).given) is
+
+-- what holds whatever an error is
+pub on_err : {T E P : Type 0} (result : Result T E) → P → OnErr result P
+on_err (Ok value) holds = tt
+on_err (Err error) holds = holds

@@ -13,5 +13,6 @@ pub mod DeskFacts
 pub mod Buffers
 pub mod Pass
 pub mod Held
+pub mod Stopped
 pub mod Lines
 pub mod LinesFacts

@@ -1,7 +1,8 @@
 // The world behind a script.
-ghost use Rattle.std.specs.Prelude.{◌≡◌, ◌||◌, false, IfOk, OnOk, IsTrue, nat_lt, nat_le};
+ghost use Rattle.std.specs.Prelude.{◌≡◌, ◌||◌, true, false, IfOk, OnOk, OnErr, IsErrOf, IsTrue};
+ghost use Rattle.std.specs.Prelude.{is_some, nat_lt, nat_le};
 ghost use Rattle.std.specs.Option.{option_map_or};
-ghost use Rattle.archive_terms.specs.Archive.{is_valid, is_closed};
+ghost use Rattle.archive_terms.specs.Archive.{IsArchive, is_valid, is_closed};
 ghost use Rattle.cds_time.specs.declared.cds.Cds.{Cds};
 ghost use Rattle.record_form.specs.Entry.{entry_of};
 ghost use Rattle.station_config.specs.Validity.{IsSite};
@@ -13,6 +14,7 @@ ghost use Rattle.station_law.specs.Entries as entries;
 ghost use Rattle.station_law.specs.Desk.{desk};
 ghost use Rattle.station_law.specs.Lines.{step};
 ghost use Rattle.station_law.specs.Output.{Wrote};
+ghost use Rattle.station_law.specs.Stopped.{IsLeft, HoldsAlone, Recovers};
 
 use crate::desk::answer_start;
 use crate::moment::moment;
@@ -93,8 +95,21 @@ impl World {
         })
     }
 
+    /// The disk in memory, to be looked at. At each return of a call, also of one that was stopped,
+    /// a recovery would find there all that is published, and of a store that failed all or nothing.
+    pub fn disk(&self) -> &MemoryDisk
+        ensures disk { result.now ≡ self.now.disk }
+        ensures images { Recovers result.now self.now.state }
+        ensures archive { self.now.is_spent ≡ false → IsArchive self.now.state.published }
+        ensures alone { self.now.is_spent ≡ false
+            → HoldsAlone result.now self.now.state.published }
+    {
+        self.archive.disk()
+    }
+
     /// Does what a line says, and writes its text, message after message: of a START's text no more
-    /// is held than the message that is being written.
+    /// is held than the message that is being written. What a line does is done before its text is
+    /// written, and a line with a text changes nothing besides.
     pub fn step<O: Sink>(&mut self, line: &ScriptLine, output: &mut O) -> Result<StepDone, Stop>
         requires { HasValidEntry line.now }
         ensures written { Wrote (O.written output.old) (O.written output.new)
@@ -103,6 +118,11 @@ impl World {
         ensures next { OnOk result (self.new.state ≡ (step self.old.state line.now).next) }
         ensures done { IfOk result (λ done. done ≡ (step self.old.state line.now).done) }
         ensures ready { OnOk result (self.new.is_spent ≡ false) }
+        ensures stopped { OnErr result (IsLeft self.old (step self.old.state line.now).given
+            self.new) }
+        ensures write_fault { IsErrOf result Stop.WriteFault → self.new ≡ self.old }
+        ensures spent { self.old.is_spent ≡ true
+            → IsErrOf result Stop.Memory × (self.new ≡ self.old) }
     {
         if self.archive.waiting() > 0 {
             return Err(Stop::Memory);
@@ -135,6 +155,9 @@ impl World {
         ensures done { IfOk result (λ done. done
             ≡ (entries.offer self.old.state (entry_of entry.now)).done) }
         ensures ready { OnOk result (self.new.is_spent ≡ false) }
+        ensures stopped { OnErr result (IsLeft self.old
+            (entries.offer self.old.state (entry_of entry.now)).given self.new) }
+        ensures write_fault { IsErrOf result Stop.WriteFault → self.new ≡ self.old }
     {
         let Some(refusal) = self.offer(entry)? else {
             return Ok(StepDone::Fine);
@@ -152,6 +175,9 @@ impl World {
         ensures next { OnOk result (self.new.state
             ≡ (entries.offer self.old.state (entry_of entry.now)).next) }
         ensures ready { OnOk result (self.new.is_spent ≡ false) }
+        ensures refused { IfOk result (λ why. IsTrue (is_some why) → self.new ≡ self.old) }
+        ensures stopped { OnErr result (IsLeft self.old
+            (entries.offer self.old.state (entry_of entry.now)).given self.new) }
     {
         archive_terms::laws::follows_by_last_times();
         let given = share(entry)?;

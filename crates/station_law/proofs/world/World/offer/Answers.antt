@@ -1,5 +1,5 @@
 use Rattle.std.proofs.Common.{◌≡◌, ◌⊎◌, inl, inr, false, nat_lt, length, List, [], ◌∷◌, ◌++◌, ap}
-use Rattle.std.proofs.Common.{◌∙◌, ⊎_elim}
+use Rattle.std.proofs.Common.{◌∙◌, ⊎_elim, refl}
 use Rattle.std.proofs.lemmas.Bool.{false≢true}
 use Rattle.record_form.specs.Entry.{entry_of, entries_of}
 use Rattle.record_form.specs.declared.entry.Entry as form
@@ -8,7 +8,8 @@ use Rattle.frame_archive.specs.State.{ArchiveState, failed_batch, times_after, w
 use Rattle.frame_archive.specs.State.{with_failed}
 use Rattle.station_law.proofs.Held.{none_waits, refused_so, is_of_offer, held_more, held_failed}
 use Rattle.station_law.proofs.Held.{entries-push, times_by, cause_of, none_of, refused_next}
-use Rattle.station_law.proofs.Held.{stored_next, stored_state}
+use Rattle.station_law.proofs.Held.{stored_next, stored_state, left_unsettled, left_capacity}
+use Rattle.station_law.proofs.Held.{left_same, given_is, on_err}
 use Rattle.station_law.proofs.world.World.offer.Goals as goal
 
 pub invariant_of-self : goal.invariant_of-self
@@ -81,7 +82,8 @@ invariant_of-self-in_default-store c =
     (λ memory. inl (c.in_default-store.ensures.memory memory)) others)
     (c.in_default-store.ensures.answers fresh) in
     rw c.in_ok-reserve.ensures.items (held_failed c.self.inside.archive published
-    c.self.inside.times c.after-self-inside.result (entry_of c.args.entry.now) c.offer.new.self c.store.new.self
+    c.self.inside.times c.after-self-inside.result (entry_of c.args.entry.now)
+    c.offer.new.self c.store.new.self
     c.self.invariant rests taken failed times
     (c.in_default-store.ensures.still published (c.in_default.ensures.acknowledged published
     c.self.invariant.acknowledges)))
@@ -145,3 +147,52 @@ returns-clause-next c =
 pub returns-clause-ready : goal.returns-clause-ready
 returns-clause-ready c =
     ap (λ (a : ArchiveState DiskState). nat_lt 0 (length a.waiting)) c.in-Ok.ensures.stored.0
+
+pub returns-in_err-reserve-clause-stopped : goal.returns-in_err-reserve-clause-stopped
+returns-in_err-reserve-clause-stopped c =
+    rw (c.in_err-reserve.ensures.items, ← c.self.view_is) (on_err _ (left_same _ _))
+
+pub returns-in_err-of-clause-stopped : goal.returns-in_err-of-clause-stopped
+returns-in_err-of-clause-stopped c =
+    rw (c.in-Err.ensures.unchanged, c.in_ok-reserve.ensures.items, ← c.self.view_is)
+    (on_err _ (left_same _ _))
+
+pub returns-in-Err-clause-refused : goal.returns-in-Err-clause-refused
+returns-in-Err-clause-refused c = λ some.
+    rw (c.in-Err.ensures.unchanged, c.in_ok-reserve.ensures.items, ← c.self.view_is) refl
+
+pub returns-in_default-store-clause-stopped : goal.returns-in_default-store-clause-stopped
+returns-in_default-store-clause-stopped c =
+    let rests : c.self.inside.archive.waiting ≡ [] =
+    none_waits c.self.inside.archive.waiting (rw (← c.self.view_is) at c.requires.ready) in
+    let published = entries_of c.self.inside.published.items in
+    let taken : c.offer.new.self ≡ with_waiting c.self.inside.archive (entry_of c.args.entry.now) =
+    c.in_default.ensures.taken ∙ ap (λ (e : form.Entry).
+    with_waiting c.self.inside.archive (entry_of e)) c.in_ok-given.ensures in
+    let fresh : c.offer.new.self.is_stale ≡ false =
+    ap (λ (a : ArchiveState DiskState). a.is_stale) taken ∙ c.self.invariant.rests rests in
+    let failed : (c.store.new.self ≡ c.offer.new.self)
+    ⊎ (c.store.new.self ≡ with_failed c.offer.new.self c.store.new.self.disk) =
+    ⊎_elim (λ ok. absurd (false≢true ok)) (λ others. ⊎_elim
+    (λ disk. inr (c.in_default-store.ensures.failed disk))
+    (λ memory. inl (c.in_default-store.ensures.memory memory)) others)
+    (c.in_default-store.ensures.answers fresh) in
+    let given = given_is (record {
+      capacity = c.self.inside.archive.capacity;
+      published = published;
+      unsettled = failed_batch c.self.inside.archive;
+      clock = c.self.inside.clock;
+    }) (entry_of c.args.entry.now)
+    (none_of c.follows_by_last_times.ensures.order c.self.inside.archive published
+    c.self.inside.times c.self.invariant rests (failed_batch c.self.inside.archive)
+    c.self.inside.clock c.in_ok-given.given c.args.entry.now c.in_ok-given.ensures
+    c.in_default.ensures.in_order) in
+    rw (c.in_ok-reserve.ensures.items, ← c.self.view_is) (record {
+      published = refl;
+      capacity = left_capacity c.self.inside.archive c.offer.new.self c.store.new.self
+          (entry_of c.args.entry.now) taken failed;
+      clock = refl;
+      unsettled = ⊎_elim (λ same. inl same) (λ all. inr (all ∙ given))
+          (left_unsettled c.self.inside.archive c.offer.new.self c.store.new.self
+          (entry_of c.args.entry.now) rests taken c.in_default.ensures.batch failed);
+    })

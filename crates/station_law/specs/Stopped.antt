@@ -1,0 +1,29 @@
+-- What a line leaves that is stopped, and what a recovery of a world's disk finds.
+use Rattle.std.specs.Prelude.{◌≡◌, ◌⊎◌, ℕ, List}
+use Rattle.archive_terms.specs.Archive.{Entry}
+use Rattle.disk_model.specs.Images.{IsImage}
+use Rattle.disk_model.specs.MemoryDisk.{DiskState, pending_of}
+use Rattle.gate_journal.specs.File.{StandsFor}
+use Rattle.gate_journal.specs.Kept.{IsOldOrNew}
+use Rattle.station_law.specs.State.{State, Seen}
+
+-- Nothing is published of a line that is stopped, and the clock stays. Where a store was begun that
+-- failed, the file may hold what the line gave to it, all or nothing.
+pub record IsLeft (before : Seen) (given : List Entry) (after : Seen) : Type 0 where
+  pub published : after.state.published ≡ before.state.published
+  pub capacity : after.state.capacity ≡ before.state.capacity
+  pub clock : after.state.clock ≡ before.state.clock
+  pub unsettled : (after.state.unsettled ≡ before.state.unsettled)
+      ⊎ (after.state.unsettled ≡ given)
+
+-- each image of a disk stands for these entries
+abbrev pub HoldsAlone : DiskState → List Entry → Type 0
+HoldsAlone disk entries =
+    (image : List ℕ) → IsImage (pending_of disk) image → StandsFor entries image
+
+-- each image of a disk stands for what is published, or for that and the entries of a store that
+-- failed, whole
+abbrev pub Recovers : DiskState → State → Type 0
+Recovers disk state =
+    (image : List ℕ) → IsImage (pending_of disk) image
+    → IsOldOrNew state.published state.unsettled image
