@@ -43,6 +43,3 @@ pub use pick::Pick;
 pub use script_line::ScriptLine;
 pub use transcript_line::TranscriptLine;
 pub use write::write_line;
-
-#[cfg(test)]
-mod tests;

@@ -1,5 +1,5 @@
-// Lines of transcripts.
-use crate::{EndWord, TranscriptLine, laws, write_line};
+// Lines of transcripts. Their texts were written by hand from the forms of the lines.
+use drill_text::{EndWord, TranscriptLine, laws, write_line};
 use octet_core::Octets;
 use std::alloc::Global;
 use std::test::Fail;

@@ -1,0 +1,400 @@
+// Lines of scripts. What is expected was written by hand from the forms of the lines.
+//
+// A row is a line up to `|`; what it says, as its derived `Debug` writes it, stands behind ` = `,
+// where a row has it.
+use cds_time::Rest;
+use drill_text::{AskLine, LineFault, ScriptLine, laws, parse_line, write_entry_line};
+use octet_core::Octets;
+use record_form::Entry;
+use std::alloc::Global;
+use std::process::Abort;
+use std::test::Fail;
+
+fn is_bad(alloc: Global, line: &[u8]) -> bool {
+    matches!(parse_line(alloc, line), Err(LineFault::Bad))
+}
+
+// The first row that isn't in the grammar though it should be, or is though it shouldn't.
+fn wrong_line<'a>(alloc: Global, rows: &'a str, should_be_bad: bool) -> Option<&'a str> {
+    for row in rows.split_terminator('|') {
+        let line = row.strip_prefix('\n').unwrap_or(row);
+        if is_bad(alloc, line.as_bytes()) != should_be_bad {
+            return Some(line);
+        }
+    }
+    None
+}
+
+// The good lines are in the grammar, and the bad ones aren't.
+fn check(rt: &impl Abort, alloc: Global, good: &str, bad: &str) {
+    assert_eq!(rt; wrong_line(alloc, good, false), None);
+    assert_eq!(rt; wrong_line(alloc, bad, true), None);
+}
+
+#[test]
+fn entries_end_at_their_ranges(rt: HostRuntime) {
+    check(&rt, rt.alloc(), ENTRIES, BAD_ENTRIES);
+}
+
+const ENTRIES: &str = "
+frame 0/0/0 0 00 0 00|
+frame 65535/86399999/999 2 000102030405060708090a0b0c0d0e0f 16777215 Ff|
+frame 65535/86399999/999999999p 1 41 0 0010a1|
+loss 0/0/0 0 0 0|
+loss 65535/86399999/999999999p 3 3 3|
+production 0|
+production 2|
+mark 0/0/0|
+mark 65535/86399999/999|";
+
+const BAD_ENTRIES: &str = "
+frame 65536/0/0 0 41 0 00|
+frame 0/86400000/0 0 41 0 00|
+frame 0/0/1000 0 41 0 00|
+frame 0/0/1000000000p 0 41 0 00|
+frame 0/0/0 3 41 0 00|
+frame 0/0/0 0 000102030405060708090a0b0c0d0e0f10 0 00|
+frame 0/0/0 0  0 00|
+frame 0/0/0 0 41 16777216 00|
+frame 0/0/0 0 41 0 |
+frame 0/0/0 0 41 0 0|
+frame 0/0/0 0 41 0 0g|
+frame 0/0/0 0 41 0|
+frame 0/0/0 0 41 0 00 00|
+loss 0/0/0 4 0 0|
+loss 0/0/0 0 4 0|
+loss 0/0/0 0 0 4|
+loss 0/0/0 0 0|
+production 3|
+production|
+mark none|
+mark 0/0/0 0|";
+
+#[test]
+fn lines_of_the_desk_and_of_links_end_at_their_ranges(rt: HostRuntime) {
+    check(&rt, rt.alloc(), CONNECTIONS, BAD_CONNECTIONS);
+}
+
+const CONNECTIONS: &str = "
+start 0/0/0 65535/86399999/999 0|
+start 1/0/0 0/0/0p 2|
+clock 65535/86399999/999999999p|
+open 1|
+open 16|
+in 16 00|
+shut 16|
+break 1|
+round 1 1|
+round 16 1000|
+stall 16 1|
+stall 1 1000|";
+
+const BAD_CONNECTIONS: &str = "
+start 0/0/0 0/0/0 3|
+start none none 0|
+start 0/0/0 0/0/0|
+clock none|
+clock|
+open 0|
+open 17|
+open 01|
+in 17 00|
+in 1 0|
+in 1|
+in 1 00 00|
+shut 0|
+shut 17|
+break 17|
+round 17 1|
+round 1 0|
+round 1 1001|
+round 1|
+stall 17 1|
+stall 1 0|
+stall 1 1001|";
+
+#[test]
+fn lines_of_the_antenna_and_of_the_disk_end_at_their_ranges(rt: HostRuntime) {
+    check(&rt, rt.alloc(), DEVICES, BAD_DEVICES);
+}
+
+const DEVICES: &str = "
+take|
+take fail|
+done|
+uplink 0 3|
+uplink 3 0|
+crash 0 old|
+crash 1000 new|
+crash 7 torn|
+fault 1|
+fault 1000|";
+
+const BAD_DEVICES: &str = "
+take fails|
+take |
+take fail fail|
+done |
+done 0|
+uplink 4 0|
+uplink 0 4|
+uplink 0|
+crash 1001 old|
+crash 0 Old|
+crash 0|
+fault 0|
+fault 1001|";
+
+#[test]
+fn messages_end_at_their_ranges(rt: HostRuntime) {
+    check(&rt, rt.alloc(), MESSAGES, BAD_MESSAGES);
+}
+
+const MESSAGES: &str = "
+ask 1 context 0 65535|
+ask 16 bind MOC 0 1 sagr=1.spack=P.rsl-fg=1.raf=onlc1|
+ask 1 bind !234567890123~56 65535 65535 cltu=1|
+ask 1 unbind|
+ask 1 start none none 0|
+ask 1 start 0/0/0 65535/86399999/999999999p 2|
+ask 1 start none 0/0/0 1023/3/63|
+ask 1 start none none 0/0/*|
+ask 1 start 0|
+ask 1 start 4294967295|
+ask 1 stop|
+ask 1 report now|
+ask 1 report stop|
+ask 1 report 0|
+ask 1 report 65535|
+ask 1 get 0|
+ask 1 get 65535|
+ask 1 cltu 0 none none 0 0 00|
+ask 1 cltu 4294967295 0/0/0 1/0/0 4294967295 1 aA|";
+
+const BAD_MESSAGES: &str = "
+ask 17 stop|
+ask 0 stop|
+ask 1|
+ask 1 |
+ask 1 context 65536 0|
+ask 1 context 0 65536|
+ask 1 bind MO 0 5 raf=1|
+ask 1 bind 12345678901234567 0 5 raf=1|
+ask 1 bind MOC 65536 5 raf=1|
+ask 1 bind MOC 0 0 raf=1|
+ask 1 bind MOC 0 65536 raf=1|
+ask 1 bind MOC 0 5 raf|
+ask 1 unbind 0|
+ask 1 start none none 3|
+ask 1 start none none 0/0/64|
+ask 1 start none none 1024/0/0|
+ask 1 start 4294967296|
+ask 1 start none|
+ask 1 start none none|
+ask 1 start none none none|
+ask 1 start none none 0/0/* clcw continuous|
+ask 1 report|
+ask 1 report 65536|
+ask 1 report Now|
+ask 1 get 65536|
+ask 1 cltu 4294967296 none none 0 0 00|
+ask 1 cltu 0 none none 4294967296 0 00|
+ask 1 cltu 0 none none 0 2 00|
+ask 1 cltu 0 none none 0 0 |
+ask 1 throw 0 7|
+ask 1 Stop|";
+
+#[test]
+fn words_are_one_blank_apart_and_first_words_are_known(rt: HostRuntime) -> Result<(), Fail> {
+    check(&rt, rt.alloc(), "", BAD_WORDS);
+    assert!(rt; is_bad(rt.alloc(), b"open 1\n"));
+    for line in [b"".as_slice(), b"#", b"# a comment\t\r\xff", b"#open 17"] {
+        assert!(rt; matches!(parse_line(rt.alloc(), line), Ok(ScriptLine::Skip)));
+    }
+    Ok(())
+}
+
+const BAD_WORDS: &str = "
+ |
+ open 1|
+open  1|
+open 1 |
+open\t1|
+open 1\r|
+\r|
+\t|
+ #|
+Open 1|
+opens 1|
+site|
+end|
+gear 1|
+throw 1 2|
+sent 1 00|";
+
+// The first row whose line doesn't say so.
+fn wrong_row<'a>(alloc: Global, rows: &'a str) -> Result<Option<&'a str>, Fail> {
+    for row in rows.split_terminator('|') {
+        let (line, value) = row.split_once(" = ").unwrap_or((row, ""));
+        let says = parse_line(alloc, line.trim_start().as_bytes())?;
+        let told = format!(in alloc; "{says:?}")?;
+        if !told.split_whitespace().eq(value.split_whitespace()) {
+            return Ok(Some(row));
+        }
+    }
+    Ok(None)
+}
+
+#[test]
+fn each_word_comes_to_its_place(rt: HostRuntime) -> Result<(), Fail> {
+    assert_eq!(rt; wrong_row(rt.alloc(), SAID)?, None);
+    Ok(())
+}
+
+const SAID: &str = "
+production 1 = Offer(Production { status: 1 })|
+mark 4/5/6 = Offer(Seal { at: Cds { days: 4, millis: 5, rest: Micros(6) } })|
+loss 7/8/9p 1 2 3 = Offer(LossOfSync { at: Cds { days: 7, millis: 8, rest: Picos(9) }, carrier: 1,
+    subcarrier: 2, symbol: 3 })|
+start 1/2/3 4/5/6p 1 = Desk { start: Cds { days: 1, millis: 2, rest: Micros(3) }, stop: Cds {
+    days: 4, millis: 5, rest: Picos(6) }, quality: 1 }|
+clock 1/2/3 = Clock(Cds { days: 1, millis: 2, rest: Micros(3) })|
+open 3 = Open { c: 3 }|
+shut 4 = Shut { c: 4 }|
+break 5 = Break { c: 5 }|
+round 6 7 = Round { c: 6, n: 7 }|
+stall 8 9 = Stall { c: 8, n: 9 }|
+take = Take { fail: false }|
+take fail = Take { fail: true }|
+done = Done|
+uplink 1 2 = Uplink { production: 1, status: 2 }|
+crash 3 torn = Crash { k: 3, pick: Torn }|
+crash 4 old = Crash { k: 4, pick: Old }|
+crash 5 new = Crash { k: 5, pick: New }|
+fault 6 = Fault { k: 6 }|
+ask 1 context 30 5 = Ask { c: 1, ask: Context { interval: 30, factor: 5 } }|
+ask 2 unbind = Ask { c: 2, ask: Unbind }|
+ask 1 start none 1/2/3 2 = Ask { c: 1, ask: StartRaf { start: None, stop: Some(Cds { days: 1,
+    millis: 2, rest: Micros(3) }), quality: 2 } }|
+ask 1 start 1/2/3p none 4/1/6 = Ask { c: 1, ask: StartRcf { start: Some(Cds { days: 1, millis: 2,
+    rest: Picos(3) }), stop: None, channel: Gvcid { spacecraft: 4, version: 1, channel: Virtual(6)
+    } } }|
+ask 1 start 7 = Ask { c: 1, ask: StartCltu { first: 7 } }|
+ask 1 stop = Ask { c: 1, ask: Stop }|
+ask 1 report now = Ask { c: 1, ask: Report(Now) }|
+ask 1 report 60 = Ask { c: 1, ask: Report(Cycle(60)) }|
+ask 1 report stop = Ask { c: 1, ask: Report(Stop) }|
+ask 1 get 27 = Ask { c: 1, ask: Get { name: 27 } }|";
+
+// A line of `head`, so many digits and `tail`.
+fn long_line(alloc: Global, head: &[u8], digits: usize, tail: &[u8]) -> Result<Vec<u8>, Fail> {
+    let mut line = Vec::new(alloc);
+    line.extend_from_slice(head)?;
+    for _ in 0..digits {
+        line.push(b'0')?;
+    }
+    line.extend_from_slice(tail)?;
+    Ok(line)
+}
+
+#[test]
+fn pieces_and_cltus_have_at_most_65536_octets_and_frames_any_number(
+    rt: HostRuntime,
+) -> Result<(), Fail> {
+    for head in [b"in 1 ".as_slice(), b"ask 1 cltu 0 none none 0 0 "] {
+        let longest = long_line(rt.alloc(), head, 131_072, b"")?;
+        assert!(rt; parse_line(rt.alloc(), longest.as_slice()).is_ok());
+        let longer = long_line(rt.alloc(), head, 131_072, b"00")?;
+        assert!(rt; is_bad(rt.alloc(), longer.as_slice()));
+    }
+    let frame = long_line(rt.alloc(), b"frame 0/0/0 0 41 0 ", 131_072, b"ff")?;
+    let Ok(ScriptLine::Offer(Entry::Frame { octets, .. })) = parse_line(
+        rt.alloc(),
+        frame.as_slice(),
+    ) else {
+        return Err(Fail::from("no frame"));
+    };
+    assert_eq!(rt; octets.len(), 65_537);
+    assert_eq!(rt; octets.as_slice().last().copied(), Some(0xff));
+    Ok(())
+}
+
+#[test]
+fn octets_and_names_are_those_of_the_line(rt: HostRuntime) -> Result<(), Fail> {
+    let Ok(ScriptLine::Piece { c, octets }) = parse_line(rt.alloc(), b"in 9 0aFf") else {
+        return Err(Fail::from("no piece"));
+    };
+    assert_eq!(rt; (c, octets.as_slice()), (9, [10, 255].as_slice()));
+    let bind = b"ask 3 bind MOC 2 5 sagr=1.cltu=x";
+    let Ok(
+        ScriptLine::Ask {
+            c: 3,
+            ask: AskLine::Bind {
+                name,
+                service: 2,
+                version: 5,
+                id,
+            },
+        },
+    ) = parse_line(rt.alloc(), bind)
+    else {
+        return Err(Fail::from("no BIND"));
+    };
+    assert_eq!(rt; name.as_slice(), b"MOC".as_slice());
+    assert_eq!(rt; format!(in rt.alloc(); "{}", id)?.as_str(), "sagr=1.cltu=x");
+    let cltu = b"ask 1 cltu 7 none 20000/0/10 8 1 aa0007";
+    let Ok(
+        ScriptLine::Ask {
+            ask: AskLine::Cltu {
+                id: 7,
+                earliest: None,
+                latest: Some(latest),
+                delay: 8,
+                wanted: false,
+                octets,
+            },
+            ..
+        },
+    ) = parse_line(rt.alloc(), cltu)
+    else {
+        return Err(Fail::from("no CLTU"));
+    };
+    assert_eq!(rt;
+        (latest.days, latest.millis, latest.rest),
+        (20_000, 0, Rest::Micros(10))
+    );
+    assert_eq!(rt; octets.as_slice(), [0xaa, 0, 7].as_slice());
+    Ok(())
+}
+
+#[test]
+fn an_entry_is_written_as_the_line_that_offers_it(rt: HostRuntime) -> Result<(), Fail> {
+    let lines = [
+        b"frame 20000/1000/0 0 41 0 0010a1".as_slice(),
+        b"frame 65535/86399999/999999999p 2 00ff 16777215 ff",
+        b"loss 1/2/3 1 2 3",
+        b"production 2",
+        b"mark 0/0/0p",
+    ];
+    for line in lines {
+        let Ok(ScriptLine::Offer(entry)) = parse_line(rt.alloc(), line) else {
+            return Err(Fail::from("no entry"));
+        };
+        assert!(rt; entry.is_storable());
+        let mut text = Octets::copy_of(rt.alloc(), b"made\n")?;
+        write_entry_line(rt.alloc(), &entry, &mut text)?;
+        let mut expected = Octets::copy_of(rt.alloc(), b"made\n")?;
+        expected.append(line)?;
+        expected.append(b"\n")?;
+        assert!(rt; text == expected);
+    }
+    laws::script_is_exact();
+    Ok(())
+}
+
+#[test]
+fn faults_have_words_of_their_own(rt: HostRuntime) -> Result<(), Fail> {
+    let words = format!(in rt.alloc(); "{}, {}", LineFault::Bad, LineFault::Memory)?;
+    assert_eq!(rt; words.as_str(), "bad line, out of memory");
+    Ok(())
+}
