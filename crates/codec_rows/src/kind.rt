@@ -3,6 +3,9 @@ ghost use Rattle.std.specs.Prelude.{◌<◌, ◌^◌};
 
 use ber_core::{BerFault, Reader, Writer};
 use ber_shape::{Element, Pdu, decode, encode, length, read_within};
+use fcltu_pdu::{
+    Async, CltuReport, CltuStart, CltuStartReturn, CltuTransfer, Throw, ThrowReturn, TransferReturn,
+};
 use return_pdu::{
     GetParameter, ParameterReturn, RafReport, RafStart, RcfReport, RcfStart, Schedule,
     ScheduleReturn, StartReturn, Stop, StopReturn, TransferBuffer, TransferItem, buffer_head,
@@ -44,6 +47,14 @@ pub enum Kind {
     RcfReport,
     RafBuffer,
     RcfBuffer,
+    CltuStart,
+    CltuStartReturn,
+    Throw,
+    ThrowReturn,
+    CltuTransfer,
+    TransferReturn,
+    Async,
+    CltuReport,
 }
 
 /// What octets are decoded as, and a blank: the value as its derived `Debug` writes it, or the
@@ -64,6 +75,14 @@ pub fn told(alloc: Global, kind: Kind, octets: &[u8]) -> Result<String, Fail> {
         Kind::RcfReport => told_pdu::<RcfReport>(alloc, octets),
         Kind::RafBuffer => told_buffer(alloc, octets, TransferBuffer::decode_raf(octets)),
         Kind::RcfBuffer => told_buffer(alloc, octets, TransferBuffer::decode_rcf(octets)),
+        Kind::CltuStart => told_pdu::<CltuStart>(alloc, octets),
+        Kind::CltuStartReturn => told_pdu::<CltuStartReturn>(alloc, octets),
+        Kind::Throw => told_pdu::<Throw>(alloc, octets),
+        Kind::ThrowReturn => told_pdu::<ThrowReturn>(alloc, octets),
+        Kind::CltuTransfer => told_pdu::<CltuTransfer>(alloc, octets),
+        Kind::TransferReturn => told_pdu::<TransferReturn>(alloc, octets),
+        Kind::Async => told_pdu::<Async>(alloc, octets),
+        Kind::CltuReport => told_pdu::<CltuReport>(alloc, octets),
         shared => told_shared(alloc, shared, octets),
     }
 }

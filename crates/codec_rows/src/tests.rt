@@ -6,12 +6,16 @@
 // made from. Octets of whole dialogues were put together by hand from CCSDS 911.1-B and 911.2-B,
 // annex A, and X.690.
 mod buffers;
+mod cltu_starts;
 mod cuts;
 mod identifiers;
 mod large_buffers;
+mod notices;
 mod parameters;
 mod plain_items;
 mod reports;
 mod shared_types;
 mod starts;
 mod stops;
+mod throws;
+mod transfers;

@@ -29,6 +29,3 @@ pub use cltu_transfer::CltuTransfer;
 pub use throw::Throw;
 pub use throw_return::ThrowReturn;
 pub use transfer_return::TransferReturn;
-
-#[cfg(test)]
-mod tests;
