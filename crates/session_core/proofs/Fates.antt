@@ -1,7 +1,7 @@
 -- What a round's calls leave of what a session has come to.
 use Rattle.std.proofs.Common.{◌≡◌, ℕ, Bool, true, false, not, ◌&&◌, ◌||◌, if◌then◌else◌, Option}
 use Rattle.std.proofs.Common.{Some, None, List, [], Ok, Err, refl, sym, ap, subst, ◌∙◌, arith}
-use Rattle.std.specs.Prelude.{is_some, IsTrue}
+use Rattle.std.specs.Prelude.{is_some}
 use Rattle.octet_core.specs.declared.offer.Offer.{Offer}
 use Rattle.octet_core.specs.declared.offer.Offer.TheVariants.{Whole, Stalled, Failed as Refused}
 use Rattle.isp1_tml.specs.Message.{heartbeat, spelling}
@@ -29,12 +29,12 @@ use Rattle.session_core.specs.Handling.{ended_by, aborted, is_agreed, after_pass
 use Rattle.session_core.specs.Handling.{is_lost, invoked, after_judged}
 use Rattle.session_core.specs.Steps.{Next, has_message, has_block, round_begun, waits, may_poll}
 use Rattle.session_core.specs.Steps.{after_wait, after_offer, at_moment, is_idle, with_next, acted}
-use Rattle.session_core.specs.Steps.{pulse_of, is_dead, is_due, timed, with_heartbeat, after_step}
+use Rattle.session_core.specs.Steps.{pulse_of, is_dead, is_due, timed, after_step}
 use Rattle.session_core.specs.Steps.{may_speak, may_poll_by, course_at_end, round_ended}
 use Rattle.session_core.specs.Session.{Told, offer_calls, poll_calls, standing_waited}
 use Rattle.session_core.specs.Session.{standing_heard, standing_spoke, spoken_of, is_fault}
 use Rattle.session_core.specs.Kept.{Kept, space_of, Waited, PolledOnce, Said as SaidOnce, kept_after}
-use Rattle.session_core.specs.Outcome.{come_to, has_failed, has_ended, is_still, FailsBy, Rests}
+use Rattle.session_core.specs.Outcome.{has_failed, is_still, FailsBy, Rests}
 use Rattle.session_core.specs.Outcome as kept
 use Rattle.session_core.proofs.Truths.{both_of, none_of}
 use Rattle.session_core.proofs.Ends.{IsStill, not_going}

@@ -9,7 +9,7 @@ use Rattle.archive_terms.specs.Glimpse.{wants_nothing}
 use Rattle.cltu_queue.specs.declared.ask.Ask.{Ask}
 use Rattle.station_book.specs.State.{Event, Call as BookCall, answer}
 use Rattle.station_book.specs.State as book
-use Rattle.station_book.specs.History.{IsLegal, replay, event_at}
+use Rattle.station_book.specs.History.{IsLegal, event_at}
 use Rattle.session_core.specs.Course.{is_over}
 use Rattle.session_core.specs.Session.{State, Round, Told, IsRound, after_rounds, begun}
 use Rattle.session_core.specs.Session.{AreRounds, session_calls, session_events, listened, stepped}

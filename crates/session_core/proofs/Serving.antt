@@ -16,7 +16,7 @@ use Rattle.session_core.specs.declared.standing.Standing.{Standing}
 use Rattle.session_core.specs.Course.{is_over}
 use Rattle.session_core.specs.Session.{session_calls, session_events, session_end, spoken_of}
 use Rattle.session_core.specs.Kept.{Kept}
-use Rattle.session_core.specs.Outcome.{come_to, has_ended}
+use Rattle.session_core.specs.Outcome.{come_to}
 use Rattle.session_core.specs.Lists.{Began, start_of, StandsAt, to_listen, Part, none_made}
 use Rattle.session_core.specs.Lists.{made_listen, made_step, stage_of, readings_in, GoesRound}
 use Rattle.session_core.specs.Serving.{Serves}

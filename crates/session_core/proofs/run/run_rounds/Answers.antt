@@ -1,4 +1,4 @@
-use Rattle.std.proofs.Common.{◌≡◌, ◌+◌, ◌∙◌, ℕ, List, false, refl, sym, subst, take, arith}
+use Rattle.std.proofs.Common.{◌+◌, ◌∙◌, ℕ, List, false, refl, sym, subst, arith}
 use Rattle.std.proofs.lemmas.List.{take_more}
 use Rattle.link_model.specs.Counts.{CountsWhere}
 use Rattle.session_core.specs.declared.spoken.Spoken.{Spoken}
