@@ -1,0 +1,116 @@
+// Steps of a script.
+use super::named::hex_of;
+use octet_core::Octets;
+use std::alloc::{AllocError, Global};
+
+// What is done.
+#[derive(Clone, Copy, Debug, PartialEq, Eq)]
+pub enum What {
+    // The clock reads so many microseconds.
+    Clock,
+    // A session begins at a door. Where a number is given, this call of its link fails.
+    Open,
+    // Octets arrive at a door's link, in one piece.
+    Piece,
+    // They do, and the session makes a round.
+    In,
+    // The calls of a session.
+    Round,
+    Listen,
+    Step,
+    Speak,
+    // What becomes of a link: the peer closes, the next poll fails, so many offers stall.
+    Shut,
+    Break,
+    Stall,
+    // A door asks the book besides its session: to bind an instance, to begin a run of the forward
+    // service, and for a notice.
+    Bind,
+    Start,
+    Told,
+    // Its worker frees what it has bound.
+    Quit,
+    // Production has this status.
+    Uplink,
+    // The book's latest moment is told.
+    Moment,
+}
+
+#[derive(Drop)]
+pub struct Step {
+    pub what: What,
+    pub door: u32,
+    pub number: u32,
+    pub octets: Octets,
+}
+
+// Each step by its word.
+const WORDS: [(&str, What); 17] = [
+    ("clock", What::Clock),
+    ("open", What::Open),
+    ("piece", What::Piece),
+    ("in", What::In),
+    ("round", What::Round),
+    ("listen", What::Listen),
+    ("step", What::Step),
+    ("speak", What::Speak),
+    ("shut", What::Shut),
+    ("break", What::Break),
+    ("stall", What::Stall),
+    ("bind", What::Bind),
+    ("start", What::Start),
+    ("told", What::Told),
+    ("quit", What::Quit),
+    ("uplink", What::Uplink),
+    ("moment", What::Moment),
+];
+
+fn what_of(word: &str) -> What {
+    for (name, what) in WORDS {
+        if word == name {
+            return what;
+        }
+    }
+    What::Moment
+}
+
+fn number(word: Option<&str>) -> u32 {
+    match word {
+        Some(word) => word.parse().unwrap_or(0),
+        None => 0,
+    }
+}
+
+// Appends the octets of a word: their name or their digits, as often as it says behind a star.
+fn append(alloc: Global, octets: &mut Vec<u8>, word: &str) -> Result<(), AllocError> {
+    let (word, times) = word.split_once('*').unwrap_or((word, "1"));
+    let Ok(part) = hex::decode(alloc, hex_of(word)) else {
+        return Err(AllocError);
+    };
+    for _ in 0..number(Some(times)) {
+        octets.extend_from_slice(&part)?;
+    }
+    Ok(())
+}
+
+// The step of a line: its word, its door or its only number, and a further number or octets.
+pub fn step_of(alloc: Global, line: &str) -> Result<Step, AllocError> {
+    let mut words = line.split_whitespace();
+    let what = what_of(words.next().unwrap_or(""));
+    let door = number(words.next());
+    let mut octets = Vec::new(alloc);
+    let mut last = 0;
+    for word in words {
+        if matches!(what, What::Piece | What::In) {
+            append(alloc, &mut octets, word)?;
+        } else {
+            last = number(Some(word));
+        }
+    }
+    Ok(Step {
+        what,
+        door,
+        number: last,
+        octets: Octets::from_vec(alloc, octets)?,
+    })
+}
