@@ -11,6 +11,7 @@ pub mod EntriesFacts
 pub mod Desk
 pub mod DeskFacts
 pub mod Buffers
+pub mod Readable
 pub mod Pass
 pub mod Held
 pub mod Stopped

@@ -1,13 +1,16 @@
 // The promises of every script, each the contract of an empty function: a caller has it by the
 // call. They follow from the facts of each line alone.
-ghost use Rattle.std.specs.Prelude.{◌≡◌, ℕ, ◌≤◌, List, ◌∷◌};
+ghost use Rattle.std.specs.Prelude.{◌≡◌, ℕ, ◌≤◌, List, ◌∷◌, map};
+ghost use Rattle.std.specs.List.{AllByRecursion};
 ghost use Rattle.cds_time.specs.declared.cds.Cds.{Cds};
 ghost use Rattle.drill_text.specs.declared.script_line.ScriptLine.{ScriptLine};
 ghost use Rattle.station_law.specs.State.{State, start, moment};
-ghost use Rattle.station_law.specs.Said.{Handed, handed_by};
-ghost use Rattle.station_law.specs.Desk.{desk, desk_buffers, handed_at_start};
+ghost use Rattle.isp1_tml.specs.Message.{IsMessage};
+ghost use Rattle.station_law.specs.Said.{Told, Handed, handed_by, buffer_message};
+ghost use Rattle.station_law.specs.Readable.{AreReadable};
+ghost use Rattle.station_law.specs.Desk.{desk, desk_buffers, told_desk, handed_at_start};
 ghost use Rattle.station_law.specs.Sound.{items_of};
-ghost use Rattle.archive_terms.specs.Archive.{Entry};
+ghost use Rattle.archive_terms.specs.Archive.{Entry, IsArchive};
 ghost use Rattle.station_law.specs.Runs.{Headline, ending, ending_of, in_order, all_fine};
 ghost use Rattle.station_law.specs.Lines.{step, step_text};
 ghost use Rattle.station_law.specs.LinesFacts.{Laws};
@@ -36,6 +39,23 @@ pub fn a_start_hands_over()
         → items_of (handed_at_start entries first last quality).buffers
         ≡ desk_buffers entries first last quality }
 {}
+
+/// A user reads of each buffer that a START of the desk hands over just what it says, and each is a
+/// message of the transport.
+pub fn a_start_is_read()
+    ensures readable { (entries : List Entry) (first last : Cds) (quality : ℕ) → IsArchive entries
+        → AreReadable (told_desk entries first last quality) }
+    ensures messages { (told : List Told) → AreReadable told
+        → AllByRecursion IsMessage (map buffer_message told) }
+{
+    archive_terms::laws::cut_into_buffers();
+    archive_terms::laws::offline_buffers_hold_a_prefix();
+    ber_core::laws::canonical_spells();
+    return_pdu::laws::buffers_are_exact();
+    return_pdu::laws::end_is_plain();
+    return_pdu::laws::frames_are_plain();
+    return_pdu::laws::frames_are_short();
+}
 
 /// How a script ends: with a bad line exactly where one is in no right state or outside the
 /// grammar, else with an entry refused as Full exactly where one was, else with all done.
