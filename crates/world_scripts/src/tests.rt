@@ -425,6 +425,35 @@ full 19 17
 full 17 0
 ";
 
+// A line whose text can't be written changes nothing, and lines behind it go on as if it weren't
+// there.
+#[test]
+fn a_failed_write_leaves_the_world_as_it_was(rt: HostRuntime) -> Result<(), Fail> {
+    let alloc = rt.alloc();
+    let Ok(mut world) = world_of(alloc, "") else {
+        return Err(Fail::from("refused"));
+    };
+    let mut output = MemorySink::new(alloc, vec![in alloc; 1]?);
+    let lines = [
+        ("frame 20000/1000/0 0 41 0 0010a1", Ok(StepDone::Fine)),
+        ("frame 20000/0/0 0 41 0 0010a2", Err(Stop::WriteFault)),
+        ("mark 20000/1000/0", Ok(StepDone::Fine)),
+        ("start 20000/0/0 20000/1000/0 0", Ok(StepDone::Fine)),
+    ];
+    for (line, done) in lines {
+        assert_eq!(rt; do_line(alloc, &mut world, line, &mut output), done, "{line}");
+        assert!(rt; !world.disk().is_stopped());
+    }
+    assert_eq!(rt; output.written(), HALF_A_LINE_AND_ONE_FRAME.as_bytes());
+    Ok(())
+}
+
+// The output writes the first half of what it fails at.
+const HALF_A_LINE_AND_ONE_FRAME: &str = "\
+backsent 0 0100000000000020a81ea01c800080084e20000003e800008101410201ff020100800004030010a1
+sent 0 0100000000000008a806a10480008300
+";
+
 // The digits of so many octets 55 between two texts.
 fn with_digits(
     alloc: Global,
