@@ -5,6 +5,7 @@ usage: program.py PROGRAM LAUNCHER
 
 Each expected output stands here as docs/PROFILE.md has it. The last line says how many checks passed.
 """
+import fcntl
 import os
 import resource
 import subprocess
@@ -43,14 +44,15 @@ def run(words, script=b"", **more):
     return done.returncode, done.stdout, done.stderr
 
 
-# ---- words: `drill` alone is a command
+# ---- words: `drill` alone, `init` and `list` with a path
 
 def words():
     check("drill, an empty script", run([b"drill"]), (0, b"", b""))
     outside = [
         [], [b""], [b"drill", b""], [b"", b"drill"], [b"drill", b"drill"], [b"drill", b"x"], [b"drills"], [b"dril"],
         [b"Drill"], [b"DRILL"], [b" drill"], [b"drill "], [b"drill\n"], [b"-drill"], [b"--", b"drill"], [b"help"],
-        [b"--help"], [b"-h"], [b"run"], [b"init", b"x"], [b"list", b"x"], [b"rehearse", b"7"],
+        [b"--help"], [b"-h"], [b"run"], [b"init"], [b"list"], [b"init", b"x", b"y"], [b"list", b"x", b""], [b"x", b"init"],
+        [b"Init", b"x"], [b"inits", b"x"], [b"list ", b"x"], [b"-list", b"x"], [b"list\n", b"x"], [b"rehearse", b"7"],
         # words that aren't UTF-8
         [b"\xff"], [b"drill\xff"], [b"drill", b"\xff"], [b"\xff", b"drill"], [b"\xc3\x28"],
     ]
@@ -143,6 +145,82 @@ def faults():
     check("want of memory", run([b"drill"], FRAMES, preexec_fn=limit), (70, b"", b""))
 
 
+# ---- archive files
+
+HEADER = bytes.fromhex("534c454100000001")
+# an entry of each kind: a frame in a batch of its own, and the others in one
+FRAME_BATCH = bytes.fromhex("a5 00000018 0001 01 00 4e20000003e80000 00 01 41 00000000 00000003 0010a1")
+OTHERS = [("02 01 4e20000003e80000000c 03 00 02", b"loss 20000/1000/12p 3 0 2\n"), ("03 02", b"production 2\n"),
+          ("04 00 4e20000003e80007", b"mark 20000/1000/7\n")]
+BATCH = bytes.fromhex("".join(octets for octets, _ in OTHERS))
+FILE = HEADER + FRAME_BATCH + b"\xa5" + len(BATCH).to_bytes(4, "big") + b"\0\3" + BATCH + b"\0"
+LINES = FRAMES[:33] + b"".join(line for _, line in OTHERS)
+
+
+def files():
+    with tempfile.TemporaryDirectory() as folder:
+        path = os.path.join(folder, "archive")
+
+        def written():
+            with open(path, "rb") as file:
+                return file.read()
+
+        def holding(octets):
+            with open(path, "wb") as file:
+                file.write(octets)
+
+        check("list of no file", (run([b"list", path.encode()]), os.path.exists(path)), ((8, b"disk fault\n", b""), False))
+        check("init", (run([b"init", path.encode()]), written()), ((0, b"made\n", b""), HEADER + b"\0"))
+        check("init of a file that is one", (run([b"init", path.encode()]), written()),
+              ((5, b"archive refused 0\n", b""), HEADER + b"\0"))
+        check("list of a new file", (run([b"list", path.encode()]), written()), ((0, b"", b""), HEADER + b"\0"))
+        holding(b"x")
+        check("init of another file", (run([b"init", path.encode()]), written()), ((5, b"archive refused 0\n", b""), b"x"))
+        holding(b"")
+        check("init of an empty file", (run([b"init", path.encode()]), written()), ((0, b"made\n", b""), HEADER + b"\0"))
+        for octets, status, output in [
+            (FILE, 0, LINES),
+            # what stands behind the closed gate isn't read
+            (FILE + FRAME_BATCH, 0, LINES),
+            (b"", 5, b"archive refused 0\n"),
+            (HEADER[:7], 5, b"archive refused 7\n"),
+            (HEADER[:7] + b"\2\0", 5, b"archive refused 7\n"),
+            (HEADER, 5, b"archive refused 8\n"),
+            (HEADER + b"\xa5", 5, b"archive refused 9\n"),
+            (FILE[:-1], 5, b"archive refused %d\n" % (len(FILE) - 1)),
+            # the entry's kind, a frame's quality, and a time that goes back
+            (HEADER + FRAME_BATCH[:7] + b"\5" + FRAME_BATCH[8:] + b"\0", 5, b"archive refused 15\n"),
+            (HEADER + FRAME_BATCH[:17] + b"\3" + FRAME_BATCH[18:] + b"\0", 5, b"archive refused 25\n"),
+            (FILE[:-1] + FRAME_BATCH + b"\0", 5, b"archive refused %d\n" % (len(FILE) - 1 + 8)),
+        ]:
+            holding(octets)
+            check(f"list of {octets[:48].hex()}", (run([b"list", path.encode()]), written()), ((status, output, b""), octets))
+        # a file that can't be opened, made, locked or written
+        for word in [b"init", b"list"]:
+            check(f"{word}, a folder", run([word, folder.encode()]), (8, b"disk fault\n", b""))
+            check(f"{word}, in no folder", run([word, (folder + "/none/archive").encode()]), (8, b"disk fault\n", b""))
+            check(f"{word}, an empty path", run([word, b""]), (8, b"disk fault\n", b""))
+        holding(FILE)
+        with open(path, "rb+") as file:
+            fcntl.flock(file, fcntl.LOCK_EX)
+            for word in [b"init", b"list"]:
+                check(f"{word}, another's file", (run([word, path.encode()]), written()), ((8, b"disk fault\n", b""), FILE))
+        with open("/dev/full", "wb") as full:
+            for name, words in [("list", [b"list", path.encode()]), ("init", [b"init", path.encode()]),
+                                ("list of no file", [b"list", (path + "2").encode()])]:
+                done = subprocess.run([PROGRAM, *words], stdout=full, stderr=subprocess.PIPE, timeout=60)
+                check(f"write fault of {name}", (done.returncode, done.stderr), (7, b""))
+        check("a failed write leaves the file", written(), FILE)
+        # the input is left as it was, and a path may be any word that is text
+        odd = os.path.join(folder, "--help \u00e4")
+        with tempfile.TemporaryFile() as script:
+            script.write(FRAMES)
+            script.seek(0)
+            check("an odd path", run([b"init", odd.encode()], stdin=script), (0, b"made\n", b""))
+            check("an odd path, input", os.lseek(script.fileno(), 0, os.SEEK_CUR), 0)
+        check("a list is a script", run([b"drill"], LINES + b"start 20000/0/0 20000/1000/0 0\n"), (0, FIRST + END, b""))
+
+
 # ---- the launcher
 
 def launcher():
@@ -155,6 +233,7 @@ words()
 statuses()
 lengths()
 faults()
+files()
 launcher()
 print(f"{passed} passed, {failed} failed")
 sys.exit(failed > 0)
