@@ -455,7 +455,7 @@ fn a_new_archive_is_made_on_an_empty_disk_alone(rt: HostRuntime) -> Result<(), F
     assert_eq!(rt; provide(rt.alloc(), &["init", "a"], &mut kit), 5);
     assert_eq!(rt; provide(rt.alloc(), &["list", "a"], &mut kit), 0);
     assert_eq!(rt; kit.output.written(), b"made\narchive refused 0\n".as_slice());
-    let Some(disk) = kit.disk else {
+    let Some(disk) = &kit.disk else {
         return Err(Fail::from("no disk"));
     };
     assert_eq!(rt; disk.content(), b"SLEA\x00\x00\x00\x01\x00".as_slice());
@@ -483,7 +483,7 @@ fn a_list_has_a_line_for_each_entry_or_the_place_of_the_first_fault(
         let mut kit = kit_with(&rt, file, &[])?;
         assert_eq!(rt; provide(rt.alloc(), &["list", "a"], &mut kit), status);
         assert_eq!(rt; kit.output.written(), written);
-        let Some(disk) = kit.disk else {
+        let Some(disk) = &kit.disk else {
             return Err(Fail::from("no disk"));
         };
         assert_eq!(rt; disk.content(), file);
