@@ -142,8 +142,12 @@ closes_by before after f g text own exit (Ok done) is wrote =
 closes_by before after f g text own exit (Err stops.WriteFault) is wrote =
     inr (inl (is, wrote.front, wrote.raised refl))
 closes_by before after f g text own exit (Err stops.Memory) is wrote =
-    inr (inr (is, wrote.front, unraised before after f g text (Err stops.Memory) wrote
-    (λ e. absurd cc)))
+    inr (inr (
+      is,
+      wrote.front,
+      unraised before after f g text (Err stops.Memory) wrote
+          (λ e. absurd cc),
+    ))
 
 -- an exit code that is a status's
 pub ends_as : (exit : ℕ) (IsSo : Status → Type 0) (status : Status) → exit ≡ code status

@@ -14,7 +14,7 @@ use disk_model::Disk;
 use drill_text::write_entry_line;
 use gate_journal::{Journal, JournalFault};
 use octet_core::{Octets, Sink};
-use record_form::Entry;
+use record_form::{Entries, Entry};
 use station_law::Stop;
 use std::alloc::Global;
 
@@ -53,7 +53,7 @@ pub fn list_archive<D: Disk, O: Sink>(alloc: Global, disk: D, output: &mut O) ->
     gate_journal::laws::a_file_stands_for_one_list();
     match Journal::recover(alloc, disk) {
         Ok((journal, entries)) => {
-            let exit = close(put_entries(alloc, entries.as_slice(), output), Status::Done);
+            let exit = list_entries(alloc, &entries, output);
             (exit, journal.into_disk())
         }
         Err((fault, disk)) => (tell_fault(alloc, fault, output), disk),
@@ -99,6 +99,15 @@ fn tell_fault<O: Sink>(alloc: Global, fault: JournalFault, output: &mut O) -> u8
         JournalFault::Memory => Status::Memory.code(),
         JournalFault::Full { .. } | JournalFault::Stale => unreachable!(),
     }
+}
+
+// Writes the lines that offer entries as a command's whole text, and answers the exit code.
+fn list_entries<O: Sink>(alloc: Global, entries: &Entries, output: &mut O) -> u8
+    ensures { Closes (O.written output.old) (O.written output.new)
+        (O.faults output.old) (O.faults output.new)
+        (entries_text (filter is_storable entries.now)) Status.Done result }
+{
+    close(put_entries(alloc, entries.as_slice(), output), Status::Done)
 }
 
 // Writes the lines that offer entries.

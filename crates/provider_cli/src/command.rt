@@ -13,7 +13,11 @@ pub fn plan(alloc: Global, words: &[&str]) -> Result<Option<Plan>, Memory>
     ensures memory { OnErr result (NeedsDisk (plan_of (map (λ word. word.now) words.now))) }
 {
     match words {
-        [word] => Ok(if *word == "drill" { Some(Plan::Drill) } else { None }),
+        [word] => Ok(if *word == "drill" {
+            Some(Plan::Drill)
+        } else {
+            None
+        }),
         [word, value] => plan_of_two(alloc, word, value),
         _ => Ok(None),
     }

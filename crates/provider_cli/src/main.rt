@@ -6,6 +6,7 @@
 // `provide` is the program over any input, output and disk; `main` gives it the standard ones, and
 // the disk over the file of a path.
 #![tactic(auto)]
+
 ghost use Rattle.std.specs.Prelude.{IfOk, IsSome, map};
 ghost use Rattle.provider_cli.specs.Command.{plan_of, NeedsDisk};
 

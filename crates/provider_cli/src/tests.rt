@@ -444,7 +444,8 @@ fn the_plain_program_and_the_desk_give_one_text(rt: HostRuntime) -> Result<(), F
 // The first octets of each archive file, and one frame in a batch of its own.
 const HEADER: &[u8] = b"SLEA\x00\x00\x00\x01";
 
-const ONE_FRAME: &[u8] = b"SLEA\x00\x00\x00\x01\xa5\x00\x00\x00\x18\x00\x01\x01\x00\x4e\x20\x00\x00\x03\xe8\x00\x00\x00\x01\x41\x00\x00\x00\x00\x00\x00\x00\x03\x00\x10\xa1\x00";
+const ONE_FRAME: &[u8] =
+    b"SLEA\x00\x00\x00\x01\xa5\x00\x00\x00\x18\x00\x01\x01\x00\x4e\x20\x00\x00\x03\xe8\x00\x00\x00\x01\x41\x00\x00\x00\x00\x00\x00\x00\x03\x00\x10\xa1\x00";
 
 const ONE_FRAME_LINE: &[u8] = b"frame 20000/1000/0 0 41 0 0010a1\n";
 
@@ -454,7 +455,10 @@ fn a_new_archive_is_made_on_an_empty_disk_alone(rt: HostRuntime) -> Result<(), F
     assert_eq!(rt; provide(rt.alloc(), &["init", "a"], &mut kit), 0);
     assert_eq!(rt; provide(rt.alloc(), &["init", "a"], &mut kit), 5);
     assert_eq!(rt; provide(rt.alloc(), &["list", "a"], &mut kit), 0);
-    assert_eq!(rt; kit.output.written(), b"made\narchive refused 0\n".as_slice());
+    assert_eq!(rt;
+        kit.output.written(),
+        b"made\narchive refused 0\n".as_slice()
+    );
     let Some(disk) = &kit.disk else {
         return Err(Fail::from("no disk"));
     };

@@ -441,7 +441,11 @@ fn a_failed_write_leaves_the_world_as_it_was(rt: HostRuntime) -> Result<(), Fail
         ("start 20000/0/0 20000/1000/0 0", Ok(StepDone::Fine)),
     ];
     for (line, done) in lines {
-        assert_eq!(rt; do_line(alloc, &mut world, line, &mut output), done, "{line}");
+        assert_eq!(rt;
+            do_line(alloc, &mut world, line, &mut output),
+            done,
+            "{line}"
+        );
         assert!(rt; !world.disk().is_stopped());
     }
     assert_eq!(rt; output.written(), HALF_A_LINE_AND_ONE_FRAME.as_bytes());

@@ -2,7 +2,6 @@ use Rattle.std.specs.List.{filter}
 use Rattle.archive_terms.specs.Archive.{is_storable}
 use Rattle.provider_cli.specs.Archives.{listed}
 use Rattle.provider_cli.proofs.Lists.{leaves_listed, complete_listed}
-use Rattle.provider_cli.proofs.Outcomes.{closes_by}
 use Rattle.provider_cli.proofs.archive_file.list_archive.Goals as goal
 
 pub returns-in-Ok : goal.returns-in-Ok
@@ -14,6 +13,5 @@ returns-in-Ok g c = record {
       c.in-Ok.entries c.in-Ok.journal.gate c.in-Ok.ensures.stands
       c.a_file_stands_for_one_list.ensures.list;
   any_moment = rw c.into_disk.ensures c.in-Ok.ensures.any_moment;
-  closes = closes_by _ _ _ _ _ _ _ c.put_entries.result c.close-exit.ensures
-      (rw c.as_slice.ensures at c.put_entries.ensures);
+  closes = c.list_entries-exit.ensures;
 }
