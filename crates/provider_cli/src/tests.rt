@@ -3,9 +3,9 @@
 use crate::lines::split_line;
 use crate::plain;
 use crate::provide::{Equipment, provide};
-use disk_model::{Disk, MemoryDisk, Orders};
+use disk_model::MemoryDisk;
 use drill_text::{ScriptLine, parse_line};
-use octet_core::{FailingCalls, MemorySink, MemorySource, Octets};
+use octet_core::{MemorySink, MemorySource, Octets};
 use std::process::Abort;
 use std::test::Fail;
 
@@ -168,13 +168,6 @@ fn long_kit_of(rt: &HostRuntime, script: Vec<u8>) -> Result<Kit, Fail> {
         output: MemorySink::new(rt.alloc(), Vec::new(rt.alloc())),
         disk: None,
     })
-}
-
-// The kit with a file of these octets, and an output that fails at these writes.
-fn kit_with(rt: &HostRuntime, file: &[u8], failing_writes: &[u64]) -> Result<Kit, Fail> {
-    let mut kit = kit_of(rt, &[], &[], failing_writes)?;
-    kit.disk = Some(MemoryDisk::holding(rt.alloc(), file)?);
-    Ok(kit)
 }
 
 #[test]
@@ -438,98 +431,5 @@ fn the_plain_program_and_the_desk_give_one_text(rt: HostRuntime) -> Result<(), F
         assert_eq!(rt; provide(rt.alloc(), &["drill"], &mut kit), 0);
         assert_eq!(rt; kit.output.written(), text.as_slice());
     }
-    Ok(())
-}
-
-// The first octets of each archive file, and one frame in a batch of its own.
-const HEADER: &[u8] = b"SLEA\x00\x00\x00\x01";
-
-const ONE_FRAME: &[u8] =
-    b"SLEA\x00\x00\x00\x01\xa5\x00\x00\x00\x18\x00\x01\x01\x00\x4e\x20\x00\x00\x03\xe8\x00\x00\x00\x01\x41\x00\x00\x00\x00\x00\x00\x00\x03\x00\x10\xa1\x00";
-
-const ONE_FRAME_LINE: &[u8] = b"frame 20000/1000/0 0 41 0 0010a1\n";
-
-#[test]
-fn a_new_archive_is_made_on_an_empty_disk_alone(rt: HostRuntime) -> Result<(), Fail> {
-    let mut kit = kit_with(&rt, &[], &[])?;
-    assert_eq!(rt; provide(rt.alloc(), &["init", "a"], &mut kit), 0);
-    assert_eq!(rt; provide(rt.alloc(), &["init", "a"], &mut kit), 5);
-    assert_eq!(rt; provide(rt.alloc(), &["list", "a"], &mut kit), 0);
-    assert_eq!(rt;
-        kit.output.written(),
-        b"made\narchive refused 0\n".as_slice()
-    );
-    let Some(disk) = &kit.disk else {
-        return Err(Fail::from("no disk"));
-    };
-    assert_eq!(rt; disk.content(), b"SLEA\x00\x00\x00\x01\x00".as_slice());
-    Ok(())
-}
-
-// A file, the exit code of its list, and what is written.
-const FILES: [(&[u8], u8, &[u8]); 8] = [
-    (ONE_FRAME, 0, ONE_FRAME_LINE),
-    (b"SLEA\x00\x00\x00\x01\x00", 0, b""),
-    // What stands behind a closed gate isn't read.
-    (b"SLEA\x00\x00\x00\x01\x00\xa5\x00", 0, b""),
-    (b"", 5, b"archive refused 0\n"),
-    (b"SLEA\x00\x00\x00", 5, b"archive refused 7\n"),
-    (b"SLEA\x00\x00\x00\x02\x00", 5, b"archive refused 7\n"),
-    (HEADER, 5, b"archive refused 8\n"),
-    (b"SLEA\x00\x00\x00\x01\xa5", 5, b"archive refused 9\n"),
-];
-
-#[test]
-fn a_list_has_a_line_for_each_entry_or_the_place_of_the_first_fault(
-    rt: HostRuntime,
-) -> Result<(), Fail> {
-    for (file, status, written) in FILES {
-        let mut kit = kit_with(&rt, file, &[])?;
-        assert_eq!(rt; provide(rt.alloc(), &["list", "a"], &mut kit), status);
-        assert_eq!(rt; kit.output.written(), written);
-        let Some(disk) = &kit.disk else {
-            return Err(Fail::from("no disk"));
-        };
-        assert_eq!(rt; disk.content(), file);
-    }
-    Ok(())
-}
-
-#[test]
-fn a_disk_that_fails_is_told_and_a_failed_write_stands_before_it(
-    rt: HostRuntime,
-) -> Result<(), Fail> {
-    for (word, calls) in [("init", 2), ("list", 1)] {
-        for call in 1..=calls {
-            for (failing_writes, status, written) in [
-                ([].as_slice(), 8, b"disk fault\n".as_slice()),
-                ([1].as_slice(), 7, b"disk ".as_slice()),
-            ] {
-                let mut kit = kit_with(&rt, &[], failing_writes)?;
-                let mut disk = MemoryDisk::new(rt.alloc());
-                disk.steer(Orders {
-                    failing: FailingCalls::new([call].to_vec(rt.alloc())?),
-                    stop: None,
-                });
-                kit.disk = Some(disk);
-                assert_eq!(rt; provide(rt.alloc(), &[word, "a"], &mut kit), status);
-                assert_eq!(rt; kit.output.written(), written);
-            }
-        }
-    }
-    Ok(())
-}
-
-#[test]
-fn an_output_that_fails_leaves_what_begins_the_text_of_a_file(rt: HostRuntime) -> Result<(), Fail> {
-    let mut kit = kit_with(&rt, &[], &[1])?;
-    assert_eq!(rt; provide(rt.alloc(), &["init", "a"], &mut kit), 7);
-    assert_eq!(rt; kit.output.written(), b"ma".as_slice());
-    let mut kit = kit_with(&rt, ONE_FRAME, &[1])?;
-    assert_eq!(rt; provide(rt.alloc(), &["list", "a"], &mut kit), 7);
-    assert!(rt; ONE_FRAME_LINE.starts_with(kit.output.written()));
-    let mut kit = kit_with(&rt, b"x", &[1])?;
-    assert_eq!(rt; provide(rt.alloc(), &["list", "a"], &mut kit), 7);
-    assert_eq!(rt; kit.output.faults(), 1);
     Ok(())
 }
