@@ -6,7 +6,7 @@ ghost use Rattle.std.specs.Prelude.{IsErrOf, Ok, Err};
 ghost use Rattle.std.specs.List.{list_all};
 ghost use Rattle.octet_core.specs.Fault.{FailsOnlyByFault, Rose};
 ghost use Rattle.archive_terms.specs.Archive.{Entry, IsArchive, is_storable};
-ghost use Rattle.disk_model.specs.Images.{with_range, all_synced};
+ghost use Rattle.disk_model.specs.Images.{with_range, all_synced, written_and_synced};
 ghost use Rattle.disk_model.specs.Moments.{IsImageOf, HoldsThroughout};
 ghost use Rattle.disk_model.specs.Calls.{AllMade, FailedAtOne, RunsCalls};
 ghost use Rattle.disk_model.specs.MemoryDisk.{steered};
@@ -285,6 +285,22 @@ fn put<D: Disk>(disk: &mut D, gate: u64, octets: &[u8]) -> Result<(), Failed>
 {
     record_form::laws::read_back();
     write_synced(disk, gate + 1, octets)?;
+    open_gate(disk, gate)
+}
+
+// Opens the gate that stands at this place, and syncs it.
+fn open_gate<D: Disk>(disk: &mut D, gate: u64) -> Result<(), Failed>
+    requires { gate ≤ D.extent disk.old }
+    ensures written { OnOk result (D.pending disk.new ≡ option_map
+        (written_and_synced gate (165 ∷ [])) (D.pending disk.old)) }
+    ensures size { OnOk result (D.extent disk.new ≡ max (D.extent disk.old) (gate + 1)) }
+    ensures any_moment { HoldsThroughout D.moment D.images_since disk.old disk.new (IsImageOf
+        (option_map (with_range gate 1 []) (D.pending disk.old))) }
+    ensures tells { is_some (D.pending disk.new) ≡ is_some (D.pending disk.old) }
+    ensures calls { RunsCalls D.makes D.fails disk.old (Write gate (165 ∷ []) ∷ Sync ∷ []) disk.new
+        result }
+    ensures cause { FailsOnlyByFault (D.faults disk.old) (D.faults disk.new) result }
+{
     write_synced(disk, gate, &[OPEN])
 }
 

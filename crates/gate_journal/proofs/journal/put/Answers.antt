@@ -14,23 +14,23 @@ returns-in_err-write_synced-clause-any_moment g c batch ready entries keeps =
 
 pub returns-clause-added : goal.returns-clause-added
 returns-clause-added g c =
-    follows_if_ok c.write_synced-2.result c.write_synced-2.ensures.written
+    follows_if_ok c.open_gate.result c.open_gate.ensures.written
     (added c.read_back.ensures (g.D.Disk.pending c.args.disk.now)
-    (g.D.Disk.pending c.write_synced.new.disk) (g.D.Disk.pending c.write_synced-2.new.disk)
+    (g.D.Disk.pending c.write_synced.new.disk) (g.D.Disk.pending c.open_gate.new.disk)
     c.args.gate c.args.octets.now c.requires.at_rest c.in_ok-write_synced.ensures.written)
 
 pub returns-clause-at_rest : goal.returns-clause-at_rest
 returns-clause-at_rest g c =
-    follows_if_ok c.write_synced-2.result c.write_synced-2.ensures.written
+    follows_if_ok c.open_gate.result c.open_gate.ensures.written
     (rests_again c.read_back.ensures (g.D.Disk.pending c.args.disk.now)
-    (g.D.Disk.pending c.write_synced.new.disk) (g.D.Disk.pending c.write_synced-2.new.disk)
+    (g.D.Disk.pending c.write_synced.new.disk) (g.D.Disk.pending c.open_gate.new.disk)
     c.args.gate c.args.octets.now c.requires.at_rest c.in_ok-write_synced.ensures.written)
 
 pub returns-clause-any_moment : goal.returns-clause-any_moment
 returns-clause-any_moment g c batch ready entries keeps =
     let old = c.args.disk.now in
     let mid = c.write_synced.new.disk in
-    let new = c.write_synced-2.new.disk in
+    let new = c.open_gate.new.disk in
     let P = IsOldOrNew entries batch in
     and_then g.D.Disk.moment g.D.Disk.images_since old mid new P
     (weaker g.D.Disk.moment g.D.Disk.images_since old mid _ P
@@ -40,12 +40,12 @@ returns-clause-any_moment g c batch ready entries keeps =
     (second_holds c.read_back.ensures (g.D.Disk.pending old) (g.D.Disk.pending mid) c.args.gate
     c.args.octets.now c.requires.at_rest c.in_ok-write_synced.ensures.written batch ready
     entries keeps)
-    c.write_synced-2.ensures.any_moment)
+    c.open_gate.ensures.any_moment)
 
 pub returns-clause-calls : goal.returns-clause-calls
 returns-clause-calls g c =
-    runs_and g.D.Disk.makes g.D.Disk.fails c.write_synced-2.result
+    runs_and g.D.Disk.makes g.D.Disk.fails c.open_gate.result
     (Write (c.args.gate + 1) c.args.octets.now ∷ Sync ∷ [])
     (Write c.args.gate (165 ∷ []) ∷ Sync ∷ [])
-    c.args.disk.now c.write_synced.new.disk c.write_synced-2.new.disk
-    c.in_ok-write_synced.ensures.calls c.write_synced-2.ensures.calls
+    c.args.disk.now c.write_synced.new.disk c.open_gate.new.disk
+    c.in_ok-write_synced.ensures.calls c.open_gate.ensures.calls
