@@ -331,10 +331,7 @@ impl<D: Disk> FrameArchive<D> {
             Err(fault) => return Err(as_opening(fault)),
         };
         let landed = landed(self.count, self.failed, found.len() as u64)?;
-        let lost = match self.waiting.split_off(landed) {
-            Ok(lost) => lost,
-            Err(_) => return Err(ArchiveFault::Memory),
-        };
+        let lost = lost(&mut self.waiting, landed)?;
         self.count = found.len() as u64;
         self.used = self.journal.used();
         self.times = times_of(found.as_slice());
@@ -409,6 +406,20 @@ fn landed(count: u64, failed: usize, found: u64) -> Result<usize, ArchiveFault>
         expected: count,
         found,
     })
+}
+
+// Takes off the entries behind those that landed.
+fn lost(waiting: &mut Entries, landed: usize) -> Result<Entries, ArchiveFault>
+    requires { landed ≤ length waiting.old }
+    ensures landed { OnOk result (waiting.new ≡ take landed waiting.old) }
+    ensures lost { IfOk result (λ lost. lost ≡ drop landed waiting.old) }
+    ensures still { OnErr result (waiting.new ≡ waiting.old) }
+    ensures memory { IfErr result (λ fault. fault ≡ ArchiveFault.Memory) }
+{
+    match waiting.split_off(landed) {
+        Ok(lost) => Ok(lost),
+        Err(_) => Err(ArchiveFault::Memory),
+    }
 }
 
 // Why an archive isn't opened, where its journal isn't recovered.

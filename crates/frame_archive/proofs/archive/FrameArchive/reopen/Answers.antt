@@ -47,5 +47,5 @@ returns-clause-acknowledged g c entries old =
     entries c.in-Ok.found c.replace-landed.result c.in_ok-landed.landed
     c.len-2.ensures (c.times_of-self-inside.ensures
     ∙ ap times_of c.as_slice.ensures) (c.replace-landed.ensures.after ∙ c.new.ensures)
-    (c.replace-landed.ensures.value ∙ c.in-Ok-split_off.ensures.front) found c.in-Ok.ensures.keeps
+    (c.replace-landed.ensures.value ∙ c.in_ok-lost.ensures.landed) found c.in-Ok.ensures.keeps
     seen
