@@ -1,33 +1,39 @@
 -- What a stop in an append leaves on a disk in memory.
 use Rattle.std.proofs.Common.{◌≡◌, ◌≢◌, ℕ, zero, suc, ◌+◌, ◌-◌, ◌<◌, ◌≤◌, nat_le, Bool, true, false}
-use Rattle.std.proofs.Common.{IsFalse, if◌then◌else◌, List, [], ◌∷◌, ◌++◌, length, drop, fold}
+use Rattle.std.proofs.Common.{IsFalse, if◌then◌else◌, List, [], ◌∷◌, ◌++◌, length, drop, fold, take}
 use Rattle.std.proofs.Common.{Option, Some, None, refl, sym, ◌∙◌, ap, subst, arith, append_assoc}
 use Rattle.std.specs.Option.{option_or}
 use Rattle.std.proofs.lemmas.Bool.Decides.{nat_tests}
+use Rattle.std.proofs.lemmas.Grind.{common_steps}
 use Rattle.std.proofs.lemmas.List.Sums.{fold-append}
 use Rattle.archive_terms.specs.Archive.{Entry, IsArchive}
+use Rattle.octet_core.specs.Fault.{last_count}
+use Rattle.octet_core.specs.FailingCalls.{Calls}
 use Rattle.record_form.specs.Reading.{ReadBack}
 use Rattle.disk_model.specs.Images.{Pending, all_synced, overwritten}
 use Rattle.disk_model.specs.Calls.{AllMade, FailedAtOne}
 use Rattle.disk_model.specs.MemoryDisk.{DiskState, Medium, RunIs, IsMadeCall, IsFailedCall}
 use Rattle.disk_model.specs.MemoryDisk.{run_as_ordered, calls_until_stop, medium_of, pending_of}
 use Rattle.disk_model.specs.MemoryDisk.{synced_medium, left_by, after_call, after_event, torn_half}
-use Rattle.disk_model.specs.MemoryDisk.{restarted, steered, pick_within, stop_past}
+use Rattle.disk_model.specs.MemoryDisk.{restarted, steered, pick_within, stop_past, content_of}
 use Rattle.disk_model.specs.declared.call.Call.{Call}
 use Rattle.disk_model.specs.declared.event.Event.TheVariants.{Restarted}
 use Rattle.disk_model.specs.declared.orders.Orders.{Orders}
 use Rattle.disk_model.specs.declared.orders.Pick.{Pick}
 use Rattle.disk_model.specs.declared.orders.Pick.TheVariants.{Old, New, Torn}
 use Rattle.disk_model.specs.declared.orders.Stop.{Stop}
-use Rattle.gate_journal.specs.File.{IsBatch, StandsAt, StandsFor}
+use Rattle.gate_journal.specs.File.{IsBatch, StandsAt, StandsFor, entries_octets}
 use Rattle.gate_journal.specs.Kept.{Keeps, IsAtRest, IsReady, IsToStop, StopsIn, KeepsOnRestart}
 use Rattle.gate_journal.specs.Kept.{appending, appending_octets, closed_batch, entries_left}
-use Rattle.gate_journal.specs.Kept.{leaves_batch}
+use Rattle.gate_journal.specs.Kept.{leaves_batch, HasBatch, IsToFail, FailsIn, holds_batch}
 use Rattle.gate_journal.proofs.Adding.{behind, content_is, entries_are, front_of, front_there}
 use Rattle.gate_journal.proofs.Adding.{octets_written, stands_closed, stands_whole, written_behind}
 use Rattle.gate_journal.proofs.Following.{follows_kept}
 
 -- ---- what the calls that a stop lets through leave by each pick
+
+closed_size : (batch : List Entry) → length (closed_batch batch) ≡ length (entries_octets batch) + 7
+closed_size batch = grind (arith, common_steps)
 
 torn_is_shut : ◌≢◌ {A = ℕ} 90 165
 torn_is_shut same = omega (arith, same)
@@ -85,29 +91,25 @@ module _ (told : Pending) (gate : ℕ) (at_rest : IsAtRest (Some told) gate) whe
   module _ (batch : List Entry) (law : ReadBack)
       (ready : IsReady (Some told) batch (closed_batch batch)) (entries : List Entry)
       (keeps : Keeps (Some told) entries) where
-    old : (file : List ℕ) → StandsAt at_rest.1 gate file → StandsFor entries file
-    old file stands = (
-      gate,
-      subst (λ (l : List Entry). StandsAt l gate file)
-          (entries_are told gate at_rest law entries keeps) stands,
-    )
+    old : (file : List ℕ) → StandsAt at_rest.1 gate file → StandsAt entries gate file
+    old file stands = subst (λ (l : List Entry). StandsAt l gate file)
+        (entries_are told gate at_rest law entries keeps) stands
 
-    new : StandsFor (entries ++ batch) (overwritten
+    new : StandsAt (entries ++ batch) (gate + (length (entries_octets batch) + 7)) (overwritten
         (overwritten told.content (gate + 1) (closed_batch batch)) gate (165 ∷ []))
-    new = (
-      gate + length (closed_batch batch),
-      subst (StandsAt (entries ++ batch) (gate + length (closed_batch batch)))
-          (sym (gate_is (closed_batch batch) 165))
-          (stands_whole told gate at_rest (closed_batch batch) batch law ready entries keeps),
-    )
+    new = subst (λ (n : ℕ). StandsAt (entries ++ batch) (gate + n) (overwritten
+        (overwritten told.content (gate + 1) (closed_batch batch)) gate (165 ∷ [])))
+        (closed_size batch)
+        (subst (StandsAt (entries ++ batch) (gate + length (closed_batch batch)))
+        (sym (gate_is (closed_batch batch) 165))
+        (stands_whole told gate at_rest (closed_batch batch) batch law ready entries keeps))
 
     abbrev let_through : ℕ → Medium
     let_through k = fold after_call (synced_medium told.content)
         (calls_until_stop k (appending gate batch))
 
-    left_at : (k : ℕ) (pick : Pick) → 0 < k → k ≤ 4
-        → StandsFor (if leaves_batch k pick then entries ++ batch else entries)
-        (left_by pick (let_through k))
+    pub left_at : (k : ℕ) (pick : Pick) → 0 < k → k ≤ 4
+        → HasBatch (leaves_batch k pick) entries batch gate (left_by pick (let_through k))
     left_at zero pick some most = absurd (omega arith)
     left_at (suc zero) Old some most = old told.content held
     left_at (suc zero) New some most =
@@ -138,6 +140,42 @@ module _ (told : Pending) (gate : ℕ) (at_rest : IsAtRest (Some told) gate) whe
         old (overwritten (overwritten told.content (gate + 1) (closed_batch batch)) gate (90 ∷ []))
         (stands_torn (closed_batch batch))
     left_at (suc (suc (suc (suc (suc k))))) pick some most = absurd (omega arith)
+
+    -- the calls before one that fails
+    abbrev made_before : ℕ → Medium
+    made_before k = fold after_call (synced_medium told.content)
+        (take (k - 1) (appending gate batch))
+
+    pub held_at : (k : ℕ) → 0 < k → k ≤ 4
+        → HasBatch (holds_batch k) entries batch gate (made_before k).pending.content
+    held_at zero some most = absurd (omega arith)
+    held_at (suc zero) some most = old told.content held
+    held_at (suc (suc zero)) some most =
+        old (overwritten told.content (gate + 1) (closed_batch batch))
+        (stands_behind (closed_batch batch))
+    held_at (suc (suc (suc zero))) some most =
+        old (overwritten told.content (gate + 1) (closed_batch batch))
+        (stands_behind (closed_batch batch))
+    held_at (suc (suc (suc (suc zero)))) some most = new
+    held_at (suc (suc (suc (suc (suc k))))) some most = absurd (omega arith)
+
+-- a file with the batch or without it stands for the entries with it or without it
+pub stands_with : (has : Bool) (entries batch : List Entry) (gate : ℕ) (file : List ℕ)
+    → HasBatch has entries batch gate file
+    → StandsFor (if has then entries ++ batch else entries) file
+stands_with true entries batch gate file stands =
+    (gate + (length (entries_octets batch) + 7), stands)
+stands_with false entries batch gate file stands = (gate, stands)
+
+-- a batch that may follow is ready to be put
+is_ready : (pending : Option Pending) (batch : List Entry) → ReadBack → IsBatch batch
+    → (entries : List Entry) → Keeps pending entries → IsArchive (entries ++ batch)
+    → IsReady pending batch (closed_batch batch)
+is_ready pending batch law is_batch entries keeps archive = record {
+  spelled = refl;
+  is_batch = is_batch;
+  archive = λ others kept. follows_kept law pending entries batch others keeps archive kept;
+}
 
 -- ---- the laws of the disk in memory
 
@@ -241,22 +279,98 @@ module _ (now : StopsNow) (ordered : FailedAsOrdered) (disk after : DiskState) (
       ∙ ap (λ (m : Medium). all_synced (left_by stop.pick m)) same
 
   -- and once it is restarted it holds these entries
-  pub keeps_left : SyncedIsAll → ReadBack → IsAtRest (Some (pending_of disk)) gate → IsBatch batch
+  module _ (synced : SyncedIsAll) (law : ReadBack) (at_rest : IsAtRest (Some (pending_of disk)) gate)
+      (is_batch : IsBatch batch) (entries : List Entry) (keeps : Keeps (Some (pending_of disk))
+      entries) (archive : IsArchive (entries ++ batch)) where
+    abbrev medium_left : Medium
+    medium_left = fold after_call (synced_medium (pending_of disk).content)
+        (calls_until_stop stop.calls (appending gate batch))
+
+    restarts : pending_of (restarted after stop.pick) ≡ all_synced (left_by stop.pick medium_left)
+    restarts = on_restart medium_left (medium_then synced at_rest)
+
+    there_then : HasBatch (leaves_batch stop.calls stop.pick) entries batch gate
+        (left_by stop.pick medium_left)
+    there_then = left_at (pending_of disk) gate at_rest batch law
+        (is_ready (Some (pending_of disk)) batch law is_batch entries keeps archive) entries keeps
+        stop.calls stop.pick is.some is.within
+
+    pub file_left : HasBatch (leaves_batch stop.calls stop.pick) entries batch gate
+        (content_of (restarted after stop.pick))
+    file_left = subst (λ (p : Pending).
+        HasBatch (leaves_batch stop.calls stop.pick) entries batch gate p.content) (sym restarts)
+        there_then
+
+    pub keeps_left : KeepsOnRestart after stop (entries_left entries batch stop)
+    keeps_left = subst (λ (p : Pending). Keeps (Some p) (entries_left entries batch stop))
+        (sym restarts) (
+          refl,
+          stands_with (leaves_batch stop.calls stop.pick) entries batch gate
+              (left_by stop.pick medium_left) there_then,
+        )
+
+-- ---- a call that fails
+
+-- a fault comes at its call
+abbrev pub FaultsNow : Type 0
+FaultsNow =
+    (disk : DiskState) (calls : List Call) (k : ℕ) → disk.stopped ≡ None → disk.stop ≡ None
+    → disk.calls.failing ≡ (disk.calls.made + k) ∷ [] → disk.calls.made + k ≤ last_count
+    → 0 < k → k ≤ length calls → RunIs disk calls false (take (k - 1) calls) None
+
+-- the orders of a fault
+pub is_to_fail_at : (disk : DiskState) (orders : Orders) (k : ℕ) → disk.stopped ≡ None
+    → orders.stop ≡ None → orders.failing ≡ record { failing = k ∷ []; made = 0 }
+    → IsToFail (steered disk orders) k
+is_to_fail_at disk orders k runs goes_on fails = record {
+  runs = ap (λ (p : Option Pick). option_or p (pick_within 0 orders.stop)) runs
+      ∙ ap (pick_within 0) goes_on;
+  goes_on = ap (stop_past 0) goes_on;
+  fails = fails;
+}
+
+module _ (now : FaultsNow) (disk : DiskState) (gate : ℕ) (batch : List Entry) (k : ℕ)
+    (is : IsToFail disk k) (some : 0 < k) (within : k ≤ 4) where
+  fault_run : RunIs disk (appending gate batch) false (take (k - 1) (appending gate batch)) None
+  fault_run =
+      let none : disk.calls.made ≡ 0 = ap (λ (c : Calls). c.made) is.fails in
+      let listed : disk.calls.failing ≡ k ∷ [] = ap (λ (c : Calls). c.failing) is.fails in
+      let first : disk.calls.made + k ≡ k = omega (arith, none) in
+      now disk (appending gate batch) k is.runs is.goes_on
+      (listed ∙ ap (λ (n : ℕ). n ∷ []) (sym first)) (omega (arith, none, within)) some within
+
+  -- an append at which a call is to fail isn't Ok
+  pub failed_is_no_ok : MadeAsOrdered → (after : DiskState)
+      → AllMade IsMadeCall disk (appending gate batch) after → ⊥
+  failed_is_no_ok ordered after made =
+      not_both (run_as_ordered disk (appending gate batch))
+      (ap (λ (r : Bool × DiskState). r.0) (ordered disk after (appending gate batch) made))
+      fault_run.answer
+
+module _ (now : FaultsNow) (ordered : FailedAsOrdered) (disk after : DiskState) (gate : ℕ)
+    (batch : List Entry) (k : ℕ) (is : FailsIn disk gate batch k after) where
+  run_failed : RunIs disk (appending gate batch) false (take (k - 1) (appending gate batch)) None
+  run_failed = fault_run now disk gate batch k is.ordered is.some is.within
+
+  there_failed : run_as_ordered disk (appending gate batch) ≡ (false, after)
+  there_failed = ordered disk after (appending gate batch) is.failed is.ample
+
+  -- the disk runs on
+  pub runs_on : after.stopped ≡ None
+  runs_on = ap (λ (r : Bool × DiskState). r.1.stopped) (sym there_failed) ∙ run_failed.stopped
+
+  -- and holds these entries
+  pub file_held : SyncedIsAll → ReadBack → IsAtRest (Some (pending_of disk)) gate → IsBatch batch
       → (entries : List Entry) → Keeps (Some (pending_of disk)) entries
       → IsArchive (entries ++ batch)
-      → KeepsOnRestart after stop (entries_left entries batch stop)
-  keeps_left synced law at_rest is_batch entries keeps archive =
-      let ready : IsReady (Some (pending_of disk)) batch (closed_batch batch) = record {
-        spelled = refl;
-        is_batch = is_batch;
-        archive = λ others kept. follows_kept law (Some (pending_of disk)) entries batch others
-            keeps archive kept;
-      } in
-      let medium = fold after_call (synced_medium (pending_of disk).content)
-      (calls_until_stop stop.calls (appending gate batch)) in
-      subst (λ (p : Pending). Keeps (Some p) (entries_left entries batch stop))
-      (sym (on_restart medium (medium_then synced at_rest))) (
-        refl,
-        left_at (pending_of disk) gate at_rest batch law ready entries keeps stop.calls
-            stop.pick is.some is.within,
-      )
+      → HasBatch (holds_batch k) entries batch gate (content_of after)
+  file_held synced law at_rest is_batch entries keeps archive =
+      let medium_is = ap (λ (r : Bool × DiskState). medium_of r.1) (sym there_failed)
+      ∙ run_failed.medium
+      ∙ ap (λ (m : Medium). fold after_call m (take (k - 1) (appending gate batch)))
+      (synced disk (pending_of disk).content at_rest.0) in
+      subst (λ (m : Medium). HasBatch (holds_batch k) entries batch gate m.pending.content)
+      (sym medium_is)
+      (held_at (pending_of disk) gate at_rest batch law
+      (is_ready (Some (pending_of disk)) batch law is_batch entries keeps archive) entries keeps k
+      is.some is.within)

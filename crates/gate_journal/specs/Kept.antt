@@ -1,7 +1,7 @@
 -- A journal on a disk: what is kept there, and what its calls make.
-use Rattle.std.specs.Prelude.{ℕ, ◌+◌, ◌<◌, ◌≤◌, ◌≡◌, length, ◌⊎◌, Bool, false, IsFalse, nat_le}
-use Rattle.std.specs.Prelude.{if◌then◌else◌, Option, Some, None, IfSome, IsSomeAnd, List, [], ◌∷◌}
-use Rattle.std.specs.Prelude.{◌++◌}
+use Rattle.std.specs.Prelude.{ℕ, ◌+◌, ◌<◌, ◌≤◌, ◌≡◌, length, ◌⊎◌, Bool, true, false, IsFalse}
+use Rattle.std.specs.Prelude.{nat_le, if◌then◌else◌, Option, Some, None, IfSome, IsSomeAnd, List}
+use Rattle.std.specs.Prelude.{[], ◌∷◌, ◌++◌}
 use Rattle.archive_terms.specs.Archive.{Entry, IsArchive}
 use Rattle.disk_model.specs.Images.{Pending, all_synced}
 use Rattle.disk_model.specs.Moments.{Elapses}
@@ -17,6 +17,7 @@ use Rattle.gate_journal.specs.declared.fault.JournalFault.{JournalFault}
 use Rattle.gate_journal.specs.declared.fault.JournalFault.TheVariants.{DiskFault, Full, Stale}
 use Rattle.gate_journal.specs.declared.fault.JournalFault.TheVariants.{Memory}
 use Rattle.gate_journal.specs.File.{header, StandsFor, StandsAt, IsBatch, batch_octets}
+use Rattle.gate_journal.specs.File.{entries_octets}
 use Rattle.gate_journal.specs.Reading.{Refuses}
 
 -- a disk that tells holds a file that stands for these entries, all synced
@@ -115,3 +116,30 @@ entries_left entries batch stop = if leaves_batch stop.calls stop.pick then entr
 abbrev pub KeepsOnRestart : DiskState → Stop → List Entry → Type 0
 KeepsOnRestart stopped stop entries = Keeps (Some (pending_of (restarted stopped stop.pick)))
     entries
+
+-- A file stands for entries up to a gate, with the batch behind them or without it.
+abbrev pub HasBatch : Bool → List Entry → List Entry → ℕ → List ℕ → Type 0
+HasBatch true entries batch gate file =
+    StandsAt (entries ++ batch) (gate + (length (entries_octets batch) + 7)) file
+HasBatch false entries batch gate file = StandsAt entries gate file
+
+-- a disk in memory that runs, is not to stop, and is to fail at the k-th of its next calls alone
+pub record IsToFail (disk : DiskState) (k : ℕ) : Type 0 where
+  pub runs : disk.stopped ≡ None
+  pub goes_on : disk.stop ≡ None
+  pub fails : disk.calls ≡ record { failing = k ∷ []; made = 0 }
+
+-- An append of a batch behind a gate of a disk in memory that was to fail at one of its four calls:
+-- it failed, and not for want of memory.
+pub record FailsIn (disk : DiskState) (gate : ℕ) (batch : List Entry) (k : ℕ) (after : DiskState)
+    : Type 0 where
+  pub ordered : IsToFail disk k
+  pub some : 0 < k
+  pub within : k ≤ 4
+  pub failed : FailedAtOne IsMadeCall IsFailedCall disk (appending gate batch) after
+  pub ample : IsFalse after.memory_refused
+
+-- Whether a file holds the batch of an append whose k-th call failed: the gate was written, and
+-- the sync behind it failed.
+abbrev pub holds_batch : ℕ → Bool
+holds_batch k = nat_le 4 k

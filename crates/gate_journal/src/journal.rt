@@ -2,14 +2,14 @@
 ghost use Rattle.std.specs.Prelude.{◌≡◌, ◌≢◌, ◌+◌, ◌-◌, ◌*◌, ◌<◌, ◌≤◌, ◌^◌, ◌++◌, ◌⊎◌, ℕ, true};
 ghost use Rattle.std.specs.Prelude.{false, List, length, max, [], ◌∷◌, Some, option_map, IfSome};
 ghost use Rattle.std.specs.Prelude.{IsSomeAnd, is_some, IsTrue, OnOk, OnErr, IfOk, IfErr, IsOk};
-ghost use Rattle.std.specs.Prelude.{IsErrOf, Ok, Err};
+ghost use Rattle.std.specs.Prelude.{IsErrOf, Ok, Err, MatchOption};
 ghost use Rattle.std.specs.List.{list_all};
 ghost use Rattle.octet_core.specs.Fault.{FailsOnlyByFault, Rose};
 ghost use Rattle.archive_terms.specs.Archive.{Entry, IsArchive, is_storable};
-ghost use Rattle.disk_model.specs.Images.{with_range, all_synced, written_and_synced};
+ghost use Rattle.disk_model.specs.Images.{IsImage, with_range, all_synced, written_and_synced};
 ghost use Rattle.disk_model.specs.Moments.{IsImageOf, HoldsThroughout};
 ghost use Rattle.disk_model.specs.Calls.{AllMade, FailedAtOne, RunsCalls};
-ghost use Rattle.disk_model.specs.MemoryDisk.{steered};
+ghost use Rattle.disk_model.specs.MemoryDisk.{steered, restarted, pending_of, content_of};
 ghost use Rattle.disk_model.specs.declared.call.Call.TheVariants.{Write, Sync};
 ghost use Rattle.gate_journal.specs.File.{StandsFor, StandsAt, entries_octets};
 ghost use Rattle.gate_journal.specs.Kept.{Keeps, IsAtRest, IsOldOrNew, IsReady, IsShort, OnlyReads};
@@ -20,7 +20,7 @@ ghost use Rattle.gate_journal.specs.declared.fault.JournalFault.TheVariants as J
 use crate::loading::{HEADER, OPEN, load};
 use crate::writing::{entries_length, write_batch};
 use crate::{JournalFault, laws};
-use disk_model::{Disk, MemoryDisk, Orders, write_synced};
+use disk_model::{Disk, Memory, MemoryDisk, Orders, write_synced};
 use octet_core::{Failed, Octets};
 use record_form::Entries;
 use std::alloc::Global;
@@ -254,11 +254,27 @@ impl<D: Disk> Journal<D> {
 }
 
 impl Journal<MemoryDisk> {
-    /// Steers the disk in memory, and changes nothing else.
+    /// Steers the disk in memory, and changes nothing else. While no append has failed, the gate
+    /// stands behind what the disk keeps.
     pub fn steer(&mut self, orders: Orders)
-        ensures { self.new ≡ record self.old { disk = steered self.old.disk orders } }
+        ensures steered { self.new ≡ record self.old { disk = steered self.old.disk orders } }
+        ensures at_rest { self.old.is_stale ≡ false
+            → IsAtRest (Some (pending_of self.old.disk)) self.old.gate }
     {
         self.disk.steer(orders);
+    }
+
+    /// Starts a disk in memory that stopped again. The journal is stale until it is recovered.
+    pub fn restart(&mut self) -> Result<(), Memory>
+        ensures stale { self.new ≡ record self.old { disk = self.new.disk; is_stale = true } }
+        ensures ok { OnOk result (MatchOption self.old.disk.stopped
+            (self.new.disk ≡ self.old.disk) (λ pick. self.new.disk ≡ restarted self.old.disk pick)) }
+        ensures err { OnErr result (self.new.disk ≡ self.old.disk) }
+        ensures image { OnOk result (IsImage (pending_of self.old.disk)
+            (content_of self.new.disk)) }
+    {
+        self.is_stale = true;
+        self.disk.restart()
     }
 }
 

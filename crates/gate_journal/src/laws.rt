@@ -1,6 +1,7 @@
 // Laws of what a file stands for and of what a stop leaves, each the contract of an empty function:
 // a caller has the law by the call.
-ghost use Rattle.std.specs.Prelude.{◌≡◌, ◌<◌, ◌≤◌, ◌++◌, ℕ, [], List, Option, None, Some, IfSome};
+ghost use Rattle.std.specs.Prelude.{◌≡◌, ◌<◌, ◌≤◌, ◌∷◌, ◌++◌, ℕ, [], List, Option, None, Some};
+ghost use Rattle.std.specs.Prelude.{IfSome};
 ghost use Rattle.std.specs.Prelude.{IsTrue, IsFalse};
 ghost use Rattle.archive_terms.specs.Archive.{Entry, IsArchive, is_storable};
 ghost use Rattle.std.specs.List.{list_all};
@@ -8,14 +9,15 @@ ghost use Rattle.disk_model.specs.Images.{Pending};
 ghost use Rattle.disk_model.specs.Moments.{IsImageOf};
 ghost use Rattle.disk_model.specs.Calls.{AllMade, FailedAtOne};
 ghost use Rattle.disk_model.specs.MemoryDisk.{DiskState, IsMadeCall, IsFailedCall, pending_of};
-ghost use Rattle.disk_model.specs.MemoryDisk.{steered};
+ghost use Rattle.disk_model.specs.MemoryDisk.{steered, restarted, content_of};
 ghost use Rattle.disk_model.specs.declared.orders.Orders.{Orders};
 ghost use Rattle.disk_model.specs.declared.orders.Stop.{Stop};
 ghost use Rattle.gate_journal.specs.File.{IsBatch, StandsFor, StandsAt};
 ghost use Rattle.record_form.specs.Reading.{AreOctets};
 ghost use Rattle.gate_journal.specs.Reading.{IsDamagedAt, IsNoJournal};
 ghost use Rattle.gate_journal.specs.Kept.{Keeps, IsAtRest, IsToStop, StopsIn, KeepsOnRestart};
-ghost use Rattle.gate_journal.specs.Kept.{appending, entries_left};
+ghost use Rattle.gate_journal.specs.Kept.{appending, entries_left, leaves_batch, HasBatch};
+ghost use Rattle.gate_journal.specs.Kept.{IsToFail, FailsIn, holds_batch};
 
 /// A file stands for one list of entries at most, and its gate stands at one place.
 pub fn a_file_stands_for_one_list()
@@ -84,12 +86,39 @@ pub fn a_stop_leaves_whole_batches()
         → IsAtRest (Some (pending_of disk)) gate → Keeps (Some (pending_of disk)) entries
         → IsBatch batch → IsArchive (entries ++ batch) → StopsIn disk gate batch stop after
         → KeepsOnRestart after stop (entries_left entries batch stop) }
+    ensures file { (disk after : DiskState) (gate : ℕ) (entries batch : List Entry) (stop : Stop)
+        → IsAtRest (Some (pending_of disk)) gate → Keeps (Some (pending_of disk)) entries
+        → IsBatch batch → IsArchive (entries ++ batch) → StopsIn disk gate batch stop after
+        → HasBatch (leaves_batch stop.calls stop.pick) entries batch gate
+        (content_of (restarted after stop.pick)) }
     ensures later { (disk after : DiskState) (gate : ℕ) (batch : List Entry) (stop : Stop)
         → IsToStop disk stop → 4 < stop.calls
         → FailedAtOne IsMadeCall IsFailedCall disk (appending gate batch) after
         → IsFalse after.memory_refused → ⊥ }
 {
     disk_model::laws::a_stop_comes_at_its_call();
+    disk_model::laws::a_run_is_as_ordered();
+    disk_model::laws::a_stop_leaves_an_image();
+    record_form::laws::read_back();
+}
+
+/// A counted call of an append that fails, the K-th of its four: the append fails, the disk in
+/// memory runs on, and its file holds the entries from before, with the batch exactly where K is 4.
+pub fn a_fault_leaves_whole_batches()
+    ensures steered { (disk : DiskState) (orders : Orders) (k : ℕ) → disk.stopped ≡ None
+        → orders.stop ≡ None → orders.failing ≡ record { failing = k ∷ []; made = 0 }
+        → IsToFail (steered disk orders) k }
+    ensures fails { (disk after : DiskState) (gate : ℕ) (batch : List Entry) (k : ℕ)
+        → IsToFail disk k → 0 < k → k ≤ 4
+        → AllMade IsMadeCall disk (appending gate batch) after → ⊥ }
+    ensures runs { (disk after : DiskState) (gate : ℕ) (batch : List Entry) (k : ℕ)
+        → FailsIn disk gate batch k after → after.stopped ≡ None }
+    ensures file { (disk after : DiskState) (gate : ℕ) (entries batch : List Entry) (k : ℕ)
+        → IsAtRest (Some (pending_of disk)) gate → Keeps (Some (pending_of disk)) entries
+        → IsBatch batch → IsArchive (entries ++ batch) → FailsIn disk gate batch k after
+        → HasBatch (holds_batch k) entries batch gate (content_of after) }
+{
+    disk_model::laws::a_fault_comes_at_its_call();
     disk_model::laws::a_run_is_as_ordered();
     disk_model::laws::a_stop_leaves_an_image();
     record_form::laws::read_back();

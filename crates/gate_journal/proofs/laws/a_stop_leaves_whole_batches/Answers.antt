@@ -1,5 +1,5 @@
-use Rattle.gate_journal.proofs.Stopping.{has_stopped, is_to_stop, keeps_left, stopped_is_no_ok}
-use Rattle.gate_journal.proofs.Stopping.{unstopped_is_no_fault}
+use Rattle.gate_journal.proofs.Stopping.{has_stopped, is_to_stop, keeps_left, file_left}
+use Rattle.gate_journal.proofs.Stopping.{stopped_is_no_ok, unstopped_is_no_fault}
 use Rattle.gate_journal.proofs.laws.a_stop_leaves_whole_batches.Goals as goal
 
 pub returns-clause-steered : goal.returns-clause-steered
@@ -18,6 +18,13 @@ returns-clause-stopped c disk after gate batch stop =
 pub returns-clause-left : goal.returns-clause-left
 returns-clause-left c disk after gate entries batch stop at_rest keeps is_batch archive is =
     keeps_left c.a_stop_comes_at_its_call.ensures.now c.a_run_is_as_ordered.ensures.failed disk
+    after gate batch stop is
+    c.a_stop_leaves_an_image.ensures.synced c.read_back.ensures at_rest is_batch entries keeps
+    archive
+
+pub returns-clause-file : goal.returns-clause-file
+returns-clause-file c disk after gate entries batch stop at_rest keeps is_batch archive is =
+    file_left c.a_stop_comes_at_its_call.ensures.now c.a_run_is_as_ordered.ensures.failed disk
     after gate batch stop is
     c.a_stop_leaves_an_image.ensures.synced c.read_back.ensures at_rest is_batch entries keeps
     archive
