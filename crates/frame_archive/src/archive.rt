@@ -2,17 +2,18 @@
 ghost use Rattle.std.specs.Prelude.{◌≡◌, ◌+◌, ◌-◌, ◌≤◌, ◌++◌, ◌⊎◌, ◌==◌, ℕ, true, false, [], ◌∷◌};
 ghost use Rattle.std.specs.Prelude.{List, length, take, drop, Some, None, IfSome, IsSomeAnd};
 ghost use Rattle.std.specs.Prelude.{IsTrue, MatchResult, OnOk, OnErr, IfOk, IfErr, IsOk, IsErrOf};
-ghost use Rattle.std.specs.Prelude.{if◌then◌else◌, Ok, Err};
+ghost use Rattle.std.specs.Prelude.{if◌then◌else◌, Ok, Err, MatchOption};
 ghost use Rattle.octet_core.specs.Fault.{Rose};
 ghost use Rattle.archive_terms.specs.Archive.{is_valid};
 ghost use Rattle.archive_terms.specs.Archive as terms;
 ghost use Rattle.disk_model.specs.Moments.{IsImageOf, HoldsThroughout};
 ghost use Rattle.disk_model.specs.Calls.{AllMade, FailedAtOne};
-ghost use Rattle.disk_model.specs.MemoryDisk.{steered};
+ghost use Rattle.disk_model.specs.Images.{IsImage};
+ghost use Rattle.disk_model.specs.MemoryDisk.{steered, restarted, pending_of, content_of};
 ghost use Rattle.disk_model.specs.declared.call.Call.TheVariants.{Sync};
 ghost use Rattle.record_form.specs.Entry.{entry_of};
 ghost use Rattle.gate_journal.specs.File.{StandsFor};
-ghost use Rattle.gate_journal.specs.Kept.{IsOldOrNew, appending};
+ghost use Rattle.gate_journal.specs.Kept.{IsOldOrNew, IsAtRest, appending};
 ghost use Rattle.frame_archive.specs.State.{times_of, at_rest, failed_batch, need, free, refusal};
 ghost use Rattle.frame_archive.specs.State.{with_waiting, with_stored, with_failed};
 ghost use Rattle.frame_archive.specs.Held.{Acknowledges, Uses};
@@ -23,7 +24,7 @@ ghost use Rattle.gate_journal.specs.declared.fault.JournalFault.{JournalFault};
 
 use crate::times::times_of;
 use crate::{ArchiveFault, OfferFault};
-use disk_model::{Disk, MemoryDisk, Orders};
+use disk_model::{Disk, Memory, MemoryDisk, Orders};
 use gate_journal::{Journal, JournalFault, Times};
 use record_form::{Entries, Entry, entry_length};
 use std::alloc::Global;
@@ -342,6 +343,45 @@ impl<D: Disk> FrameArchive<D> {
         Ok(Landing { landed, lost })
     }
 
+    /// Opens the file again as `open_archive` does, by what it holds alone, and gives its entries:
+    /// nothing waits then. After a refusal all is as it was, but each store answers `Stale` until a
+    /// reopen or this succeeds. It costs a sync and one read of the whole file.
+    pub fn open_anew(&mut self) -> Result<Entries, ArchiveFault>
+        ensures at_rest { IfOk result (λ found. self.new ≡ at_rest self.new.disk self.old.capacity
+            self.new.used found) }
+        ensures stands { IfOk result (λ found. IfSome (D.pending self.old.disk) (λ told. Uses found
+            self.new.used told.content)) }
+        ensures acknowledged { IfOk result (λ found. IfSome (D.pending self.old.disk) (λ _.
+            Acknowledges D.pending self.new found)) }
+        ensures refused { OnErr result (self.new ≡ record self.old {
+          disk = self.new.disk;
+          is_stale = true;
+        }) }
+        ensures any_moment { HoldsThroughout D.moment D.images_since self.old.disk self.new.disk
+            (IsImageOf (D.pending self.old.disk)) }
+        ensures calls { OnOk result (AllMade D.makes self.old.disk (Sync ∷ []) self.new.disk) }
+        ensures cause { IfErr result (λ fault. RefusesDisk fault (D.pending self.old.disk)
+            (D.faults self.old.disk) (D.faults self.new.disk)) }
+        ensures standing { IfErr result (λ fault. (entries : List terms.Entry)
+            → IsSomeAnd (D.pending self.old.disk)
+            (λ told. StandsFor entries told.content) → IsUnread fault) }
+    {
+        gate_journal::laws::an_image_at_rest_stands_for_what_is_kept();
+        self.is_stale = true;
+        let found = match self.journal.recover_again(self.alloc) {
+            Ok(found) => found,
+            Err(fault) => return Err(as_opening(fault)),
+        };
+        self.count = found.len() as u64;
+        self.used = self.journal.used();
+        self.times = times_of(found.as_slice());
+        self.waiting = Entries::new(self.alloc);
+        self.octets = 0;
+        self.failed = 0;
+        self.is_stale = false;
+        Ok(found)
+    }
+
     /// How many entries are acknowledged.
     pub fn count(&self) -> u64
         ensures { result ≡ self.now.count }
@@ -380,11 +420,28 @@ impl<D: Disk> FrameArchive<D> {
 }
 
 impl FrameArchive<MemoryDisk> {
-    /// Steers the disk in memory, and changes nothing else.
+    /// Steers the disk in memory, and changes nothing else. Unless the archive has to be opened
+    /// again, its last gate stands behind what the disk keeps.
     pub fn steer(&mut self, orders: Orders)
-        ensures { self.new ≡ record self.old { disk = steered self.old.disk orders } }
+        ensures steered { self.new ≡ record self.old { disk = steered self.old.disk orders } }
+        ensures at_rest { self.old.is_stale ≡ false
+            → IsAtRest (Some (pending_of self.old.disk)) (self.old.used - 1) }
+        ensures used { self.old.is_stale ≡ false → 1 ≤ self.old.used }
     {
         self.journal.steer(orders);
+    }
+
+    /// Starts the disk in memory again where it stopped. Then the archive has to be opened again.
+    pub fn restart(&mut self) -> Result<(), Memory>
+        ensures stale { self.new ≡ record self.old { disk = self.new.disk; is_stale = true } }
+        ensures ok { OnOk result (MatchOption self.old.disk.stopped
+            (self.new.disk ≡ self.old.disk) (λ pick. self.new.disk ≡ restarted self.old.disk pick)) }
+        ensures err { OnErr result (self.new.disk ≡ self.old.disk) }
+        ensures image { OnOk result (IsImage (pending_of self.old.disk)
+            (content_of self.new.disk)) }
+    {
+        self.is_stale = true;
+        self.journal.restart()
     }
 }
 

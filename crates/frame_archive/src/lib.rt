@@ -5,8 +5,8 @@
 // acknowledges it. At every moment each image of the disk stands for the acknowledged entries, or
 // for these and the batch, whole; after a store that answered Ok, for the latter alone. Where the
 // disk fails, what waits still waits, and no store is made until `reopen` has read the file again:
-// it tells which of the waiting entries landed and which are lost. `laws` says what a recovery
-// finds after any list of calls.
+// it tells which of the waiting entries landed and which are lost. `open_anew` opens it again in
+// place by what it holds alone. `laws` says what a recovery finds after any list of calls.
 //
 // In memory stand the number of acknowledged entries, the octets that they use, the last times and
 // what waits, and no list of what is stored. An offer costs the same whatever the archive holds. A
