@@ -12,7 +12,7 @@ use mathlib.Core.Option as maybe
 use native.Mathlib.Decide.{ℕ_discrete}
 use lib.ListN.{get_elem?}
 use prog.Atomic.{either}
-use Rattle.atomic_table.specs.Table.{State, Me, opening, step, keeps, takes, gives, rest, put_back}
+use Rattle.atomic_table.specs.Table.{State, Me, opening, step, keeps, takes, gives, rest}
 use Rattle.atomic_table.specs.Table.{Allows, Splits, Joins}
 use Rattle.atomic_table.proofs.Lists.{at_set, at_snoc, at_longer, set_else}
 use Rattle.turn_lock.specs.declared.view.View.{View}
@@ -93,17 +93,29 @@ module _ {T E O : Type 0} (origin : T → O) (stands : T → List E
   of_same v w t some_view (Some o) k = (k.0, t ∙ k.1)
   of_same v w t some_view None k = absurd (some_view k)
 
+  is_view : (v : V) (o : O) → v.origin ≡ Some o → v ≢ spent_view
+  is_view v o is e =
+      let d : Some o ≡ None = sym is ∙ ap (λ (u : V). u.origin) e in absurd (cc d)
+
+  -- what holds of the new view and of the others holds of each
+  each_set : (P : V → Type 0) (views : List V) (id : ℕ) (w : V) → P w
+      → ((j : ℕ) (u : V) → j ≢ id → get_elem? views j ≡ some u → P u)
+      → (j : ℕ) (u : V) → get_elem? (set views id w) j ≡ some u → P u
+  each_set P views id w here others j u e = ⊎_elim (λ (t : (j ≡ id) × (w ≡ u)). subst P t.1 here)
+      (λ (t : (j ≢ id) × (get_elem? views j ≡ some u)). others j u t.0 t.1)
+      (at_set views id j w u e)
+
   abbrev Homes : Type 0
   Homes = List (maybe.Option (Option T))
 
   -- the seat `id` goes from v to w, and the words, the history and the slot change
   moved : (s : S) (r : Rule s) (id : ℕ) (v w : V) (ticket serving : ℕ) (log : List E)
-      (homes : Homes) → get_elem? s.views id ≡ some v → r.ticket ≤ ticket
-      → (serving + counts w.ticket) + r.ticket ≡ (r.serving + counts v.ticket) + ticket
-      → ((n : ℕ) → (is_ticket n w.ticket ≤ is_ticket n v.ticket) ⊎ ((r.ticket ≤ n) × (n < ticket)))
-      → w.entered + r.ticket ≡ v.entered + ticket
-      → (length log + pending w) + r.ticket ≤ (length r.log + pending v) + ticket
-      → w.left + ticket ≤ v.left + r.ticket → w.found ≤ ticket
+      (homes : Homes) → get_elem? s.views id ≡ some v → (r.ticket ≤ ticket)
+      × ((n : ℕ) → is_ticket n v.ticket < is_ticket n w.ticket → (r.ticket ≤ n) × (n < ticket))
+      × ((serving + counts w.ticket) + r.ticket ≡ (r.serving + counts v.ticket) + ticket)
+      × (w.entered + r.ticket ≡ v.entered + ticket)
+      × ((length log + pending w) + r.ticket ≤ (length r.log + pending v) + ticket)
+      × (w.left + ticket ≤ v.left + r.ticket) × (w.found ≤ ticket)
       → ((k : ℕ) → times k (own_lists w) + counts (slice_get r.log k)
       ≡ times k (own_lists v) + counts (slice_get log k))
       → Fits first turns serving log homes w → ((j : ℕ) (u : V) → j ≢ id
@@ -114,51 +126,50 @@ module _ {T E O : Type 0} (origin : T → O) (stands : T → List E
         homes = homes;
         views = set s.views id w;
       }
-  moved s r id v w ticket serving log homes at more waiting tickets entered few left heard places
-      mine others slot = record {
+  moved s r id v w ticket serving log homes at counted places mine others slot =
+      let sums = λ (f : V → ℕ). sum_set f s.views id v w at in
+      let tickets = λ (n : ℕ). sums (λ u. is_ticket n u.ticket) in
+      record {
         ticket = ticket;
         serving = serving;
         log = log;
         words = refl;
-        waiting = omega (arith, sum_set (λ (u : V). counts u.ticket) s.views id v w at, r.waiting);
-        once = λ n. ⊎_elim (λ (l : is_ticket n w.ticket ≤ is_ticket n v.ticket). omega (
+        waiting = omega (arith, sums (λ u. counts u.ticket), r.waiting);
+        once = λ n. grind (
           arith,
-          sum_set (λ (u : V). is_ticket n u.ticket) s.views id v w at,
+          tickets n,
           r.once n,
-        ))
-            (λ (l : (r.ticket ≤ n) × (n < ticket)). omega (
-              arith,
-              sum_set (λ (u : V). is_ticket n u.ticket) s.views id v w at,
-              r.undrawn n l.0,
-              is_ticket-small n w.ticket,
-            )) (tickets n);
-        undrawn = λ n l. ⊎_elim (λ (t : is_ticket n w.ticket ≤ is_ticket n v.ticket). omega (
-          arith,
-          sum_set (λ (u : V). is_ticket n u.ticket) s.views id v w at,
-          r.undrawn n (omega arith),
-        ))
-            (λ (t : (r.ticket ≤ n) × (n < ticket)). absurd (omega arith)) (tickets n);
-        entered = omega (arith, sum_set (λ (u : V). u.entered) s.views id v w at, r.entered);
-        heard = λ j u e. ⊎_elim (λ (t : (j ≡ id) × (w ≡ u)). subst (λ (x : V). x.found ≤ ticket) t.1
-            heard) (λ (t : (j ≢ id) × (get_elem? s.views j ≡ some u)). omega (
-              arith,
-              r.heard j u t.1,
-              more,
-            )) (at_set s.views id j w u e);
-        once_each = λ k. omega (
-          arith,
-          sum_set (λ (u : V). times k (own_lists u)) s.views id v w at,
-          r.once_each k,
-          places k,
+          r.undrawn n,
+          counted.1 n,
+          is_ticket-small n w.ticket,
         );
-        few = omega (arith, sum_set pending s.views id v w at, r.few);
-        bounded = omega (arith, sum_set (λ (u : V). u.left) s.views id v w at, r.bounded);
-        each_view = λ j u e. ⊎_elim (λ (t : (j ≡ id) × (w ≡ u)). subst
-            (Fits first turns serving log homes) t.1 mine)
-            (λ (t : (j ≢ id) × (get_elem? s.views j ≡ some u)). others j u t.0 t.1)
-            (at_set s.views id j w u e);
+        undrawn = λ n l. grind (arith, tickets n, r.undrawn n, counted.1 n);
+        entered = omega (arith, sums (λ u. u.entered), r.entered);
+        heard = each_set (λ x. x.found ≤ ticket) s.views id w counted.6
+            (λ j u _ e. omega (arith, r.heard j u e));
+        once_each = λ k. omega (arith, sums (λ u. times k (own_lists u)), r.once_each k, places k);
+        few = omega (arith, sums pending, r.few);
+        bounded = omega (arith, sums (λ u. u.left), r.bounded);
+        each_view = each_set (Fits first turns serving log homes) s.views id w mine others;
         slot = slot;
       }
+
+  -- a view that has no value fits whatever the slot has
+  fits_free : (serving : ℕ) (log : List E) (homes : Homes) (w : V) → w.kept ≡ None
+      → IsOf first turns w w.origin → (counts w.ticket ≤ w.entered) × (counts w.added ≤ 0)
+      × (total (own_lists w) + pending w ≤ w.entered) → IsPrefix w.seen log
+      → IsPrefix w.beginning w.seen → AllStand log (own_lists w)
+      → Fits first turns serving log homes w
+  fits_free serving log homes w no_value of counted prefix begins own = record {
+    of = of;
+    counted = counted.0;
+    holding = λ h k. absurd (not_both w.kept h no_value k);
+    early = omega arith;
+    prefix = prefix;
+    begins = begins;
+    own = own;
+    some_own = counted.2;
+  }
 
   abbrev HomeOrOut : List E → Homes → List V → Type 0
   HomeOrOut log homes views = IsHome origin stands first log homes ⊎ IsOut homes views
@@ -212,48 +223,31 @@ module _ {T E O : Type 0} (origin : T → O) (stands : T → List E
     out.5,
   )
 
-  one_view : (serving : ℕ) (log : List E) (homes : Homes) (v : V)
-      → Fits first turns serving log homes v → (j : ℕ) (u : V) → get_elem? (v ∷ []) j ≡ some u
-      → Fits first turns serving log homes u
-  one_view serving log homes v fit zero u e =
-      subst (Fits first turns serving log homes) (some-injective v u e) fit
-  one_view serving log homes v fit (suc j) u e = absurd (some-ne-none u (sym e))
-
-  one_heard : (v : V) (n : ℕ) → v.found ≤ n → (j : ℕ) (u : V) → get_elem? (v ∷ []) j ≡ some u
-      → u.found ≤ n
-  one_heard v n few zero u e = subst (λ (x : V). x.found ≤ n) (some-injective v u e) few
-  one_heard v n few (suc j) u e = absurd (some-ne-none u (sym e))
+  one_view : (P : V → Type 0) (v : V) → P v → (j : ℕ) (u : V) → get_elem? (v ∷ []) j ≡ some u → P u
+  one_view P v p zero u e = subst P (some-injective v u e) p
+  one_view P v p (suc j) u e = absurd (some-ne-none u (sym e))
 
   -- a new table, whose value stands for no events
   pub starts : (slots : List (Option T)) (x : T) → slots ≡ Some x ∷ [] → origin x ≡ first
       → stands x [] → Rule (opening (0 ∷ 0 ∷ 0 ∷ []) slots (fresh_view first turns (turns + 1)))
   starts slots x full mine st =
       let v : V = fresh_view first turns (turns + 1) in
-      let fit : Fits {T = T} first turns 0 [] (some (Some x) ∷ []) v =
-      record {
-        of = (refl, refl);
-        counted = omega arith;
-        holding = λ h k. absurd (not_both v.kept h refl k);
-        early = omega arith;
-        prefix = ([], refl);
-        begins = ([], refl);
-        own = (tt, tt);
-        some_own = omega arith;
-      } in
-      subst (λ (xs : List (Option T)). Rule (opening (0 ∷ 0 ∷ 0 ∷ []) xs v)) (sym full) (record {
+      let sums = λ (f : V → ℕ). sum_by-cons f v [] in
+      rw full (record {
         ticket = 0;
         serving = 0;
         log = [];
         words = refl;
-        waiting = omega (arith, sum_by-cons (λ (u : V). counts u.ticket) v []);
-        once = λ n. omega (arith, sum_by-cons (λ (u : V). is_ticket n u.ticket) v []);
-        undrawn = λ n l. omega (arith, sum_by-cons (λ (u : V). is_ticket n u.ticket) v []);
-        entered = omega (arith, sum_by-cons (λ (u : V). u.entered) v []);
-        heard = λ j u e. one_heard v 0 (omega arith) j u e;
-        once_each = λ k. omega (arith, sum_by-cons (λ (u : V). times k (own_lists u)) v []);
-        few = omega (arith, sum_by-cons pending v []);
-        bounded = omega (arith, sum_by-cons (λ (u : V). u.left) v []);
-        each_view = λ j u e. one_view 0 [] (some (Some x) ∷ []) v fit j u e;
+        waiting = omega (arith, sums (λ u. counts u.ticket));
+        once = λ n. omega (arith, sums (λ u. is_ticket n u.ticket));
+        undrawn = λ n l. omega (arith, sums (λ u. is_ticket n u.ticket));
+        entered = omega (arith, sums (λ u. u.entered));
+        heard = one_view (λ u. u.found ≤ 0) v (omega arith);
+        once_each = λ k. omega (arith, sums (λ u. times k (own_lists u)));
+        few = omega (arith, sums pending);
+        bounded = omega (arith, sums (λ u. u.left));
+        each_view = one_view (Fits first turns 0 [] (some (Some x) ∷ [])) v
+            (fits_free 0 [] _ v refl (refl, refl) (omega arith) ([], refl) ([], refl) (tt, tt));
         slot = inl (x, refl, mine, st);
       })
 
@@ -269,109 +263,106 @@ module _ {T E O : Type 0} (origin : T → O) (stands : T → List E
         r.once n,
       )))
 
-  -- what a view with a ticket that is counts now says of tickets
-  drawn_now : (r t : ℕ) (v : Option ℕ) → (n : ℕ) → t ≡ r
-      → (is_ticket n (Some t) ≤ is_ticket n v) ⊎ ((r ≤ n) × (n < r + 1))
-  drawn_now r t v n e = dite (ℕ_discrete t n) (λ (d : t ≡ n). inr (omega arith, omega arith))
-      (λ (d : t ≢ n). inl (omega (arith, is_ticket-other n t d)))
+  -- the seat read a word, and has seen so much of the history
+  reads : (s : S) (r : Rule s) (id : ℕ) (v : V) (found : ℕ) (seen : List E)
+      → get_elem? s.views id ≡ some v → v ≢ spent_view → found ≤ r.ticket → IsPrefix seen r.log
+      → IsPrefix v.beginning seen → Rule record {
+        words = r.ticket ∷ r.serving ∷ length r.log ∷ [];
+        homes = s.homes;
+        views = set s.views id (record v { found = found; seen = seen });
+      }
+  reads s r id v found seen at some_view few prefix begins =
+      let w : V = record v { found = found; seen = seen } in
+      let fit : Fits first turns r.serving r.log s.homes v = r.each_view id v at in
+      moved s r id v w r.ticket r.serving r.log s.homes at (omega arith) (λ k. refl)
+      (assumption (of_same v w refl some_view v.origin fit.of, prefix, begins, fit))
+      (λ j u _ e. r.each_view j u e) (slot_stays r.log s.homes s.views id v w at refl r.slot)
+
+  -- who is served has the value, and the others fit what comes after
+  others_fit : (s : S) (r : Rule s) (id : ℕ) (v : V) (serving : ℕ) (log : List E) (homes : Homes)
+      → get_elem? s.views id ≡ some v → v.ticket ≡ Some r.serving → IsPrefix r.log log
+      → (j : ℕ) (u : V) → j ≢ id → get_elem? s.views j ≡ some u
+      → Fits first turns serving log homes u
+  others_fit s r id v serving log homes at served on j u other there =
+      let f : Fits first turns r.serving r.log s.homes u = r.each_view j u there in
+      let holding : (h : List E) → u.kept ≡ Some h
+      → (u.ticket ≡ Some serving) × (homes ≡ none ∷ []) × (log ≡ with_added h u.added) =
+      λ h e. absurd (other (one_seat s r id j v u r.serving at there served (f.holding h e).0)) in
+      assumption (
+        holding,
+        prefix_trans u.seen r.log log f.prefix on,
+        all_on r.log log (own_lists u) on f.own,
+        f,
+      )
 
   pub draws : (slots id : ℕ) (me : M) → turns ≤ 2 ^ 62 → me.0.ticket ≡ None → me.0.kept ≡ None
       → 0 < me.0.left
       → Allows Rule slots id me 0 (λ n. (n + 1) % 2 ^ 64) (Draws (step slots 0 1 0 none) me)
   draws slots id me small no_ticket no_value some_left s r long at fits =
-      let found : ℕ = get_or s.words 0 0 in
-      let here : found ≡ r.ticket = ap (λ (ws : List ℕ). get_or ws 0 0) r.words in
       let v : V = me.0 in
-      let w : V = entering v found in
+      let w : V = entering v r.ticket in
       let fit : Fits first turns r.serving r.log s.homes v = r.each_view id v at in
       let none_drawn : counts v.ticket ≡ 0 = ap counts no_ticket in
+      let none_held : counts v.kept ≡ 0 = ap counts no_value in
       let some_view : v ≢ spent_view = λ e. absurd (omega (arith, ap (λ (u : V). u.left) e)) in
-      let b = r.bounded in
-      let up : (r.ticket + 1) % 2 ^ 64 ≡ r.ticket + 1 = omega arith in (
-        w,
+      let up : (r.ticket + 1) % 2 ^ 64 ≡ r.ticket + 1 = omega (arith, r.bounded) in (
+        entering v (get_or s.words 0 0),
         keeps,
         tt,
-        subst (λ (ws : List ℕ). Rule record {
-          words = set ws 0 ((get_or ws 0 0 + 1) % 2 ^ 64);
-          homes = s.homes;
-          views = set s.views id w;
-        }) (sym r.words)
-            (subst (λ (n : ℕ). Rule record {
-              words = n ∷ r.serving ∷ length r.log ∷ [];
-              homes = s.homes;
-              views = set s.views id w;
-            }) (sym up)
-            (moved s r id v w (r.ticket + 1) r.serving r.log s.homes at (omega arith) (omega arith)
-            (λ n. drawn_now r.ticket found v.ticket n here) (omega arith) (omega arith)
-            (omega arith) (omega (arith, r.heard id v at)) (λ k. refl)
-            (record {
-              of = of_same v w refl some_view v.origin fit.of;
-              counted = omega arith;
-              holding = λ h k. absurd (not_both v.kept h no_value k);
-              early = fit.early;
-              prefix = fit.prefix;
-              begins = fit.begins;
-              own = fit.own;
-              some_own = omega (arith, fit.some_own);
-            })
+        rw (r.words, up) (moved s r id v w (r.ticket + 1) r.serving r.log s.homes at
+            (grind (arith, r.heard id v at, is_ticket-other)) (λ k. refl)
+            (fits_free r.serving r.log s.homes w no_value
+            (of_same v w refl some_view v.origin fit.of) (omega (arith, fit.early, fit.some_own))
+            fit.prefix fit.begins fit.own)
             (λ j u _ e. r.each_view j u e)
-            (slot_stays r.log s.homes s.views id v w at refl r.slot))),
+            (slot_stays r.log s.homes s.views id v w at refl r.slot)),
         refl,
       )
 
-  -- the slot is empty now
-  emptied : (s : S) (r : Rule s) (u : V) → Fits first turns r.serving r.log s.homes u
-      → Fits {T = T} first turns r.serving r.log (none ∷ []) u
-  emptied s r u f = record {
-    of = f.of;
-    counted = f.counted;
-    holding = λ h k. ((f.holding h k).0, refl, (f.holding h k).2);
-    early = f.early;
-    prefix = f.prefix;
-    begins = f.begins;
-    own = f.own;
-    some_own = f.some_own;
-  }
-
   -- the seat takes the value that is at home, as its ticket is served
-  taken : (s : S) (r : Rule s) (id : ℕ) (v w : V) (ticket : ℕ) → get_elem? s.views id ≡ some v
-      → r.ticket ≤ ticket
-      → (r.serving + counts w.ticket) + r.ticket ≡ (r.serving + counts v.ticket) + ticket
-      → ((n : ℕ) → (is_ticket n w.ticket ≤ is_ticket n v.ticket) ⊎ ((r.ticket ≤ n) × (n < ticket)))
-      → w.entered + r.ticket ≡ v.entered + ticket → pending w + r.ticket ≤ pending v + ticket
-      → w.left + ticket ≤ v.left + r.ticket → w.found ≤ ticket → own_lists w ≡ own_lists v
-      → IsOf first turns w w.origin → counts w.ticket ≤ w.entered → w.ticket ≡ Some r.serving
-      → w.kept ≡ Some r.log → w.added ≡ None → IsPrefix w.seen r.log → IsPrefix w.beginning w.seen
-      → AllStand r.log (own_lists w) → total (own_lists w) + pending w ≤ w.entered
-      → Rule record {
-        words = ticket ∷ r.serving ∷ length r.log ∷ [];
+  taken : (s : S) (r : Rule s) (id : ℕ) (v : V) (word left entered found : ℕ) (ticket : Option ℕ)
+      → get_elem? s.views id ≡ some v → v ≢ spent_view → v.kept ≡ None → ticket ≡ Some r.serving
+      → (r.ticket ≤ word)
+      × ((n : ℕ) → is_ticket n v.ticket < is_ticket n ticket → (r.ticket ≤ n) × (n < word))
+      × (counts ticket + r.ticket ≡ counts v.ticket + word)
+      × (entered + r.ticket ≡ v.entered + word) × (left + word ≤ v.left + r.ticket)
+      × (found ≤ word) → Rule record {
+        words = word ∷ r.serving ∷ length r.log ∷ [];
         homes = none ∷ [];
-        views = set s.views id w;
+        views = set s.views id (record (holding v r.log) {
+          left = left;
+          entered = entered;
+          found = found;
+          ticket = ticket;
+        });
       }
-  taken s r id v w ticket at more waiting tickets entered few left heard lists of counted served
-      value nothing prefix begins own some_own =
-      let none_added : counts w.added ≡ 0 = ap counts nothing in
-      moved s r id v w ticket r.serving r.log (none ∷ []) at more waiting tickets entered
-      (omega (arith, few)) left heard (λ k.
-      ap (λ ls. times k ls + counts (slice_get r.log k)) lists)
+  taken s r id v word left entered found ticket at some_view no_value served counted =
+      let w : V = record (holding v r.log) {
+        left = left;
+        entered = entered;
+        found = found;
+        ticket = ticket;
+      } in
+      let fit : Fits first turns r.serving r.log s.homes v = r.each_view id v at in
+      let none_added : counts v.added ≡ 0 = omega (arith, fit.early, ap counts no_value) in
+      moved s r id v w word r.serving r.log (none ∷ []) at (grind arith) (λ k. refl)
       (record {
-        of = of;
-        counted = counted;
-        holding =
-            λ h k. (
-              served,
-              refl,
-              some_same w.kept r.log h value k
-                  ∙ ap (with_added h) (sym nothing),
-            );
+        of = of_same v w refl some_view v.origin fit.of;
+        counted = omega (arith, fit.counted);
+        holding = λ h k. (served, refl, some_same w.kept r.log h refl k);
         early = omega arith;
-        prefix = prefix;
-        begins = begins;
-        own = own;
-        some_own = some_own;
+        prefix = fit.prefix;
+        begins = fit.begins;
+        own = fit.own;
+        some_own = omega (arith, fit.some_own);
       })
-      (λ j u _ e. emptied s r u (r.each_view j u e))
-      (inr (id, w, r.log, refl, here_set s.views id v w at, value))
+      (λ j u _ e.
+      let f : Fits first turns r.serving r.log s.homes u = r.each_view j u e in
+      let empty : Homes = none ∷ [] in
+      let holding : (h : List E) → u.kept ≡ Some h
+      → (u.ticket ≡ Some r.serving) × (empty ≡ none ∷ []) × (r.log ≡ with_added h u.added) =
+      λ h k. ((f.holding h k).0, refl, (f.holding h k).2) in
+      assumption (holding, f)) (inr (id, w, r.log, refl, here_set s.views id v w at, refl))
 
   -- where the seat's ticket is served and it has no value, the value is at home
   at_home : (s : S) (r : Rule s) (id : ℕ) (v : V) → get_elem? s.views id ≡ some v
@@ -396,54 +387,28 @@ module _ {T E O : Type 0} (origin : T → O) (stands : T → List E
       let here : found ≡ r.serving = ap (λ (ws : List ℕ). get_or ws 1 0) r.words in
       let v : V = me.0 in
       let fit : Fits first turns r.serving r.log s.homes v = r.each_view id v at in
-      let early = fit.early in
-      let no_kept : counts v.kept ≡ 0 = ap counts no_value in
       let some_view : v ≢ spent_view = λ e. let d : Some n ≡ None = sym ticket
       ∙ ap (λ (u : V). u.ticket) e in absurd (cc d) in
       dite (ℕ_discrete found n)
       (λ (hit : found ≡ n).
       let served : v.ticket ≡ Some r.serving = ticket ∙ ap Some (sym hit ∙ here) in
       let home = at_home s r id v at served no_value r.slot in
-      let w : V = holding v r.log in (
-        w,
+      let mine : v.origin ≡ Some (origin home.0) =
+      has_origin v (origin home.0) v.origin some_view fit.of home.2 in (
+        holding v r.log,
         takes 0 (Some home.0),
         ap (λ (hs : Homes). get_elem? hs 0) home.1,
-        subst (λ (ws : List ℕ). Rule record {
-          words = set ws 1 (get_or ws 1 0);
-          homes = set s.homes 0 none;
-          views = set s.views id w;
-        }) (sym r.words)
-            (subst (λ (hs : Homes). Rule record {
-              words = r.ticket ∷ r.serving ∷ length r.log ∷ [];
-              homes = set hs 0 none;
-              views = set s.views id w;
-            }) (sym home.1)
-            (taken s r id v w r.ticket at (omega arith) (omega arith) (λ k. inl (omega arith))
-            (omega arith) (omega arith) (omega arith) (r.heard id v at) refl
-            (of_same v w refl some_view v.origin fit.of) fit.counted served refl refl fit.prefix
-            fit.begins fit.own (omega (arith, fit.some_own)))),
-        λ k e. match_true (found == k) _ _ (eq-eqb found k (hit ∙ some_same v.ticket n k ticket e)) (
-          home.0,
-          r.log,
-          refl,
-          has_origin v (origin home.0) v.origin some_view fit.of home.2,
-          home.3,
-          fit.prefix,
-        ),
+        rw (r.words, home.1) (taken s r id v r.ticket v.left v.entered v.found v.ticket at some_view
+            no_value served (omega (arith, r.heard id v at))),
+        λ k e. match_true (found == k) _ _ (eq-eqb found k (hit ∙ some_same v.ticket n k ticket e))
+            (home.0, r.log, refl, mine, home.3, fit.prefix),
       ))
       (λ (miss : found ≢ n). (
         v,
         keeps,
         tt,
-        subst (λ (ws : List ℕ). Rule record {
-          words = set ws 1 (get_or ws 1 0);
-          homes = s.homes;
-          views = set s.views id v;
-        }) (sym r.words)
-            (moved s r id v v r.ticket r.serving r.log s.homes at (omega arith) (omega arith)
-            (λ k. inl (omega arith)) (omega arith) (omega arith) (omega arith)
-            (omega (arith, r.heard id v at)) (λ k. refl) fit (λ j u _ e. r.each_view j u e)
-            (slot_stays r.log s.homes s.views id v v at refl r.slot)),
+        rw r.words (reads s r id v v.found v.seen at some_view (r.heard id v at) fit.prefix
+            fit.begins),
         λ k e. match_false (found == k) _ _ (ne_eqb found k
             (λ same. miss (same ∙ sym (some_same v.ticket n k ticket e)))) refl,
       ))
@@ -462,66 +427,20 @@ module _ {T E O : Type 0} (origin : T → O) (stands : T → List E
       let w : V = resting v in
       let fit : Fits first turns r.serving r.log s.homes v = r.each_view id v at in
       let hold = fit.holding h value in
-      let served : v.ticket ≡ Some r.serving = hold.0 in
-      let one : counts v.ticket ≡ 1 = counts-some r.serving v.ticket served in
-      let some_view : v ≢ spent_view = λ e. not_both v.kept h (ap (λ (u : V). u.kept) e) value in
-      let mine : origin x ≡ first = (subst (IsOf first turns v) o fit.of).0 in
+      let one : counts v.ticket ≡ 1 = counts-some r.serving v.ticket hold.0 in
+      let mine : origin x ≡ first = (rw o at fit.of).0 in
       let place = one_place r.log s.homes s.views r.slot in
-      let b = r.bounded in
-      let wait = r.waiting in
-      let up : (r.serving + 1) % 2 ^ 64 ≡ r.serving + 1 = omega arith in (
+      let up : (r.serving + 1) % 2 ^ 64 ≡ r.serving + 1 = omega (arith, r.bounded, r.waiting) in (
         w,
         gives,
         tt,
-        subst (λ (ws : List ℕ). Rule record {
-          words = set ws 1 ((get_or ws 1 0 + 1) % 2 ^ 64);
-          homes = put_back s.homes me.1;
-          views = set s.views id w;
-        }) (sym r.words)
-            (subst (λ (cs : List (ℕ × Option T)). Rule record {
-              words =
-                  r.ticket ∷ ((r.serving + 1) % 2 ^ 64) ∷ length r.log ∷ [];
-              homes = put_back s.homes cs;
-              views = set s.views id w;
-            }) (sym carries)
-            (subst (λ (hs : Homes). Rule record {
-              words =
-                  r.ticket ∷ ((r.serving + 1) % 2 ^ 64) ∷ length r.log ∷ [];
-              homes = set hs 0 (some (Some x));
-              views = set s.views id w;
-            }) (sym place.1)
-            (subst (λ (n : ℕ). Rule record {
-              words = r.ticket ∷ n ∷ length r.log ∷ [];
-              homes = some (Some x) ∷ [];
-              views = set s.views id w;
-            }) (sym up)
-            (moved s r id v w r.ticket (r.serving + 1) r.log (some (Some x) ∷ []) at (omega arith)
-            (omega arith) (λ n. inl (omega arith)) (omega arith) (omega arith) (omega arith)
-            (omega (arith, r.heard id v at)) (λ k. refl)
-            (record {
-              of = of_same v w refl some_view v.origin fit.of;
-              counted = omega arith;
-              holding = λ k e. absurd (not_both w.kept k refl e);
-              early = omega arith;
-              prefix = fit.prefix;
-              begins = fit.begins;
-              own = fit.own;
-              some_own = omega (arith, fit.some_own);
-            })
-            (λ j u other there. let known : Fits first turns r.serving r.log s.homes u =
-            r.each_view j u there in
-            record {
-              of = known.of;
-              counted = known.counted;
-              holding = λ k e. absurd (other
-                  (one_seat s r id j v u r.serving at there served (known.holding k e).0));
-              early = known.early;
-              prefix = known.prefix;
-              begins = known.begins;
-              own = known.own;
-              some_own = known.some_own;
-            })
-            (inl (x, refl, mine, subst (stands x) (sym hold.2) st)))))),
+        rw (r.words, carries, place.1, up) (moved s r id v w r.ticket (r.serving + 1) r.log
+            (some (Some x) ∷ []) at (omega (arith, r.heard id v at)) (λ k. refl)
+            (fits_free _ r.log _ w refl (of_same v w refl (is_view v (origin x) o) v.origin fit.of)
+            (omega (arith, fit.some_own)) fit.prefix fit.begins fit.own)
+            (others_fit s r id v (r.serving + 1) r.log (some (Some x) ∷ []) at hold.0
+            (prefix_self r.log))
+            (inl (x, refl, mine, subst (stands x) (sym hold.2) st))),
         refl,
       )
 
@@ -533,10 +452,9 @@ module _ {T E O : Type 0} (origin : T → O) (stands : T → List E
       let w : V = adding v r.log (Some e) in
       let fit : Fits first turns r.serving r.log s.homes v = r.each_view id v at in
       let hold = fit.holding h value in
-      let served : v.ticket ≡ Some r.serving = hold.0 in
       let log_is : r.log ≡ h = hold.2 ∙ ap (with_added h) nothing in
       let log : List E = r.log ++ e ∷ [] in
-      let one : counts v.ticket ≡ 1 = counts-some r.serving v.ticket served in
+      let one : counts v.ticket ≡ 1 = counts-some r.serving v.ticket hold.0 in
       let none_added : counts v.added ≡ 0 = ap counts nothing in
       let some_kept : counts v.kept ≡ 1 = counts-some h v.kept value in
       let some_view : v ≢ spent_view = λ d. not_both v.kept h (ap (λ (u : V). u.kept) d) value in
@@ -553,25 +471,14 @@ module _ {T E O : Type 0} (origin : T → O) (stands : T → List E
         w,
         keeps,
         tt,
-        subst (λ (ws : List ℕ). Rule record {
-          words = set ws 2 ((get_or ws 2 0 + 1) % 2 ^ 64);
-          homes = s.homes;
-          views = set s.views id w;
-        }) (sym r.words)
-            (subst (λ (n : ℕ). Rule record {
-              words = r.ticket ∷ r.serving ∷ n ∷ [];
-              homes = s.homes;
-              views = set s.views id w;
-            }) (sym up)
-            (moved s r id v w r.ticket r.serving log s.homes at (omega arith) (omega arith)
-            (λ n. inl (omega arith)) (omega arith) (omega arith) (omega arith)
+        rw (r.words, up) (moved s r id v w r.ticket r.serving log s.homes at
             (omega (arith, r.heard id v at))
             (λ k. omega (arith, one_more r.log e k, times_last k v.own (mark r.log e)))
             (record {
               of = of_same v w refl some_view v.origin fit.of;
               counted = fit.counted;
               holding = λ k d. (
-                served,
+                hold.0,
                 hold.1,
                 ap (λ (l : List E). l ++ e ∷ []) (log_is ∙ some_same v.kept h k value d),
               );
@@ -582,21 +489,8 @@ module _ {T E O : Type 0} (origin : T → O) (stands : T → List E
               own = own;
               some_own = omega (arith, fit.some_own);
             })
-            (λ j u other there. let known : Fits first turns r.serving r.log s.homes u =
-            r.each_view j u there in
-            record {
-              of = known.of;
-              counted = known.counted;
-              holding = λ k d. absurd (other
-                  (one_seat s r id j v u r.serving at there served (known.holding k d).0));
-              early = known.early;
-              prefix =
-                  prefix_trans u.seen r.log log known.prefix (e ∷ [], refl);
-              begins = known.begins;
-              own = all_on r.log log (own_lists u) (e ∷ [], refl) known.own;
-              some_own = known.some_own;
-            })
-            (slot_goes_on r.log log s.homes s.views id v w at refl hold.1 r.slot))),
+            (others_fit s r id v r.serving log s.homes at hold.0 (e ∷ [], refl))
+            (slot_goes_on r.log log s.homes s.views id v w at refl hold.1 r.slot)),
         λ k d. let same : r.log ≡ k = log_is ∙ some_same v.kept h k value d in (
           ap (λ (l : List E). (adding v l (Some e), me.1)) same,
           sym (here ∙ ap length same),
@@ -616,34 +510,14 @@ module _ {T E O : Type 0} (origin : T → O) (stands : T → List E
       → Allows Rule slots id me 2 (λ k. k) (Sees (step slots 2 0 0 none) me)
   sees slots id me o is s r long at fits =
       let v : V = me.0 in
-      let w : V = seeing v r.log in
       let fit : Fits first turns r.serving r.log s.homes v = r.each_view id v at in
-      let here : get_or s.words 2 0 ≡ length r.log = ap (λ (ws : List ℕ). get_or ws 2 0) r.words in
-      let some_view : v ≢ spent_view = λ e. let d : Some o ≡ None = sym is
-      ∙ ap (λ (u : V). u.origin) e in absurd (cc d) in (
-        w,
+      let here : get_or s.words 2 0 ≡ length r.log =
+      ap (λ (ws : List ℕ). get_or ws 2 0) r.words in (
+        seeing v r.log,
         keeps,
         tt,
-        subst (λ (ws : List ℕ). Rule record {
-          words = set ws 2 (get_or ws 2 0);
-          homes = s.homes;
-          views = set s.views id w;
-        }) (sym r.words)
-            (moved s r id v w r.ticket r.serving r.log s.homes at (omega arith) (omega arith)
-            (λ k. inl (omega arith)) (omega arith) (omega arith) (omega arith)
-            (omega (arith, r.heard id v at)) (λ k. refl)
-            (record {
-              of = of_same v w refl some_view v.origin fit.of;
-              counted = fit.counted;
-              holding = fit.holding;
-              early = fit.early;
-              prefix = prefix_self r.log;
-              begins = prefix_trans v.beginning v.seen r.log fit.begins fit.prefix;
-              own = fit.own;
-              some_own = fit.some_own;
-            })
-            (λ j u _ e. r.each_view j u e)
-            (slot_stays r.log s.homes s.views id v w at refl r.slot)),
+        rw r.words (reads s r id v v.found r.log at (is_view v o is) (r.heard id v at)
+            (prefix_self r.log) (prefix_trans v.beginning v.seen r.log fit.begins fit.prefix)),
         (r.log, refl, sym here, fit.prefix, fit.own, λ h k. (fit.holding h k).2),
       )
 
@@ -662,20 +536,12 @@ module _ {T E O : Type 0} (origin : T → O) (stands : T → List E
   learns slots id me o is s r long at fits =
       let v : V = me.0 in
       let fit : Fits first turns r.serving r.log s.homes v = r.each_view id v at in
-      let some_view : v ≢ spent_view = λ e. let d : Some o ≡ None = sym is
-      ∙ ap (λ (u : V). u.origin) e in absurd (cc d) in (
+      let some_view : v ≢ spent_view = is_view v o is in (
         v,
         keeps,
         tt,
-        subst (λ (ws : List ℕ). Rule record {
-          words = set ws 0 (get_or ws 0 0);
-          homes = s.homes;
-          views = set s.views id v;
-        }) (sym r.words)
-            (moved s r id v v r.ticket r.serving r.log s.homes at (omega arith) (omega arith)
-            (λ k. inl (omega arith)) (omega arith) (omega arith) (omega arith)
-            (omega (arith, r.heard id v at)) (λ k. refl) fit (λ j u _ e. r.each_view j u e)
-            (slot_stays r.log s.homes s.views id v v at refl r.slot)),
+        rw r.words (reads s r id v v.found v.seen at some_view (r.heard id v at) fit.prefix
+            fit.begins),
         (
           refl,
           all_turns v (v.left + v.entered) some_view v.origin fit.of
@@ -705,79 +571,32 @@ module _ {T E O : Type 0} (origin : T → O) (stands : T → List E
       let left : V = giving v n in
       let right : V = given v n in
       let fit : Fits first turns r.serving r.log s.homes v = r.each_view id v at in
-      let some_view : v ≢ spent_view = λ e. let d : Some o ≡ None = sym is
-      ∙ ap (λ (u : V). u.origin) e in absurd (cc d) in
+      let sums = λ (f : V → ℕ). split_sum f s.views id v left right at in
+      let both = λ (P : V → Type 0) (l : P left) (m : P right) (others : (j : ℕ) (u : V) → j ≢ id
+      → get_elem? s.views j ≡ some u → P u) (j : ℕ) (u : V)
+      (e : get_elem? (set s.views id left ++ right ∷ []) j ≡ some u).
+      ⊎_elim (each_set P s.views id left l others j u) (λ (new : right ≡ u). subst P new m)
+      (at_snoc (set s.views id left) right u j e) in
       record {
         ticket = r.ticket;
         serving = r.serving;
         log = r.log;
         words = r.words;
-        waiting = omega (
-          arith,
-          split_sum (λ (u : V). counts u.ticket) s.views id v left right at,
-          r.waiting,
-        );
-        once = λ k. omega (
-          arith,
-          split_sum (λ (u : V). is_ticket k u.ticket) s.views id v left
-              right at,
-          r.once k,
-        );
-        undrawn = λ k l. omega (
-          arith,
-          split_sum (λ (u : V). is_ticket k u.ticket) s.views id v left right at,
-          r.undrawn k l,
-        );
-        entered = omega (
-          arith,
-          split_sum (λ (u : V). u.entered) s.views id v left right at,
-          r.entered,
-        );
-        heard = λ j u e. ⊎_elim
-            (λ (here : get_elem? (set s.views id left) j ≡ some u). ⊎_elim
-            (λ (t : (j ≡ id) × (left ≡ u)). subst (λ (x : V). x.found ≤ r.ticket) t.1
-            (r.heard id v at)) (λ (t : (j ≢ id) × (get_elem? s.views j ≡ some u)). r.heard j u
-            t.1) (at_set s.views id j left u here))
-            (λ (new : right ≡ u). subst (λ (x : V). x.found ≤ r.ticket) new (r.heard id v at))
-            (at_snoc (set s.views id left) right u j e);
-        once_each = λ k. omega (
-          arith,
-          split_sum (λ (u : V). times k (own_lists u)) s.views id v left right at,
-          r.once_each k,
-        );
-        few = omega (arith, split_sum pending s.views id v left right at, r.few);
-        bounded = omega (
-          arith,
-          split_sum (λ (u : V). u.left) s.views id v left right at,
-          r.bounded,
-        );
-        each_view = λ j u e. ⊎_elim
-            (λ (here : get_elem? (set s.views id left) j ≡ some u). ⊎_elim
-            (λ (t : (j ≡ id) × (left ≡ u)). subst (Fits first turns r.serving r.log s.homes) t.1
-            (record {
-              of = of_same v left refl some_view v.origin fit.of;
-              counted = fit.counted;
-              holding = fit.holding;
-              early = fit.early;
-              prefix = fit.prefix;
-              begins = fit.begins;
-              own = fit.own;
-              some_own = fit.some_own;
-            }))
-            (λ (t : (j ≢ id) × (get_elem? s.views j ≡ some u)). r.each_view j u t.1)
-            (at_set s.views id j left u here))
-            (λ (new : right ≡ u). subst (Fits first turns r.serving r.log s.homes) new
-            (record {
-              of = of_same v right refl some_view v.origin fit.of;
-              counted = omega arith;
-              holding = λ h k. absurd (not_both right.kept h refl k);
-              early = omega arith;
-              prefix = fit.prefix;
-              begins = fit.begins;
-              own = (tt, tt);
-              some_own = omega arith;
-            }))
-            (at_snoc (set s.views id left) right u j e);
+        waiting = omega (arith, sums (λ u. counts u.ticket), r.waiting);
+        once = λ k. omega (arith, sums (λ u. is_ticket k u.ticket), r.once k);
+        undrawn = λ k l. omega (arith, sums (λ u. is_ticket k u.ticket), r.undrawn k l);
+        entered = omega (arith, sums (λ u. u.entered), r.entered);
+        heard = both (λ u. u.found ≤ r.ticket) (r.heard id v at) (r.heard id v at)
+            (λ j u _ e. r.heard j u e);
+        once_each = λ k. omega (arith, sums (λ u. times k (own_lists u)), r.once_each k);
+        few = omega (arith, sums pending, r.few);
+        bounded = omega (arith, sums (λ u. u.left), r.bounded);
+        each_view = both (Fits first turns r.serving r.log s.homes)
+            (assumption (of_same v left refl (is_view v o is) v.origin fit.of, fit))
+            (fits_free r.serving r.log s.homes right refl
+            (of_same v right refl (is_view v o is) v.origin fit.of) (omega arith) fit.prefix
+            fit.begins (tt, tt))
+            (λ j u _ e. r.each_view j u e);
         slot = longer_views r.log s.homes (set s.views id left) right
             (slot_stays r.log s.homes s.views id v left at refl r.slot);
       }
@@ -816,114 +635,50 @@ module _ {T E O : Type 0} (origin : T → O) (stands : T → List E
   joins id other v w u o is v_ticket w_ticket v_value w_value u_origin u_turns u_ticket u_value
       u_added u_left u_entered u_found u_seen u_begins u_own u_times u_total s r at apart there =
       let fit : Fits first turns r.serving r.log s.homes v = r.each_view id v at in
-      let some_view : v ≢ spent_view = λ e. let d : Some o ≡ None = sym is
-      ∙ ap (λ (x : V). x.origin) e in absurd (cc d) in
-      let views : List V = set (set s.views id u) other spent_view in
       let no_v : counts v.ticket ≡ 0 = ap counts v_ticket in
       let no_w : counts w.ticket ≡ 0 = ap counts w_ticket in
       let no_u : counts u.ticket ≡ 0 = ap counts u_ticket in
       let no_kept : counts v.kept ≡ 0 = ap counts v_value in
-      let early = fit.early in
       let same_added : counts u.added ≡ counts v.added = ap counts u_added in
       let other_there = ⊎_elim (λ (t : (other ≡ id) × (u ≡ w)). absurd (apart t.0))
       (λ (t : (other ≢ id) × (get_elem? s.views other ≡ some w)). t.1)
       (at_set s.views id other u w there) in
       let other_fit : Fits first turns r.serving r.log s.homes w =
       r.each_view other w other_there in
-      let tickets = λ (k : ℕ). join_sum (λ (x : V). is_ticket k x.ticket) s.views id other v w u at
-      there in
-      let none_of = λ (k : ℕ) (x : V) (e : x.ticket ≡ None). ap (is_ticket k) e in
+      let sums = λ (f : V → ℕ). join_sum f s.views id other v w u at there in
+      let tickets = λ (k : ℕ). sums (λ x. is_ticket k x.ticket) in
+      let none_v = λ (k : ℕ). ap (is_ticket k) v_ticket in
+      let none_w = λ (k : ℕ). ap (is_ticket k) w_ticket in
+      let none_u = λ (k : ℕ). ap (is_ticket k) u_ticket in
+      let each = λ (P : V → Type 0) (spent : P spent_view) (mine : P u) (others : (j : ℕ) (x : V)
+      → get_elem? s.views j ≡ some x → P x).
+      each_set P (set s.views id u) other spent_view spent
+      (λ j x _. each_set P s.views id u mine (λ i y _. others i y) j x) in
       record {
         ticket = r.ticket;
         serving = r.serving;
         log = r.log;
         words = r.words;
-        waiting = omega (
-          arith,
-          join_sum (λ (x : V). counts x.ticket) s.views id other v w u at
-              there,
-          r.waiting,
-          no_v,
-          no_w,
-          no_u,
-        );
-        once = λ k. omega (
-          arith,
-          tickets k,
-          r.once k,
-          none_of k v v_ticket,
-          none_of k w w_ticket,
-          none_of k u u_ticket,
-        );
-        undrawn = λ k l. omega (
-          arith,
-          tickets k,
-          r.undrawn k l,
-          none_of k v v_ticket,
-          none_of k w w_ticket,
-          none_of k u u_ticket,
-        );
-        entered = omega (
-          arith,
-          join_sum (λ (x : V). x.entered) s.views id other v w u at there,
-          r.entered,
-        );
-        heard = λ j x e. ⊎_elim (λ (t : (j ≡ other) × (spent_view ≡ x)). subst
-            (λ (y : V). y.found ≤ r.ticket) t.1 (omega arith))
-            (λ (t : (j ≢ other) × (get_elem? (set s.views id u) j ≡ some x)). ⊎_elim
-            (λ (h : (j ≡ id) × (u ≡ x)). subst (λ (y : V). y.found ≤ r.ticket) h.1
-            (omega (arith, u_found, r.heard id v at)))
-            (λ (h : (j ≢ id) × (get_elem? s.views j ≡ some x)). r.heard j x h.1)
-            (at_set s.views id j u x t.1))
-            (at_set (set s.views id u) other j spent_view x e);
-        once_each = λ k. omega (
-          arith,
-          join_sum (λ (x : V). times k (own_lists x)) s.views id other v w u at there,
-          r.once_each k,
-          u_times k,
-        );
-        few = omega (
-          arith,
-          join_sum pending s.views id other v w u at there,
-          r.few,
-          no_v,
-          no_w,
-          no_u,
-        );
-        bounded = omega (
-          arith,
-          join_sum (λ (x : V). x.left) s.views id other v w u at there,
-          r.bounded,
-        );
-        each_view = λ j x e. ⊎_elim
-            (λ (t : (j ≡ other) × (spent_view ≡ x)). subst
-            (Fits first turns r.serving r.log s.homes) t.1
-            (record {
-              of = refl;
-              counted = omega arith;
-              holding = λ h k. absurd (not_both {A = List E} None h refl k);
-              early = omega arith;
-              prefix = (r.log, refl);
-              begins = ([], refl);
-              own = (tt, tt);
-              some_own = omega arith;
-            }))
-            (λ (t : (j ≢ other) × (get_elem? (set s.views id u) j ≡ some x)). ⊎_elim
-            (λ (h : (j ≡ id) × (u ≡ x)). subst (Fits first turns r.serving r.log s.homes) h.1
-            (record {
-              of = of_same v u u_turns some_view u.origin
-                  (subst (IsOf first turns v) (sym u_origin) fit.of);
-              counted = omega arith;
-              holding = λ k d. absurd (not_both u.kept k u_value d);
-              early = omega arith;
-              prefix = u_seen r.log fit.prefix other_fit.prefix;
-              begins = u_begins r.log fit.prefix other_fit.prefix fit.begins;
-              own = u_own r.log fit.own other_fit.own;
-              some_own = omega (arith, fit.some_own, other_fit.some_own);
-            }))
-            (λ (h : (j ≢ id) × (get_elem? s.views j ≡ some x)). r.each_view j x h.1)
-            (at_set s.views id j u x t.1))
-            (at_set (set s.views id u) other j spent_view x e);
+        waiting = omega (arith, sums (λ x. counts x.ticket), r.waiting);
+        once = λ k. omega (arith, tickets k, r.once k, none_v k, none_w k, none_u k);
+        undrawn = λ k l. omega (arith, tickets k, r.undrawn k l, none_v k, none_w k, none_u k);
+        entered = omega (arith, sums (λ x. x.entered), r.entered);
+        heard = each (λ x. x.found ≤ r.ticket) (omega arith) (omega (arith, r.heard id v at))
+            r.heard;
+        once_each = λ k. omega (arith, sums (λ x. times k (own_lists x)), r.once_each k, u_times k);
+        few = omega (arith, sums pending, r.few);
+        bounded = omega (arith, sums (λ x. x.left), r.bounded);
+        each_view = each (Fits first turns r.serving r.log s.homes)
+            (fits_free _ r.log _ spent_view refl refl (omega arith) (r.log, refl) ([], refl)
+            (tt, tt))
+            (fits_free r.serving r.log s.homes u u_value
+            (of_same v u u_turns (is_view v o is) u.origin
+            (subst (IsOf first turns v) (sym u_origin) fit.of))
+            (omega (arith, fit.early, fit.some_own, other_fit.some_own))
+            (u_seen r.log fit.prefix other_fit.prefix)
+            (u_begins r.log fit.prefix other_fit.prefix fit.begins)
+            (u_own r.log fit.own other_fit.own))
+            r.each_view;
         slot = slot_stays r.log s.homes (set s.views id u) other w spent_view there (sym w_value)
             (slot_stays r.log s.homes s.views id v u at (u_value ∙ sym v_value) r.slot);
       }
@@ -978,8 +733,7 @@ module _ {T E O : Type 0} (origin : T → O) (stands : T → List E
       let here : found ≡ r.ticket = ap (λ (ws : List ℕ). get_or ws 0 0) r.words in
       let v : V = me.0 in
       let fit : Fits first turns r.serving r.log s.homes v = r.each_view id v at in
-      let some_view : v ≢ spent_view = λ e. let d : Some o ≡ None = sym is
-      ∙ ap (λ (u : V). u.origin) e in absurd (cc d) in
+      let some_view : v ≢ spent_view = is_view v o is in
       let no_drawn : counts v.ticket ≡ 0 = ap counts no_ticket in
       dite (ℕ_discrete found old)
       (λ (hit : found ≡ old).
@@ -990,86 +744,35 @@ module _ {T E O : Type 0} (origin : T → O) (stands : T → List E
         sum_none (λ (x : V). counts x.ticket) s.views none_of,
       ) in
       let home = home_at_end s r none_of r.slot in
-      let w : V = holding (entering (finding v found) found) r.log in
+      let mine : v.origin ≡ Some (origin home.0) =
+      has_origin v (origin home.0) v.origin some_view fit.of home.2 in
       let next : either (r.ticket == old) new r.ticket ≡ r.ticket + 1 =
       ap (λ (b : Bool). either b new r.ticket) (eq-eqb r.ticket old (sym here ∙ hit))
       ∙ (up ∙ ap (λ (k : ℕ). k + 1) (sym hit ∙ here)) in (
-        w,
+        holding (entering (finding v found) found) r.log,
         takes 0 (Some home.0),
         ap (λ (hs : Homes). get_elem? hs 0) home.1,
-        subst (λ (ws : List ℕ). Rule record {
-          words =
-              set ws 0 (either (get_or ws 0 0 == old) new (get_or ws 0 0));
-          homes = set s.homes 0 none;
-          views = set s.views id w;
-        }) (sym r.words)
-            (subst (λ (hs : Homes). Rule record {
-              words =
-                  either (r.ticket == old) new r.ticket ∷ r.serving ∷ length r.log ∷ [];
-              homes = set hs 0 none;
-              views = set s.views id w;
-            }) (sym home.1)
-            (subst (λ (k : ℕ). Rule record {
-              words = k ∷ r.serving ∷ length r.log ∷ [];
-              homes = none ∷ [];
-              views = set s.views id w;
-            }) (sym next)
-            (taken s r id v w (r.ticket + 1) at (omega arith) (omega arith)
-            (λ n. drawn_now r.ticket found v.ticket n here) (omega arith) (omega arith)
-            (omega arith) (omega (arith, here)) refl
-            (of_same v w refl some_view v.origin fit.of) (omega arith)
-            (ap Some (here ∙ sym still)) refl refl fit.prefix fit.begins fit.own
-            (omega (arith, fit.some_own))))),
+        rw (r.words, home.1, next) (taken s r id v (r.ticket + 1) (v.left - 1) (v.entered + 1)
+            r.ticket (Some r.ticket) at some_view no_value (ap Some (sym still))
+            (grind (arith, is_ticket-other))),
         match_true (found == old) _ _ (eq-eqb found old hit) (
-          (
-            home.0,
-            r.log,
-            refl,
-            has_origin v (origin home.0) v.origin some_view fit.of home.2,
-            home.3,
-            fit.prefix,
-          ),
+          (home.0, r.log, refl, mine, home.3, fit.prefix),
           all_mine s r id v at (all ∙ sym hit ∙ here),
         ),
       ))
       (λ (miss : found ≢ old).
       let next : either (r.ticket == old) new r.ticket ≡ r.ticket =
       ap (λ (b : Bool). either b new r.ticket) (ne_eqb r.ticket old (λ e. miss (here ∙ e))) in
-      let w : V = finding v found in
       let few : v.entered ≤ found = omega (
         arith,
         one_of (λ (u : V). u.entered) s.views id v at,
         r.entered,
       ) in (
-        w,
+        finding v found,
         keeps,
         tt,
-        subst (λ (ws : List ℕ). Rule record {
-          words =
-              set ws 0 (either (get_or ws 0 0 == old) new (get_or ws 0 0));
-          homes = s.homes;
-          views = set s.views id w;
-        }) (sym r.words)
-            (subst (λ (k : ℕ). Rule record {
-              words = k ∷ r.serving ∷ length r.log ∷ [];
-              homes = s.homes;
-              views = set s.views id w;
-            }) (sym next)
-            (moved s r id v w r.ticket r.serving r.log s.homes at (omega arith) (omega arith)
-            (λ k. inl (omega arith)) (omega arith) (omega arith) (omega arith)
-            (omega (arith, here)) (λ k. refl)
-            (record {
-              of = of_same v w refl some_view v.origin fit.of;
-              counted = fit.counted;
-              holding = fit.holding;
-              early = fit.early;
-              prefix = fit.prefix;
-              begins = fit.begins;
-              own = fit.own;
-              some_own = fit.some_own;
-            })
-            (λ j u _ e. r.each_view j u e) (slot_stays r.log s.homes s.views id v w at refl
-            r.slot))),
+        rw (r.words, next) (reads s r id v r.ticket v.seen at some_view (omega arith) fit.prefix
+            fit.begins),
         match_false (found == old) _ _ (ne_eqb found old miss) (
           refl,
           omega arith,
