@@ -9,7 +9,7 @@ use Rattle.std.specs.Option.{option_to_list, option_map_or}
 use Rattle.std.proofs.lemmas.List.{length-drop, length-append, length-take-le, take-append-drop}
 use Rattle.std.proofs.lemmas.Bool.{and_parts, and_left, or_from, or_right, eqb-true, eq-eqb, lt-ltb}
 use Rattle.std.proofs.lemmas.Bool.{le-ltb, cases_lt, false≢true, true≢false}
-use Rattle.archive_terms.specs.Archive.{Entry, is_archive, is_closed}
+use Rattle.archive_terms.specs.Archive.{Entry, is_archive}
 use Rattle.archive_terms.specs.Selection.{Selection, picked, is_stop_closed}
 use Rattle.archive_terms.specs.Delivery.{Item, backlog, end_of_data, archived_items, is_complete}
 use Rattle.archive_terms.specs.Delivery.{is_archived, is_backlog, is_end_of_data, is_timely, Terms}
@@ -27,271 +27,162 @@ use Rattle.archive_terms.specs.Placed.{with_items, is_all_put, with_end_alone, f
 use Rattle.archive_terms.specs.Placed.{placed_step, placed_answered, placed_at_round}
 use Rattle.archive_terms.specs.Placed.{placed_answer_at, placed_after_round, placed_fate}
 use Rattle.archive_terms.specs.Placed.{told_where, placed_outcomes}
-use Rattle.archive_terms.proofs.Picks.{picked_behind, picked-append, nothing_behind, stop_known}
-use Rattle.archive_terms.proofs.Picks.{is_stop_closed-append}
+use Rattle.archive_terms.proofs.Picks.{picked_behind, picked-append}
 use Rattle.archive_terms.proofs.Buffers.{InLimits, room, room-le, nothing_complete}
 use Rattle.archive_terms.proofs.Lists.{no_backlog}
 use Rattle.archive_terms.proofs.States.{State, going, owing, telling, ending, over, held_of_more}
-use Rattle.archive_terms.proofs.States.{State-grow, State-stepped, State-answered}
+use Rattle.archive_terms.proofs.States.{State-stepped, State-answered}
 use Rattle.archive_terms.proofs.Histories.{none_archived, some_held}
 use Rattle.archive_terms.proofs.Prefixes.{no_end}
 use Rattle.archive_terms.proofs.Told.{stand_before, items_stay, held_stand}
 use Rattle.archive_terms.proofs.Waiting.{from_place, all_from_first, waits_grow}
-use Rattle.archive_terms.proofs.Runs.{front_grows, is_archive-take}
+use Rattle.archive_terms.proofs.Runs.{front_grows, is_archive-take, held_within, State-longer}
 use Rattle.archive_terms.proofs.Agreement.{Agrees, items_of-told, held_is_empty, end_same}
 use Rattle.archive_terms.proofs.Agreement.{not_complete, Filled, fills}
 
 -- ---- a step
 
--- the buffer that is held after filling, with end of data where it stands alone
-agrees_held : (t : Terms) (a : List Entry) (now : ℕ) (p : Placed) (front head : Option Item)
-    (n since : ℕ) (owed : Bool) (held : List Told) → 0 < t.size
-    → Filled t a now p front n → p.owed ≡ owed → p.ended ≡ false
-    → (with_items t (glimpse a (want_of t p)) now p).since ≡ since
-    → held ≡ told_items a p.last (option_to_list head
-    ++ archived_items (take (room t.size front (drop n (picked a t.selection)))
-    (drop n (picked a t.selection))))
-    → Agrees t a
-    (fixed_where_due t ((glimpse a (want_of t p)).closed
-    && is_all_put t (glimpse a (want_of t p)) p) now
-    (record (with_items t (glimpse a (want_of t p)) now p) { held = held }))
-    (with_due_fixed t (picked a t.selection) (is_stop_closed t.selection a) now
-    (record {
-      settled = n;
-      held = room t.size front (drop n (picked a t.selection));
-      head = head;
-      owed = owed;
-      fixed = false;
-      since = since;
-      ended = false;
-    }))
-agrees_held t a now p front head n since owed held some f owes goes put is = record {
-  held = is;
-  waits = f.waits;
-  within = f.within;
-  owed = owes;
-  fixed =
-      ap (λ b. is_due_of t.size (limit_of t) now b
-      (contents (with_items t (glimpse a (want_of t p)) now p).since (items_of held))) f.last
-      ∙ ap (λ s. is_due_of t.size (limit_of t) now last (contents s (items_of held))) put
-      ∙ ap (λ xs. is_due_of t.size (limit_of t) now last (contents since xs)) (ap items_of is
-      ∙ items_of-told a p.last items);
-  since = put;
-  ended = goes;
-  still = λ waits. not_complete t.size (limit_of t) now since last items some waits;
-}
-  where
-    r : ℕ
-    r = room t.size front (drop n (picked a t.selection))
+module _ (t : Terms) (a : List Entry) (now : ℕ) (p : Placed) where
+  abbrev chosen : List (ℕ × Entry)
+  chosen = picked a t.selection
 
-    items : List Item
-    items = option_to_list head ++ archived_items (take r (drop n (picked a t.selection)))
+  abbrev stops : Bool
+  stops = is_stop_closed t.selection a
 
-    last : Bool
-    last = is_stop_closed t.selection a && nat_eq (n + r) (length (picked a t.selection))
+  -- the buffer as it is filled, and whether nothing more is to be picked
+  abbrev put : Placed
+  put = with_items t (glimpse a (want_of t p)) now p
 
-agrees_filled : (t : Terms) (a : List Entry) (now : ℕ) (p : Placed) (front : Option Item)
-    (n since : ℕ) (owed : Bool) → 0 < t.size
-    → Filled t a now p front n → p.owed ≡ owed → p.ended ≡ false
-    → (with_items t (glimpse a (want_of t p)) now p).since ≡ since
-    → Agrees t a
-    (fixed_where_due t ((glimpse a (want_of t p)).closed
-    && is_all_put t (glimpse a (want_of t p)) p) now
-    (with_end_alone ((glimpse a (want_of t p)).closed && is_all_put t (glimpse a (want_of t p)) p)
-    (with_items t (glimpse a (want_of t p)) now p)))
-    (with_due_fixed t (picked a t.selection) (is_stop_closed t.selection a) now
-    (with_end (picked a t.selection) (is_stop_closed t.selection a)
-    (record {
-      settled = n;
-      held = room t.size front (drop n (picked a t.selection));
-      head = front;
-      owed = owed;
-      fixed = false;
-      since = since;
-      ended = false;
-    })))
-agrees_filled t a now p front n since owed some f owes goes put =
-    by_end (nat_eq (length q.held) 0 && last) test refl tests
-  where
-    all : List (ℕ × Entry)
-    all = picked a t.selection
+  abbrev last : Bool
+  last = (glimpse a (want_of t p)).closed && is_all_put t (glimpse a (want_of t p)) p
 
-    closed : Bool
-    closed = is_stop_closed t.selection a
+  -- the delivery that counts, before its buffer is fixed
+  abbrev unfixed : Option Item → Option Item → ℕ → ℕ → Bool → Delivery
+  unfixed front head n since owed =
+      record {
+        settled = n;
+        held = room t.size front (drop n chosen);
+        head = head;
+        owed = owed;
+        fixed = false;
+        since = since;
+        ended = false;
+      }
 
-    r : ℕ
-    r = room t.size front (drop n all)
+  -- the buffer that is held after filling, with end of data where it stands alone
+  agrees_held : (front head : Option Item) (n since : ℕ) (owed : Bool) (held : List Told)
+      → 0 < t.size → Filled t a now p front n → p.owed ≡ owed → p.ended ≡ false
+      → put.since ≡ since
+      → held ≡ told_items a p.last (option_to_list head
+      ++ archived_items (take (room t.size front (drop n chosen)) (drop n chosen)))
+      → Agrees t a (fixed_where_due t last now (record put { held = held }))
+      (with_due_fixed t chosen stops now (unfixed front head n since owed))
+  agrees_held front head n since owed held some f owes goes moment is = record {
+    held = is;
+    waits = f.waits;
+    within = f.within;
+    owed = owes;
+    fixed =
+        ap (λ b. is_due_of t.size (limit_of t) now b (contents put.since (items_of held))) f.last
+        ∙ ap (λ s. is_due_of t.size (limit_of t) now ends (contents s (items_of held))) moment
+        ∙ ap (λ xs. is_due_of t.size (limit_of t) now ends (contents since xs)) (ap items_of is
+        ∙ items_of-told a p.last items);
+    since = moment;
+    ended = goes;
+    still = λ waits. not_complete t.size (limit_of t) now since ends items some waits;
+  }
+    where
+      r : ℕ
+      r = room t.size front (drop n chosen)
 
-    q : Placed
-    q = with_items t (glimpse a (want_of t p)) now p
+      items : List Item
+      items = option_to_list head ++ archived_items (take r (drop n chosen))
 
-    last : Bool
-    last = (glimpse a (want_of t p)).closed && is_all_put t (glimpse a (want_of t p)) p
+      ends : Bool
+      ends = stops && nat_eq (n + r) (length chosen)
 
-    empty : Bool
-    empty = is_none front && nat_eq r 0
+  agrees_filled : (front : Option Item) (n since : ℕ) (owed : Bool) → 0 < t.size
+      → Filled t a now p front n → p.owed ≡ owed → p.ended ≡ false → put.since ≡ since
+      → Agrees t a (fixed_where_due t last now (with_end_alone last put))
+      (with_due_fixed t chosen stops now (with_end chosen stops (unfixed front front n since owed)))
+  agrees_filled front n since owed some f owes goes moment = rw tests (by_end test refl)
+    where
+      r : ℕ
+      r = room t.size front (drop n chosen)
 
-    test : Bool
-    test = (true && empty) && closed && nat_eq n (length all)
+      empty : Bool
+      empty = is_none front && nat_eq r 0
 
-    no_room : (front : Option Item) (r : ℕ) → (is_none front && nat_eq r 0) ≡ true → r ≡ 0
-    no_room front r is = eqb-true r 0 (and_parts (is_none front) (nat_eq r 0) is).1
+      test : Bool
+      test = (true && empty) && stops && nat_eq n (length chosen)
 
-    tests : (nat_eq (length q.held) 0 && last) ≡ test
-    tests =
-        ap (λ b. b && last) (ap (λ xs. nat_eq (length xs) 0) f.held
-        ∙ held_is_empty a p.last front r (drop n all) (room-le t.size front (drop n all)))
-        ∙ ap (λ b. empty && b) f.last ∙ sym (end_same empty closed n r (length all)
-        (no_room front r))
+      no_room : (front : Option Item) (r : ℕ) → (is_none front && nat_eq r 0) ≡ true → r ≡ 0
+      no_room front r is = eqb-true r 0 (and_parts (is_none front) (nat_eq r 0) is).1
 
-    by_end : (b c : Bool) → test ≡ c → b ≡ test
-        → Agrees t a (fixed_where_due t last now
-        (record q { held = cond b ((end_of_data, None) ∷ []) q.held }))
-        (with_due_fixed t all closed now (record {
-          settled = n;
-          held = r;
-          head = cond test (Some end_of_data) front;
-          owed = owed;
-          fixed = false;
-          since = since;
-          ended = false;
-        }))
-    by_end b true is same =
-        let none : r ≡ 0 = no_room front r (and_parts (true && empty) closed
-        (and_parts ((true && empty) && closed) (nat_eq n (length all)) is).0).0 in
-        subst (λ x. Agrees t a (fixed_where_due t last now
-        (record q { held = cond x ((end_of_data, None) ∷ []) q.held }))
-        (with_due_fixed t all closed now (record {
-          settled = n;
-          held = r;
-          head = cond test (Some end_of_data) front;
-          owed = owed;
-          fixed = false;
-          since = since;
-          ended = false;
-        }))) (sym (same ∙ is))
-        (subst (λ x. Agrees t a (fixed_where_due t last now
-        (record q { held = (end_of_data, None) ∷ [] }))
-        (with_due_fixed t all closed now (record {
-          settled = n;
-          held = r;
-          head = cond x (Some end_of_data) front;
-          owed = owed;
-          fixed = false;
-          since = since;
-          ended = false;
-        }))) (sym is)
-        (agrees_held t a now p front (Some end_of_data) n since owed ((end_of_data, None) ∷ []) some
-        f owes goes put
-        (sym (ap (λ k. told_items a p.last (end_of_data ∷ archived_items (take k (drop n all))))
-        none))))
-    by_end b false is same =
-        subst (λ x. Agrees t a (fixed_where_due t last now
-        (record q { held = cond x ((end_of_data, None) ∷ []) q.held }))
-        (with_due_fixed t all closed now (record {
-          settled = n;
-          held = r;
-          head = cond test (Some end_of_data) front;
-          owed = owed;
-          fixed = false;
-          since = since;
-          ended = false;
-        }))) (sym (same ∙ is))
-        (subst (λ x. Agrees t a (fixed_where_due t last now (record q { held = q.held }))
-        (with_due_fixed t all closed now (record {
-          settled = n;
-          held = r;
-          head = cond x (Some end_of_data) front;
-          owed = owed;
-          fixed = false;
-          since = since;
-          ended = false;
-        }))) (sym is)
-        (agrees_held t a now p front front n since owed q.held some f owes goes put f.held))
+      tests : (nat_eq (length put.held) 0 && last) ≡ test
+      tests =
+          ap (λ b. b && last) (ap (λ xs. nat_eq (length xs) 0) f.held
+          ∙ held_is_empty a p.last front r (drop n chosen) (room-le t.size front (drop n chosen)))
+          ∙ ap (λ b. empty && b) f.last ∙ sym (end_same empty stops n r (length chosen)
+          (no_room front r))
 
--- a delivery that is fixed or ended stays as it is
-stays : (t : Terms) (a : List Entry) (now : ℕ) (p : Placed) (d : Delivery)
-    → (p.fixed || p.ended) ≡ true → Agrees t a p d
-    → Agrees t a (placed_step t (glimpse a (want_of t p)) now p) d
-stays t a now p d is g =
-    subst (λ b. Agrees t a (cond b p (fixed_where_due t last now
-    (with_end_alone last (with_items t (glimpse a (want_of t p)) now p)))) d) (sym is) g
-  where
-    last : Bool
-    last = (glimpse a (want_of t p)).closed && is_all_put t (glimpse a (want_of t p)) p
+      by_end : (c : Bool) → test ≡ c → Agrees t a (fixed_where_due t last now
+          (record put { held = cond c ((end_of_data, None) ∷ []) put.held }))
+          (with_due_fixed t chosen stops now
+          (unfixed front (cond c (Some end_of_data) front) n since owed))
+      by_end true is =
+          let none : r ≡ 0 = no_room front r (and_parts (true && empty) stops
+          (and_parts ((true && empty) && stops) (nat_eq n (length chosen)) is).0).0 in
+          agrees_held front (Some end_of_data) n since owed ((end_of_data, None) ∷ []) some f owes
+          goes moment (sym (ap (λ k. told_items a p.last (end_of_data ∷ archived_items
+          (take k (drop n chosen)))) none))
+      by_end false is = agrees_held front front n since owed put.held some f owes goes moment f.held
 
--- one that isn't is filled
-steps : (t : Terms) (a : List Entry) (now : ℕ) (p : Placed) (first front : Option Item)
-    (n k since : ℕ) (owed : Bool) → 0 < t.size
-    → (p.fixed || p.ended) ≡ false → p.ended ≡ false → p.owed ≡ owed → p.since ≡ since
-    → n + k ≤ length (picked a t.selection)
-    → InLimits t.size (option_to_list front ++ archived_items
-    (take k (drop n (picked a t.selection))))
-    → p.held ≡ told_items a p.last (option_to_list first
-    ++ archived_items (take k (drop n (picked a t.selection))))
-    → with_head p ≡ told_items a p.last (option_to_list front
-    ++ archived_items (take k (drop n (picked a t.selection))))
-    → filter (from_place p.place) (picked a t.selection) ≡ drop (n + k) (picked a t.selection)
-    → p.place ≤ length a
-    → Agrees t a (placed_step t (glimpse a (want_of t p)) now p)
-    (with_due_fixed t (picked a t.selection) (is_stop_closed t.selection a) now
-    (with_end (picked a t.selection) (is_stop_closed t.selection a)
-    (record {
-      settled = n;
-      held = room t.size front (drop n (picked a t.selection));
-      head = front;
-      owed = owed;
-      fixed = false;
-      since = cond ((is_none first && nat_eq k 0)
-          && not (is_none front && nat_eq (room t.size front (drop n (picked a t.selection))) 0))
-          now since;
-      ended = false;
-    })))
-steps t a now p first front n k since owed some goes unended owes put fits limits held head waits
-    within =
-    subst (λ b. Agrees t a (cond b p (fixed_where_due t last now (with_end_alone last q)))
-    (with_due_fixed t all (is_stop_closed t.selection a) now
-    (with_end all (is_stop_closed t.selection a)
-    (record {
-      settled = n;
-      held = r;
-      head = front;
-      owed = owed;
-      fixed = false;
-      since = moment;
-      ended = false;
-    })))) (sym goes)
-    (agrees_filled t a now p front n moment owed some f owes unended since_is)
-  where
-    all : List (ℕ × Entry)
-    all = picked a t.selection
+  -- a delivery that is fixed or ended stays as it is, and another is filled
+  steps_by : (d : Delivery) (b : Bool) → (p.fixed || p.ended) ≡ b
+      → Agrees t a (cond b p (fixed_where_due t last now (with_end_alone last put))) d
+      → Agrees t a (placed_step t (glimpse a (want_of t p)) now p) d
+  steps_by d b is g =
+      subst (λ b. Agrees t a (cond b p (fixed_where_due t last now (with_end_alone last put))) d)
+      (sym is) g
 
-    q : Placed
-    q = with_items t (glimpse a (want_of t p)) now p
+  -- whether a buffer with this head and so many entries is empty
+  abbrev is_bare : Option Item → ℕ → Bool
+  is_bare head k = is_none head && nat_eq k 0
 
-    last : Bool
-    last = (glimpse a (want_of t p)).closed && is_all_put t (glimpse a (want_of t p)) p
+  steps : (first front : Option Item) (n k since : ℕ) (owed : Bool) → 0 < t.size
+      → (p.fixed || p.ended) ≡ false → p.ended ≡ false → p.owed ≡ owed → p.since ≡ since
+      → n + k ≤ length chosen
+      → InLimits t.size (option_to_list front ++ archived_items (take k (drop n chosen)))
+      → p.held ≡ told_items a p.last (option_to_list first
+      ++ archived_items (take k (drop n chosen)))
+      → with_head p ≡ told_items a p.last (option_to_list front
+      ++ archived_items (take k (drop n chosen)))
+      → filter (from_place p.place) chosen ≡ drop (n + k) chosen → p.place ≤ length a
+      → Agrees t a (placed_step t (glimpse a (want_of t p)) now p)
+      (with_due_fixed t chosen stops now (with_end chosen stops (unfixed front front n
+      (cond (is_bare first k && not (is_bare front (room t.size front (drop n chosen)))) now since)
+      owed)))
+  steps first front n k since owed some goes unended owes moment fits limits held head waits
+      within =
+      steps_by _ false goes (agrees_filled front n (cond (is_bare first k && not (is_bare front r))
+      now since) owed some f owes unended since_is)
+    where
+      r : ℕ
+      r = room t.size front (drop n chosen)
 
-    f : Filled t a now p front n
-    f = fills t a now p front n k some goes fits limits head waits within
+      f : Filled t a now p front n
+      f = fills t a now p front n k some goes fits limits head waits within
 
-    r : ℕ
-    r = room t.size front (drop n all)
-
-    moment : ℕ
-    moment = cond ((is_none first && nat_eq k 0) && not (is_none front && nat_eq r 0)) now since
-
-    since_is : q.since ≡ cond ((is_none first && nat_eq k 0) && not (is_none front && nat_eq r 0))
-        now since
-    since_is =
-        ap (λ b. cond (b && not (nat_eq (length q.held) 0)) now p.since)
-        (ap (λ xs. nat_eq (length xs) 0) held
-        ∙ held_is_empty a p.last first k (drop n all) (omega (arith, length-drop n all)))
-        ∙ ap (λ b. cond ((is_none first && nat_eq k 0) && not b) now p.since)
-        (ap (λ xs. nat_eq (length xs) 0) f.held
-        ∙ held_is_empty a p.last front r (drop n all) (room-le t.size front (drop n all)))
-        ∙ ap (λ s. cond ((is_none first && nat_eq k 0) && not (is_none front && nat_eq r 0)) now s)
-        put
+      since_is : put.since ≡ cond (is_bare first k && not (is_bare front r)) now since
+      since_is =
+          ap (λ b. cond (b && not (nat_eq (length put.held) 0)) now p.since)
+          (ap (λ xs. nat_eq (length xs) 0) held
+          ∙ held_is_empty a p.last first k (drop n chosen) (omega (arith, length-drop n chosen)))
+          ∙ ap (λ b. cond (is_bare first k && not b) now p.since)
+          (ap (λ xs. nat_eq (length xs) 0) f.held
+          ∙ held_is_empty a p.last front r (drop n chosen) (room-le t.size front (drop n chosen)))
+          ∙ ap (λ s. cond (is_bare first k && not (is_bare front r)) now s) moment
 
 goes_on : (p : Placed) → p.fixed ≡ false → p.ended ≡ false → (p.fixed || p.ended) ≡ false
 goes_on p fixed unended = or_from p.fixed p.ended fixed unended
@@ -301,7 +192,7 @@ pub Agrees-stepped : (t : Terms) (a : List Entry) (now : ℕ) (p : Placed) (d : 
     → Agrees t a (placed_step t (glimpse a (want_of t p)) now p)
     (stepped t (picked a t.selection) (is_stop_closed t.selection a) now d)
 Agrees-stepped t a now p d some (going n k true since fits limits) g =
-    stays t a now p d (ap (λ b. b || p.ended) g.fixed) g
+    steps_by t a now p d true (ap (λ b. b || p.ended) g.fixed) g
 Agrees-stepped t a now p d some (going n k false since fits limits) g =
     steps t a now p None None n k since false some (goes_on p g.fixed g.ended) g.ended g.owed
     g.since fits limits g.held
@@ -320,7 +211,7 @@ Agrees-stepped t a now p d some (owing n since fits timely) g =
           ap (λ j. is_complete size (take j (backlog ∷ []))) first ∙ nothing_complete size some;
     }
 Agrees-stepped t a now p d some (telling n k true since fits limits timely) g =
-    stays t a now p d (ap (λ b. b || p.ended) g.fixed) g
+    steps_by t a now p d true (ap (λ b. b || p.ended) g.fixed) g
 Agrees-stepped t a now p d some (telling n k false since fits limits timely) g =
     steps t a now p (Some backlog) (Some backlog) n k since true some (goes_on p g.fixed g.ended)
     g.ended g.owed g.since fits limits g.held
@@ -330,32 +221,11 @@ Agrees-stepped t a now p d some (telling n k false since fits limits timely) g =
     (omega (arith, length-drop n (picked a t.selection))))
     ∙ ap (λ b. cond (b && false) ((backlog, None) ∷ []) p.held) g.owed ∙ g.held) g.waits g.within
 Agrees-stepped t a now p d some (ending n k true since all none is shut) g =
-    stays t a now p d (ap (λ b. b || p.ended) g.fixed) g
+    steps_by t a now p d true (ap (λ b. b || p.ended) g.fixed) g
 Agrees-stepped t a now p d some (ending n k false since all none is shut) g = absurd (false≢true is)
 Agrees-stepped t a now p d some (over n k true since all none is shut) g = absurd (true≢false is)
 Agrees-stepped t a now p d some (over n k false since all none is shut) g =
-    stays t a now p _ (or_right p.fixed p.ended g.ended) over_same
-  where
-    xs : List (ℕ × Entry)
-    xs = drop n (picked a t.selection)
-
-    more : ℕ
-    more = room t.size None xs
-
-    none_more : more ≡ 0
-    none_more = omega (arith, room-le t.size None xs, length-drop n (picked a t.selection), all)
-
-    over_same : Agrees t a p (stepped t (picked a t.selection) (is_stop_closed t.selection a) now
-        (record {
-          settled = n;
-          held = k;
-          head = None;
-          owed = false;
-          fixed = false;
-          since = since;
-          ended = true;
-        }))
-    over_same = record {
+    steps_by t a now p _ true (or_right p.fixed p.ended g.ended) (record {
       held = g.held ∙ ap (λ m. told_items a p.last (archived_items (take m xs))) (none
           ∙ sym none_more);
       waits = g.waits ∙ ap (λ m. drop (n + m) (picked a t.selection)) (none ∙ sym none_more);
@@ -371,7 +241,16 @@ Agrees-stepped t a now p d some (over n k false since all none is shut) g =
       ended = g.ended;
       still = λ _. ap (λ m. is_complete t.size (archived_items (take m xs))) none_more
           ∙ nothing_complete t.size some;
-    }
+    })
+  where
+    xs : List (ℕ × Entry)
+    xs = drop n (picked a t.selection)
+
+    more : ℕ
+    more = room t.size None xs
+
+    none_more : more ≡ 0
+    none_more = omega (arith, room-le t.size None xs, length-drop n (picked a t.selection), all)
 
 -- ---- an answer
 
@@ -463,38 +342,17 @@ Agrees-answered t a whole p d some is s g = record {
 }
 Agrees-answered t a fail p d some is s g = g
 Agrees-answered t a stall p d some is s g =
-    subst (λ b. Agrees t a (cond b dropped p)
-    (cond (is_discardable t.mode d) (record (released d) { owed = true }) d))
-    (sym (discards_same t a p d s g))
-    (by_test (is_discardable t.mode d))
+    rw (discards_same t a p d s g) (by_test (is_discardable t.mode d))
   where
     dropped : Placed
     dropped = record p { held = []; fixed = false; owed = true }
 
     by_test : (b : Bool) → Agrees t a (cond b dropped p)
         (cond b (record (released d) { owed = true }) d)
-    by_test true = record {
-      held = refl;
-      waits = none_waits t a p d g;
-      within = g.within;
-      owed = refl;
-      fixed = refl;
-      since = g.since;
-      ended = g.ended;
-      still = λ _. nothing_complete t.size some;
-    }
+    by_test true = assumption (none_waits t a p d g, nothing_complete t.size some, g)
     by_test false = g
 
 -- ---- a longer archive
-
-held_within : (t : Terms) (entries : List (ℕ × Entry)) (closed : Bool) (d : Delivery)
-    → State t entries closed d
-    → d.settled + d.held ≤ length entries
-held_within t entries closed d (going n k fixed since fits limits) = fits
-held_within t entries closed d (telling n k fixed since fits limits timely) = fits
-held_within t entries closed d (owing n since fits timely) = omega arith
-held_within t entries closed d (ending n k fixed since all none is shut) = omega arith
-held_within t entries closed d (over n k fixed since all none is shut) = omega arith
 
 buffer_stands : (t : Terms) (a : List Entry) (closed : Bool) (d : Delivery)
     → State t (picked a t.selection) closed d
@@ -550,17 +408,9 @@ Both-further t entries f g p d archive rise both =
     let to : a ++ b ≡ take g entries = front_grows entries f g rise in
     let longer : is_archive (a ++ b) ≡ true = ap is_archive to
     ∙ is_archive-take entries g archive in
-    let last : is_stop_closed s a ≡ true → picked_behind a b s ≡ [] = λ closed.
-    let known : (stop : ℕ) × (s.stop ≡ Some stop) × (is_closed a stop ≡ true) =
-    stop_known s a closed in
-    nothing_behind a b s known.0 known.1 known.2 longer in
-    let grown : State t (picked a s ++ picked_behind a b s) (is_stop_closed s (a ++ b)) d =
-    State-grow t (picked a s) (picked_behind a b s) (is_stop_closed s a) (is_stop_closed s (a ++ b))
-    d (is_stop_closed-append s a b) last both.state in
     record {
       state = subst (λ x. State t (picked x s) (is_stop_closed s x) d) to
-          (subst (λ xs. State t xs (is_stop_closed s (a ++ b)) d) (sym (picked-append a b s))
-          grown);
+          (State-longer t a b d longer both.state);
       agrees = subst (λ x. Agrees t x p d) to (Agrees-grow t a b p d both.state both.agrees);
     }
 
@@ -670,6 +520,12 @@ told_same t entries p d f (Some whole) rest both =
     ∙ ap (λ xs. p.held ∷ told_buffers entries (last_frame p.last xs) rest)
     (sym (items_same t (take f entries) p d g))
 
+-- a run that ends here, or goes on as another does
+ends_same : {A B C : Type 0} (f : List A → C) (g : List B → C) (c : Bool) (xs : List A)
+    (ys : List B) → f [] ≡ g [] → f xs ≡ g ys → f (cond c [] xs) ≡ g (cond c [] ys)
+ends_same f g true xs ys none same = none
+ends_same f g false xs ys none same = same
+
 -- over rounds
 pub record Same (t : Terms) (entries : List Entry) (rounds : List Round) (p : Placed)
     (d : Delivery) : Type 0 where
@@ -683,18 +539,13 @@ same_rounds : (t : Terms) (entries : List Entry) (f : ℕ) (rounds : List Round)
     → FrontsRise f rounds → Both t entries f p d → Same t entries rounds p d
 same_rounds t entries f [] p d some archive rise both = record { steps = refl; told = refl }
 same_rounds t entries f (r ∷ rounds) p d some archive rise both =
-    let there : Both t entries r.front p d = Both-further t entries f r.front p d archive rise.0
-    both in
-    let at : Both t entries r.front (placed_at_round t entries r p) (at_round t entries r d) =
-    Both-at t entries r p d some there in
-    let next : Both t entries r.front (placed_after_round t entries r p)
-    (after_round t entries r d) = Both-round t entries r p d some there in
-    let later : Same t entries rounds (placed_after_round t entries r p) (after_round t entries r d)
-    =
-    same_rounds t entries r.front rounds (placed_after_round t entries r p)
-    (after_round t entries r d) some archive rise.1 next in
-    one_more at later
+    one_more (Both-at t entries r p d some there) (same_rounds t entries r.front rounds
+    (placed_after_round t entries r p) (after_round t entries r d) some archive rise.1
+    (Both-round t entries r p d some there))
   where
+    there : Both t entries r.front p d
+    there = Both-further t entries f r.front p d archive rise.0 both
+
     q : Placed
     q = placed_at_round t entries r p
 
@@ -728,24 +579,6 @@ same_rounds t entries f (r ∷ rounds) p d some archive rise both =
     does : Option Answer → List (Outcome × Option (List Told))
     does x = did x ∷ cond (is_failed r.link x) [] (placed_outcomes t entries rounds (after x))
 
-    steps_on : (c : Bool) → map (λ x. x.0) (placed_outcomes t entries rounds (after answer))
-        ≡ outcomes t entries rounds (after_round t entries r d)
-        → map (λ x. x.0) (cond c [] (placed_outcomes t entries rounds (after answer)))
-        ≡ cond c [] (outcomes t entries rounds (after_round t entries r d))
-    steps_on true same = refl
-    steps_on false same = same
-
-    told_on : (c : Bool) → filter_map (λ (x : Outcome × Option (List Told)). x.1)
-        (placed_outcomes t entries rounds (after answer))
-        ≡ told_buffers entries (after answer).last
-        (handed_buffers (outcomes t entries rounds (after_round t entries r d)))
-        → filter_map (λ (x : Outcome × Option (List Told)). x.1)
-        (cond c [] (placed_outcomes t entries rounds (after answer)))
-        ≡ told_buffers entries (after answer).last
-        (handed_buffers (cond c [] (outcomes t entries rounds (after_round t entries r d))))
-    told_on true same = refl
-    told_on false same = same
-
     one_more : Both t entries r.front q e
         → Same t entries rounds (placed_after_round t entries r p) (after_round t entries r d)
         → Same t entries (r ∷ rounds) p d
@@ -761,10 +594,17 @@ same_rounds t entries f (r ∷ rounds) p d some archive rise both =
               ∙ ap (λ o. o ∷ map (λ y. y.0) (cond failed_at []
               (placed_outcomes t entries rounds (after answer))))
               (fates_same t (take r.front entries) q e answer at.state at.agrees)
-              ∙ ap (λ xs. outcome t entries r d ∷ xs) (steps_on failed_at further.steps);
+              ∙ ap (λ xs. outcome t entries r d ∷ xs)
+              (ends_same (map (λ y. y.0)) (λ ys. ys) failed_at
+              (placed_outcomes t entries rounds (after answer))
+              (outcomes t entries rounds (after_round t entries r d)) refl further.steps);
           told =
               ap (λ x. filter_map (λ (y : Outcome × Option (List Told)). y.1) (does x)) same
-              ∙ ap (cons_option (did answer).1) (told_on failed_at further.told)
+              ∙ ap (cons_option (did answer).1) (ends_same
+              (filter_map (λ (y : Outcome × Option (List Told)). y.1))
+              (λ ys. told_buffers entries (after answer).last (handed_buffers ys)) failed_at
+              (placed_outcomes t entries rounds (after answer))
+              (outcomes t entries rounds (after_round t entries r d)) refl further.told)
               ∙ sym (told_same t entries q e r.front answer
               (handed_buffers (cond failed_at []
               (outcomes t entries rounds (after_round t entries r d)))) at)
@@ -779,10 +619,8 @@ pub same_run : (t : Terms) (entries : List Entry) (rounds : List Round) → 0 < 
 same_run t entries rounds some archive first rise =
     same_rounds t entries t.selection.first rounds (placed_at_start t) started some archive rise
     (record {
-      state = going 0 0 false 0 (omega arith) (record {
-        open_before =
-            λ j below. absurd (omega arith);
-      });
+      state = going 0 0 false 0 (omega arith)
+          (record { open_before = λ j below. absurd (omega arith) });
       agrees = record {
         held = refl;
         waits = all_from_first (take t.selection.first entries) t.selection;

@@ -1,14 +1,14 @@
 -- An offline delivery whose front stands still and whose offers are taken hands over the cut
 -- buffers.
 use Rattle.std.proofs.Common.{◌≡◌, ℕ, suc, ◌+◌, ◌<◌, ◌≤◌, Bool, true, false, cond, ◌&&◌, ◌||◌}
-use Rattle.std.proofs.Common.{nat_eq, nat_lt, List, [], ◌∷◌, ◌++◌, map, length, take, drop, Some}
+use Rattle.std.proofs.Common.{nat_eq, nat_lt, List, [], ◌∷◌, map, length, take, drop, Some}
 use Rattle.std.proofs.Common.{None, refl, ap, sym, ◌∙◌, arith, inl, inr}
 use Rattle.std.specs.List.{list_any, filter, cons_option}
 use Rattle.std.specs.Option.{option_map_or}
 use Rattle.std.proofs.lemmas.List.{length-drop, length-take, length-map, take_all, drop_all}
 use Rattle.std.proofs.lemmas.List.{drop-drop, drop-map, take-map, nil_from_length}
 use Rattle.std.proofs.lemmas.Bool.{and_parts, cases_lt, both_ways, true≢false, false≢true, eq-eqb}
-use Rattle.std.proofs.lemmas.Bool.{ltb-true, lt-ltb, and_left, and_from}
+use Rattle.std.proofs.lemmas.Bool.{ltb-true, lt-ltb, and_left}
 use Rattle.archive_terms.specs.Archive.{Entry}
 use Rattle.archive_terms.specs.Selection.{is_stop_closed}
 use Rattle.archive_terms.specs.Delivery.{is_online, Item, archived, end_of_data, archived_items}
@@ -73,18 +73,11 @@ complete_or_last size waiting left =
 
 full_or_noted : (noted full late : Bool) → (noted || full || late || false) ≡ true → late ≡ false
     → (full || noted) ≡ true
-full_or_noted true true late due in_time = refl
-full_or_noted true false late due in_time = refl
-full_or_noted false true late due in_time = refl
-full_or_noted false false true due in_time = cc
-full_or_noted false false false due in_time = cc
+full_or_noted noted full late due in_time = grind arith
 
 neither : (noted full late last : Bool) → (noted || full || late || last) ≡ false
     → ((full || noted) ≡ false) × (last ≡ false)
-neither true full late last due = cc
-neither false true late last due = cc
-neither false false true last due = cc
-neither false false false last due = (refl, due)
+neither noted full late last due = grind arith
 
 -- a due buffer is complete, where the stop isn't closed and no latency limit counts
 due_is_complete : (t : Terms) (entries : List (ℕ × Entry)) (now n k since : ℕ)
@@ -126,8 +119,7 @@ not_due t entries closed now n k since some due =
     let none : (list_any is_notification b || is_full t.size b || late || last) ≡ false =
     sym (ap (λ x. x && (list_any is_notification b || is_full t.size b || late || last)) full)
     ∙ due in
-    let parts : ((is_full t.size b || list_any is_notification b) ≡ false) × (last ≡ false) =
-    neither (list_any is_notification b) (is_full t.size b) late last none in
+    let parts = neither (list_any is_notification b) (is_full t.size b) late last none in
     (ap (λ noted. is_full t.size b || noted) (sym (same_notices held)) ∙ parts.0, parts.1)
 
 -- what is left to hand over after n picked entries
@@ -143,36 +135,28 @@ hands_first : (t : Terms) (entries : List (ℕ × Entry)) (closed : Bool) (now n
     → is_due t entries closed now (resting n (held_from t entries n) since false false) ≡ true
     → left t entries closed n ≡ archived_items (take (held_from t entries n) (drop n entries))
     ∷ left t entries closed (n + held_from t entries n)
-hands_first t entries closed now n since some off due =
-    let k : ℕ = held_from t entries n in
-    let more : 0 < k = due_holds t entries closed now n k since due in
-    let first : cut t.size (archived_items (drop n entries))
-    ≡ archived_items (take k (drop n entries))
-    ∷ cut t.size (archived_items (drop k (drop n entries))) =
-    first_cut t.size (drop n entries) some (omega (arith, room-le t.size None (drop n entries))) in
-    let rest : drop k (drop n entries) ≡ drop (n + k) entries = drop-drop k n entries in
-    by_stop closed k first rest due
+hands_first t entries closed now n since some off due = by_stop closed due
   where
-    by_stop : (closed : Bool) (k : ℕ)
-        → cut t.size (archived_items (drop n entries))
+    k : ℕ
+    k = held_from t entries n
+
+    more : 0 < k
+    more = due_holds t entries closed now n k since due
+
+    first : cut t.size (archived_items (drop n entries))
         ≡ archived_items (take k (drop n entries))
-        ∷ cut t.size (archived_items (drop k (drop n entries)))
-        → drop k (drop n entries) ≡ drop (n + k) entries
-        → is_due t entries closed now (resting n k since false false) ≡ true
+        ∷ cut t.size (archived_items (drop (n + k) entries))
+    first = rw (
+      first_cut t.size (drop n entries) some
+          (omega (arith, more, room-le t.size None (drop n entries))),
+      drop-drop k n entries,
+    )
+
+    by_stop : (closed : Bool) → is_due t entries closed now (resting n k since false false) ≡ true
         → left t entries closed n ≡ archived_items (take k (drop n entries))
         ∷ left t entries closed (n + k)
-    by_stop true k first rest due =
-        ap (λ buffers. buffers ++ (end_of_data ∷ []) ∷ []) first
-        ∙ ap (λ xs. archived_items (take k (drop n entries))
-        ∷ (cut t.size (archived_items xs) ++ (end_of_data ∷ []) ∷ [])) rest
-    by_stop false k first rest due =
-        ap (filter (is_complete t.size)) first
-        ∙ ap (λ b. cond b (archived_items (take k (drop n entries))
-        ∷ filter (is_complete t.size) (cut t.size (archived_items (drop k (drop n entries)))))
-        (filter (is_complete t.size) (cut t.size (archived_items (drop k (drop n entries))))))
-        (due_is_complete t entries now n k since off due)
-        ∙ ap (λ xs. archived_items (take k (drop n entries))
-        ∷ filter (is_complete t.size) (cut t.size (archived_items xs))) rest
+    by_stop true due = rw first
+    by_stop false due = rw (first, due_is_complete t entries now n k since off due)
 
 -- where neither end of data nor the held buffer is due nothing is left
 nothing_left : (t : Terms) (entries : List (ℕ × Entry)) (closed : Bool) (now n since : ℕ)
@@ -211,10 +195,7 @@ nothing_left t entries closed now n since some within no_end due =
           length-drop n entries,
           ap length (empty none),
         ) in
-        absurd (false≢true (sym no_end
-        ∙ and_from ((true && nat_eq k 0) && true) (nat_eq n (length entries))
-        (and_from (true && nat_eq k 0) true (ap (λ b. true && b) (eq-eqb k 0 none)) refl)
-        (eq-eqb n (length entries) all)))
+        absurd (true≢false (rw (eq-eqb k 0 none, eq-eqb n (length entries) all) at no_end))
     with_none false none no_end =
         ap (λ xs. filter (is_complete t.size) (cut t.size (archived_items xs))) (empty none)
 
@@ -225,22 +206,17 @@ nothing_left t entries closed now n since some within no_end due =
         absurd (false≢true (sym last ∙ eq-eqb (n + k) (length entries)
         (omega (arith, length-drop n entries, room-le t.size None waiting))))
     by_stop false held all still last =
-        ap (filter (is_complete t.size)) (first_cut t.size waiting some
-        (omega (arith, room-le t.size None waiting)))
-        ∙ ap (λ b. cond b (archived_items (take k waiting)
-        ∷ filter (is_complete t.size) (cut t.size (archived_items (drop k waiting))))
-        (filter (is_complete t.size) (cut t.size (archived_items (drop k waiting)))))
-        still
-        ∙ ap (λ xs. filter (is_complete t.size) (cut t.size (archived_items xs)))
-        (drop_all k waiting all)
+        rw (
+          first_cut t.size waiting some (omega (arith, room-le t.size None waiting)),
+          still,
+          drop_all k waiting all,
+        )
 
     with_some : (closed : Bool) → 0 < k
         → is_due t entries closed now (resting n k since false false) ≡ false
         → left t entries closed n ≡ []
     with_some closed held due =
-        let parts : (is_complete t.size (archived_items (take k waiting)) ≡ false)
-        × ((closed && nat_eq (n + k) (length entries)) ≡ false) =
-        not_due t entries closed now n k since
+        let parts = not_due t entries closed now n k since
         (omega (arith, length-take k waiting, room-le t.size None waiting)) due in
         let all : length waiting ≤ k = elim (cases_lt k (length waiting)) [
           | inl less ↦ absurd (both_ways (is_complete t.size (archived_items (take k waiting)))
@@ -249,142 +225,110 @@ nothing_left t entries closed now n since some within no_end due =
         ] in
         by_stop closed held all parts.0 parts.1
 
--- the buffers that rounds hand over from a delivery on
-abbrev handed_from : Terms → List Entry → ℕ → List ℕ → Delivery → List (List Item)
-handed_from t a front moments d = handed_buffers (outcomes t a (map (free_round front) moments) d)
-
--- the same, where the first round's step has led to d
-abbrev handed_at : Terms → List Entry → ℕ → List ℕ → Delivery → List (List Item)
-handed_at t a front moments d =
-    let answer = cond d.fixed (Some whole) None in
-    cons_option (handed_buffer (option_map_or (λ x. fate t x d (buffer (picked_at t a front) d))
-    answer nothing))
-    (handed_buffers (cond (is_failed (free whole) answer) []
-    (outcomes t a (map (free_round front) moments)
-    (option_map_or (λ x. answered t x d) answer d))))
-
-over_at : (t : Terms) (a : List Entry) (front : ℕ) (moments : List ℕ) (n k since : ℕ) (due : Bool)
-    → due ≡ false
-    → handed_from t a front moments (resting n k since false true) ≡ []
-    → handed_at t a front moments (resting n k since due true) ≡ []
-over_at t a front moments n k since true not_due rest = absurd (true≢false not_due)
-over_at t a front moments n k since false not_due rest = rest
-
--- after end of data nothing is handed over
-over_hands_nothing : (t : Terms) (a : List Entry) (front : ℕ) (moments : List ℕ) (n k since : ℕ)
-    → length (picked_at t a front) ≤ n
-    → handed_from t a front moments (resting n k since false true) ≡ []
-over_hands_nothing t a front [] n k since all = refl
-over_hands_nothing t a front (now ∷ moments) n k since all =
-    let entries : List (ℕ × Entry) = picked_at t a front in
-    let more : ℕ = held_from t entries n in
-    let none : more ≡ 0 = omega (
-      arith,
-      room-le t.size None (drop n entries),
-      length-drop n entries,
-    ) in
-    over_at t a front moments n more _ _ (and_left
-    (nat_lt 0 (length (archived_items (take more (drop n entries))))) _
-    (ap (λ k. nat_lt 0 (length (archived_items (take k (drop n entries))))) none))
-    (over_hands_nothing t a front moments n more _ all)
-
 take_none : {X : Type 0} → (n : ℕ) → take n (let none : List X = [] in none) ≡ []
 take_none n = take_all n [] (omega arith)
 
--- a round at which end of data isn't due
-due_at : (t : Terms) (a : List Entry) (front : ℕ) (moments : List ℕ) (closed : Bool) (n k since : ℕ)
-    (due : Bool)
-    → (due ≡ true → left t (picked_at t a front) closed n
-    ≡ archived_items (take k (drop n (picked_at t a front)))
-    ∷ left t (picked_at t a front) closed (n + k))
-    → (due ≡ false → left t (picked_at t a front) closed n ≡ [])
-    → ((n k since : ℕ) → n ≤ length (picked_at t a front)
-    → handed_from t a front moments (resting n k since false false)
-    ≡ take (length moments) (left t (picked_at t a front) closed n))
-    → n + k ≤ length (picked_at t a front)
-    → handed_at t a front moments (resting n k since due false)
-    ≡ take (suc (length moments)) (left t (picked_at t a front) closed n)
-due_at t a front moments closed n k since true first none rest within =
-    ap (λ xs. archived_items (take k (drop n (picked_at t a front))) ∷ xs)
-    (rest (n + k) 0 since within)
-    ∙ ap (take (suc (length moments))) (sym (first refl))
-due_at t a front moments closed n k since false first none rest within =
-    rest n k since (omega arith) ∙ ap (take (length moments)) (none refl)
-    ∙ take_none (length moments)
-    ∙ sym (ap (take (suc (length moments))) (none refl))
+-- the buffers that rounds at one front hand over
+module _ (t : Terms) (a : List Entry) (front : ℕ) where
+  abbrev entries : List (ℕ × Entry)
+  entries = picked_at t a front
 
-abbrev closed_at : Terms → List Entry → ℕ → Bool
-closed_at t a front = is_stop_closed t.selection (take front a)
+  abbrev closed : Bool
+  closed = is_stop_closed t.selection (take front a)
 
--- a round from a filled buffer, with end of data where the test for it holds
-end_at : (t : Terms) (a : List Entry) (front now : ℕ) (moments : List ℕ) (n k since : ℕ)
-    (ends : Bool)
-    → (ends ≡ true → (k ≡ 0) × (closed_at t a front ≡ true) × (n ≡ length (picked_at t a front)))
-    → (ends ≡ false → handed_at t a front moments
-    (with_due_fixed t (picked_at t a front) (closed_at t a front) now
-    (resting n k since false false))
-    ≡ take (suc (length moments)) (left t (picked_at t a front) (closed_at t a front) n))
-    → handed_at t a front moments
-    (with_due_fixed t (picked_at t a front) (closed_at t a front) now
-    (record {
-      settled = n;
-      held = k;
-      head = cond ends (Some end_of_data) None;
-      owed = false;
-      fixed = false;
-      since = since;
-      ended = false;
-    }))
-    ≡ take (suc (length moments)) (left t (picked_at t a front) (closed_at t a front) n)
-end_at t a front now moments n k since false why else = else refl
-end_at t a front now moments n k since true why else =
-    let entries : List (ℕ × Entry) = picked_at t a front in
-    let w : (k ≡ 0) × (closed_at t a front ≡ true) × (n ≡ length entries) = why refl in
-    let all : left t entries (closed_at t a front) n ≡ (end_of_data ∷ []) ∷ [] =
-    ap (offline_buffers t.size (drop n entries)) w.1
-    ∙ ap (λ xs. offline_buffers t.size xs true)
-    (drop_all n entries (let e : n ≡ length entries = w.2 in omega arith)) in
-    ap (λ b. handed_at t a front moments (record {
-      settled = n;
-      held = k;
-      head = Some end_of_data;
-      owed = false;
-      fixed = b && true;
-      since = since;
-      ended = false;
-    }))
-    (lt-ltb 0 (length (end_of_data ∷ archived_items (take k (drop n entries)))) (omega arith))
-    ∙ ap (λ buffers. (end_of_data ∷ archived_items (take k (drop n entries))) ∷ buffers)
-    (over_hands_nothing t a front moments (n + k) 0 since (let e : n ≡ length entries = w.2 in
-    omega arith))
-    ∙ ap (λ b. b ∷ []) (end_alone n k entries w.0)
-    ∙ ap (λ buffers. (end_of_data ∷ []) ∷ buffers) (sym (take_none (length moments)))
-    ∙ ap (take (suc (length moments))) (sym all)
+  -- what is left after n of the picked entries
+  abbrev behind : ℕ → List (List Item)
+  behind n = left t entries closed n
 
--- from a delivery of which nothing is owed
-rounds_from : (t : Terms) (a : List Entry) (front : ℕ) (moments : List ℕ) → 0 < t.size
-    → is_online t.mode ≡ false → (n k since : ℕ) → n ≤ length (picked_at t a front)
-    → handed_from t a front moments (resting n k since false false)
-    ≡ take (length moments) (left t (picked_at t a front) (closed_at t a front) n)
-rounds_from t a front [] some off n k since within = refl
-rounds_from t a front (now ∷ moments) some off n k since within =
-    let entries : List (ℕ × Entry) = picked_at t a front in
-    let closed : Bool = closed_at t a front in
-    let more : ℕ = held_from t entries n in
-    end_at t a front now moments n more _ ((true && nat_eq more 0) && closed
-    && nat_eq n (length entries))
-    (end_is_due more n (length entries) closed)
-    (λ no_end.
-    due_at t a front moments closed n more _ _
-    (λ due. hands_first t entries closed now n _ some off due)
-    (λ due. nothing_left t entries closed now n _ some within no_end due)
-    (rounds_from t a front moments some off)
-    (omega (arith, room-le t.size None (drop n entries), length-drop n entries)))
+  -- from a delivery on
+  abbrev handed_from : List ℕ → Delivery → List (List Item)
+  handed_from moments d = handed_buffers (outcomes t a (map (free_round front) moments) d)
 
-pub offline_rounds_lem : (t : Terms) (a : List Entry) (front : ℕ) (moments : List ℕ) → 0 < t.size
-    → is_online t.mode ≡ false
-    → handed_buffers (outcomes t a (map (free_round front) moments) started)
-    ≡ take (length moments) (offline_buffers t.size (picked_at t a front)
-    (is_stop_closed t.selection (take front a)))
-offline_rounds_lem t a front moments some off =
-    rounds_from t a front moments some off 0 0 0 (omega arith)
+  -- the same, where the first round's step has led to d
+  abbrev handed_at : List ℕ → Delivery → List (List Item)
+  handed_at moments d =
+      let answer = cond d.fixed (Some whole) None in
+      cons_option
+      (handed_buffer (option_map_or (λ x. fate t x d (buffer entries d)) answer nothing))
+      (handed_buffers (cond (is_failed (free whole) answer) []
+      (outcomes t a (map (free_round front) moments)
+      (option_map_or (λ x. answered t x d) answer d))))
+
+  over_at : (moments : List ℕ) (n k since : ℕ) (due : Bool) → due ≡ false
+      → handed_from moments (resting n k since false true) ≡ []
+      → handed_at moments (resting n k since due true) ≡ []
+  over_at moments n k since true not_due rest = absurd (true≢false not_due)
+  over_at moments n k since false not_due rest = rest
+
+  -- after end of data nothing is handed over
+  over_hands_nothing : (moments : List ℕ) (n k since : ℕ) → length entries ≤ n
+      → handed_from moments (resting n k since false true) ≡ []
+  over_hands_nothing [] n k since all = refl
+  over_hands_nothing (now ∷ moments) n k since all =
+      let more : ℕ = held_from t entries n in
+      let none : more ≡ 0 = omega (
+        arith,
+        room-le t.size None (drop n entries),
+        length-drop n entries,
+      ) in
+      over_at moments n more _ _
+      (and_left (nat_lt 0 (length (archived_items (take more (drop n entries))))) _
+      (ap (λ k. nat_lt 0 (length (archived_items (take k (drop n entries))))) none))
+      (over_hands_nothing moments n more _ all)
+
+  -- a round at which end of data isn't due
+  due_at : (moments : List ℕ) (n k since : ℕ) (due : Bool)
+      → (due ≡ true → behind n ≡ archived_items (take k (drop n entries)) ∷ behind (n + k))
+      → (due ≡ false → behind n ≡ [])
+      → ((n k since : ℕ) → n ≤ length entries
+      → handed_from moments (resting n k since false false) ≡ take (length moments) (behind n))
+      → n + k ≤ length entries
+      → handed_at moments (resting n k since due false) ≡ take (suc (length moments)) (behind n)
+  due_at moments n k since true first none rest within =
+      rw (first refl, rest (n + k) 0 since within)
+  due_at moments n k since false first none rest within =
+      rw (rest n k since (omega arith), none refl, take_none (length moments))
+
+  -- a round from a filled buffer, with end of data where the test for it holds
+  end_at : (now : ℕ) (moments : List ℕ) (n k since : ℕ) (ends : Bool)
+      → (ends ≡ true → (k ≡ 0) × (closed ≡ true) × (n ≡ length entries))
+      → (ends ≡ false
+      → handed_at moments (with_due_fixed t entries closed now (resting n k since false false))
+      ≡ take (suc (length moments)) (behind n))
+      → handed_at moments (with_due_fixed t entries closed now
+      (record (resting n k since false false) { head = cond ends (Some end_of_data) None }))
+      ≡ take (suc (length moments)) (behind n)
+  end_at now moments n k since false why else = else refl
+  end_at now moments n k since true why else =
+      let w : (k ≡ 0) × (closed ≡ true) × (n ≡ length entries) = why refl in
+      let last : n ≡ length entries = w.2 in
+      let all : behind n ≡ (end_of_data ∷ []) ∷ [] =
+      ap (offline_buffers t.size (drop n entries)) w.1
+      ∙ ap (λ xs. offline_buffers t.size xs true) (drop_all n entries (omega arith)) in
+      rw (
+        lt-ltb 0 (length (end_of_data ∷ archived_items (take k (drop n entries)))) (omega arith),
+        over_hands_nothing moments (n + k) 0 since (omega arith),
+        end_alone n k entries w.0,
+        all,
+        take_none (length moments),
+      )
+
+  -- from a delivery of which nothing is owed
+  rounds_from : (moments : List ℕ) → 0 < t.size → is_online t.mode ≡ false → (n k since : ℕ)
+      → n ≤ length entries
+      → handed_from moments (resting n k since false false) ≡ take (length moments) (behind n)
+  rounds_from [] some off n k since within = refl
+  rounds_from (now ∷ moments) some off n k since within =
+      let more : ℕ = held_from t entries n in
+      end_at now moments n more _ ((true && nat_eq more 0) && closed && nat_eq n (length entries))
+      (end_is_due more n (length entries) closed)
+      (λ no_end. due_at moments n more _ _
+      (λ due. hands_first t entries closed now n _ some off due)
+      (λ due. nothing_left t entries closed now n _ some within no_end due)
+      (rounds_from moments some off)
+      (omega (arith, room-le t.size None (drop n entries), length-drop n entries)))
+
+  pub offline_rounds_lem : (moments : List ℕ) → 0 < t.size → is_online t.mode ≡ false
+      → handed_buffers (outcomes t a (map (free_round front) moments) started)
+      ≡ take (length moments) (offline_buffers t.size entries closed)
+  offline_rounds_lem moments some off = rounds_from moments some off 0 0 0 (omega arith)

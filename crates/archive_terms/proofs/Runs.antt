@@ -1,12 +1,12 @@
 -- A delivery over a list of rounds: what it has come to and done.
-use Rattle.std.proofs.Common.{◌≡◌, ℕ, ◌<◌, ◌≤◌, Bool, true, false, cond, nat_lt, List, [], ◌∷◌}
+use Rattle.std.proofs.Common.{◌≡◌, ℕ, ◌+◌, ◌<◌, ◌≤◌, Bool, true, false, cond, nat_lt, List, [], ◌∷◌}
 use Rattle.std.proofs.Common.{◌++◌, length, take, drop, get_or, Option, Some, None, refl, ap, sym}
-use Rattle.std.proofs.Common.{◌∙◌, arith, subst}
+use Rattle.std.proofs.Common.{◌∙◌, arith}
 use Rattle.std.specs.List.{All, list_all}
 use Rattle.std.specs.Option.{option_map_or}
 use Rattle.std.proofs.lemmas.List.{append-nil, append_assoc, take-take, take-append-drop}
 use Rattle.std.proofs.lemmas.List.{take-append-le, take_all, take_at, map-append}
-use Rattle.archive_terms.specs.Archive.{Entry, is_archive, is_closed}
+use Rattle.archive_terms.specs.Archive.{Entry, is_archive}
 use Rattle.archive_terms.specs.Selection.{Selection, picked, is_stop_closed}
 use Rattle.std.specs.List.Sorted.{IsStrictlyIncreasing}
 use Rattle.archive_terms.specs.Continuity.{frame_places}
@@ -35,13 +35,13 @@ pub record Run (t : Terms) (a : List Entry) (done : List Outcome) (d : Delivery)
   pub history : History t (picked a t.selection) done d
   pub rising : Rising (picked a t.selection) (length a) done d.settled
 
-settled_within : (t : Terms) (entries : List (ℕ × Entry)) (closed : Bool) (d : Delivery)
-    → State t entries closed d → d.settled ≤ length entries
-settled_within t entries closed d (going n k fixed since fits limits) = omega arith
-settled_within t entries closed d (owing n since fits timely) = fits
-settled_within t entries closed d (telling n k fixed since fits limits timely) = omega arith
-settled_within t entries closed d (ending n k fixed since all none fix shut) = omega arith
-settled_within t entries closed d (over n k fixed since all none fix shut) = omega arith
+pub held_within : (t : Terms) (entries : List (ℕ × Entry)) (closed : Bool) (d : Delivery)
+    → State t entries closed d → d.settled + d.held ≤ length entries
+held_within t entries closed d (going n k fixed since fits limits) = fits
+held_within t entries closed d (telling n k fixed since fits limits timely) = fits
+held_within t entries closed d (owing n since fits timely) = omega arith
+held_within t entries closed d (ending n k fixed since all none is shut) = omega arith
+held_within t entries closed d (over n k fixed since all none is shut) = omega arith
 
 -- with other picked entries or in another state the same was done
 History-same : (t : Terms) (entries entries' : List (ℕ × Entry)) (done : List Outcome)
@@ -58,32 +58,34 @@ History-same t entries entries' done d d' same owes h = record {
   told_once = h.told_once;
 }
 
+-- the same state with a longer archive
+pub State-longer : (t : Terms) (a b : List Entry) (d : Delivery) → is_archive (a ++ b) ≡ true
+    → State t (picked a t.selection) (is_stop_closed t.selection a) d
+    → State t (picked (a ++ b) t.selection) (is_stop_closed t.selection (a ++ b)) d
+State-longer t a b d archive state =
+    let s : Selection = t.selection in
+    let last : is_stop_closed s a ≡ true → picked_behind a b s ≡ [] = λ closed.
+    let known = stop_known s a closed in
+    nothing_behind a b s known.0 known.1 known.2 archive in
+    rw (picked-append a b s) (State-grow t (picked a s) (picked_behind a b s) (is_stop_closed s a)
+    (is_stop_closed s (a ++ b)) d (is_stop_closed-append s a b) last state)
+
 pub Run-grow : (t : Terms) (a b : List Entry) (done : List Outcome) (d : Delivery)
     → is_archive (a ++ b) ≡ true → Run t a done d → Run t (a ++ b) done d
 Run-grow t a b done d archive run =
     let s : Selection = t.selection in
-    let all_is : picked a s ++ picked_behind a b s ≡ picked (a ++ b) s =
-    sym (picked-append a b s) in
-    let last : is_stop_closed s a ≡ true → picked_behind a b s ≡ [] = λ closed.
-    let known : (stop : ℕ) × (s.stop ≡ Some stop) × (is_closed a stop ≡ true) =
-    stop_known s a closed in
-    nothing_behind a b s known.0 known.1 known.2 archive in
-    let grown : State t (picked a s ++ picked_behind a b s) (is_stop_closed s (a ++ b)) d =
-    State-grow t (picked a s) (picked_behind a b s) (is_stop_closed s a) (is_stop_closed s (a ++ b))
-    d (is_stop_closed-append s a b) last run.state in
+    let all_is : picked (a ++ b) s ≡ picked a s ++ picked_behind a b s = picked-append a b s in
     let within : d.settled ≤ length (picked a s) =
-    settled_within t (picked a s) (is_stop_closed s a) d run.state in
+    omega (arith, held_within t (picked a s) (is_stop_closed s a) d run.state) in
     let same : take d.settled (picked a s) ≡ take d.settled (picked (a ++ b) s) =
-    sym (take-append-le d.settled (picked a s) (picked_behind a b s) within)
-    ∙ ap (take d.settled) all_is in
+    sym (ap (take d.settled) all_is
+    ∙ take-append-le d.settled (picked a s) (picked_behind a b s) within) in
     record {
-      state = subst (λ xs. State t xs (is_stop_closed s (a ++ b)) d) all_is grown;
+      state = State-longer t a b d archive run.state;
       history = History-same t (picked a s) (picked (a ++ b) s) done d d
           (ap (λ xs. archived_items xs ++ cond d.ended (end_of_data ∷ []) []) same) refl
           run.history;
-      rising =
-          subst (λ xs. Rising xs (length (a ++ b)) done d.settled) all_is
-          (Rising-grow a b s (picked a s) done d.settled within run.rising);
+      rising = rw all_is (Rising-grow a b s (picked a s) done d.settled within run.rising);
     }
 
 -- the step changes nothing of what was done
@@ -162,8 +164,7 @@ pub Run-further : (t : Terms) (entries : List Entry) (f g : ℕ) (done : List Ou
 Run-further t entries f g done d archive rise run =
     let to : take f entries ++ drop f (take g entries) ≡ take g entries =
     front_grows entries f g rise in
-    subst (λ a. Run t a done d) to
-    (Run-grow t (take f entries) (drop f (take g entries)) done d (ap is_archive to
+    rw to at (Run-grow t (take f entries) (drop f (take g entries)) done d (ap is_archive to
     ∙ is_archive-take entries g archive) run)
 
 Run-round : (t : Terms) (entries : List Entry) (f : ℕ) (r : Round) (done : List Outcome)
@@ -189,8 +190,14 @@ Run-round t entries f r done d some archive rise run =
 front_to_last : (f : ℕ) (rounds : List Round) → FrontsRise f rounds → f ≤ last_front f rounds
 front_to_last f [] rise = omega arith
 front_to_last f (r ∷ rounds) rise =
-    let later : r.front ≤ last_front r.front rounds = front_to_last r.front rounds rise.1 in
-    let here : f ≤ r.front = rise.0 in omega arith
+    let here : f ≤ r.front = rise.0 in omega (arith, front_to_last r.front rounds rise.1)
+
+-- a run that ends here, or goes on
+either_run : (t : Terms) (a : List Entry) (done : List Outcome) (o : Outcome) (later : List Outcome)
+    (d d' : Delivery) (b : Bool) → Run t a (done ++ o ∷ []) d → Run t a (done ++ o ∷ later) d'
+    → Run t a (done ++ o ∷ cond b [] later) (cond b d d')
+either_run t a done o later d d' true ended further = ended
+either_run t a done o later d d' false ended further = further
 
 Run-rounds : (t : Terms) (entries : List Entry) (f : ℕ) (rounds : List Round) (done : List Outcome)
     (d : Delivery)
@@ -199,40 +206,24 @@ Run-rounds : (t : Terms) (entries : List Entry) (f : ℕ) (rounds : List Round) 
     → Run t (take (last_front f rounds) entries) (done ++ outcomes t entries rounds d)
     (after_rounds t entries rounds d)
 Run-rounds t entries f [] done d some archive rise run =
-    subst (λ xs. Run t (take f entries) xs d) (sym (append-nil done)) run
+    rw append-nil run
 Run-rounds t entries f (r ∷ rounds) done d some archive rise run =
     let o : Outcome = outcome t entries r d in
     let next : Delivery = after_round t entries r d in
     let first : Run t (take r.front entries) (done ++ o ∷ []) next =
     Run-round t entries f r done d some archive rise.0 run in
-    on_end (ends_run t entries r d)
+    either_run t (take (last_front r.front rounds) entries) done o (outcomes t entries rounds next)
+    next (after_rounds t entries rounds next) (ends_run t entries r d)
     (Run-further t entries r.front (last_front r.front rounds) (done ++ o ∷ []) next archive
     (front_to_last r.front rounds rise.1) first)
-    (subst (λ xs. Run t (take (last_front r.front rounds) entries) xs
-    (after_rounds t entries rounds next))
-    (append_assoc done (o ∷ []) (outcomes t entries rounds next))
+    (rw (append_assoc done (o ∷ []) (outcomes t entries rounds next)) at
     (Run-rounds t entries r.front rounds (done ++ o ∷ []) next some archive rise.1 first))
-  where
-    on_end : (b : Bool) → Run t (take (last_front r.front rounds) entries)
-        (done ++ outcome t entries r d ∷ []) (after_round t entries r d)
-        → Run t (take (last_front r.front rounds) entries)
-        (done ++ outcome t entries r d ∷ outcomes t entries rounds (after_round t entries r d))
-        (after_rounds t entries rounds (after_round t entries r d))
-        → Run t (take (last_front r.front rounds) entries)
-        (done ++ outcome t entries r d ∷ cond b []
-        (outcomes t entries rounds (after_round t entries r d)))
-        (cond b (after_round t entries r d) (after_rounds t entries rounds
-        (after_round t entries r d)))
-    on_end true ended further = ended
-    on_end false ended further = further
 
 -- nothing was done at START
 Run-started : (t : Terms) (a : List Entry) → Run t a [] started
 Run-started t a = record {
-  state = going 0 0 false 0 (omega arith) (record {
-    open_before =
-        λ j below. absurd (omega arith);
-  });
+  state = going 0 0 false 0 (omega arith)
+      (record { open_before = λ j below. absurd (omega arith) });
   history = record {
     settled = refl;
     all_handed = λ mode. refl;
@@ -351,10 +342,7 @@ pub frames_in_run : (t : Terms) (entries : List Entry) (rounds : List Round) →
     → is_archive entries ≡ true → FrontsRise 0 rounds
     → IsStrictlyIncreasing (frame_places (handed_items (outcomes t entries rounds started)))
 frames_in_run t entries rounds some archive rise =
-    let rising : Rising (picked (take (last_front 0 rounds) entries) t.selection)
-    (length (take (last_front 0 rounds) entries)) (outcomes t entries rounds started)
-    (after_rounds t entries rounds started).settled =
-    (Run-all t entries rounds some archive rise).rising in
+    let rising = (Run-all t entries rounds some archive rise).rising in
     increasing_from_rises 0 rising.mid _ rising.below
 
 -- the frames that a run handed over stand before its last front
@@ -364,8 +352,6 @@ pub frames_within : (t : Terms) (entries : List Entry) (rounds : List Round) →
     (frame_places (handed_items (outcomes t entries rounds started))) ≡ true
 frames_within t entries rounds some archive rise =
     let a : List Entry = take (last_front 0 rounds) entries in
-    let rising : Rising (picked a t.selection) (length a) (outcomes t entries rounds started)
-    (after_rounds t entries rounds started).settled =
-    (Run-all t entries rounds some archive rise).rising in
+    let rising = (Run-all t entries rounds some archive rise).rising in
     all_below 0 rising.mid (length a) _ rising.below
     (rises_to_end rising.mid (length a) _ rising.above)
