@@ -1,7 +1,7 @@
 -- Lists of messages: what passes in them.
-use Rattle.std.proofs.Common.{◌≡◌, ◌≢◌, ◌⊎◌, inl, inr, ℕ, Bool, true, false, if◌then◌else◌, Option}
+use Rattle.std.proofs.Common.{◌≡◌, ◌≢◌, ◌⊎◌, inl, inr, ℕ, Bool, true, false, if◌then◌else◌}
 use Rattle.std.proofs.Common.{Some, None, List, [], ◌∷◌, refl, sym, ◌∙◌, ap, subst}
-use Rattle.std.specs.List.{cons_option, filter_map, AllByRecursion}
+use Rattle.std.specs.List.{cons_option, AllByRecursion}
 use Rattle.station_config.specs.declared.site.Site.{Site}
 use Rattle.assoc_core.specs.declared.outcome.Outcome.{Outcome}
 use Rattle.assoc_core.specs.declared.outcome.Outcome.TheVariants as outcome
@@ -10,8 +10,8 @@ use Rattle.assoc_core.specs.declared.state.State.{State}
 use Rattle.assoc_core.specs.declared.state.State.TheVariants as state
 use Rattle.assoc_core.specs.declared.step.Step.{Step}
 use Rattle.assoc_core.specs.declared.step.Step.TheVariants as step
-use Rattle.assoc_core.specs.Kind.{Kind, context, bind, unbind, start, stop, peer_abort, Message}
-use Rattle.assoc_core.specs.State.{binding_of, moved}
+use Rattle.assoc_core.specs.Kind.{Kind, context, bind, peer_abort, Message}
+use Rattle.assoc_core.specs.State.{binding_of}
 use Rattle.assoc_core.specs.Association.{is_in_place, goes_on, after_step, step as step_of}
 use Rattle.assoc_core.specs.Run.{Turn, after_turn, after, Played, plays, is_pass, passed_kind}
 use Rattle.assoc_core.specs.Run.{passed, is_of_bound, MayLead, AreLed}
@@ -36,9 +36,8 @@ shut_either false = refl
 
 stays_closing : (site : Site) (turn : Turn) → after_turn site state.Closing turn ≡ state.Closing
 stays_closing site turn =
-    ap (λ (s : State). moved s turn.outcome) (shut_either
-    (goes_on turn.message.kind (step_of site state.Closing turn.message)))
-    ∙ closing_stays turn.outcome
+    rw (shut_either (goes_on turn.message.kind (step_of site state.Closing turn.message)))
+    (closing_stays turn.outcome)
 
 not_passed : (site : Site) (m : Message) → is_pass (step_of site state.Closing m) ≡ false
 not_passed site m =
@@ -62,16 +61,13 @@ nothing_passes site (turn ∷ turns) =
 ends_closed : (site : Site) (s : State) (turn : Turn)
     → goes_on turn.message.kind (step_of site s turn.message) ≡ false
     → after_turn site s turn ≡ state.Closing
-ends_closed site s turn e =
-    ap (λ (b : Bool). moved (if b then s else state.Closing) turn.outcome) e
-    ∙ closing_stays turn.outcome
+ends_closed site s turn e = rw e (closing_stays turn.outcome)
 
 pub nothing_after_the_end : (site : Site) (s : State) (turn : Turn) (turns : List Turn)
     → goes_on turn.message.kind (step_of site s turn.message) ≡ false
     → passed (plays site (after_turn site s turn) turns) ≡ []
 nothing_after_the_end site s turn turns e =
-    ap (λ (s : State). passed (plays site s turns)) (ends_closed site s turn e)
-    ∙ nothing_passes site turns
+    rw (ends_closed site s turn e) (nothing_passes site turns)
 
 -- ---- opening
 
@@ -113,17 +109,17 @@ led_context outcome.Context may = refl
 led_context _ may = absurd may
 
 goes_on_context : (k : Kind) (r : Step) → k ≡ context → r ≡ step.Pass → goes_on k r ≡ true
-goes_on_context k r same pass = ap (λ k. goes_on k r) same ∙ ap (λ r. goes_on context r) pass
+goes_on_context k r same pass = rw (same, pass)
 
 -- after a context the state is unbound
 unbound_after : (site : Site) (turn : Turn) → MayLead turn.message.kind turn.outcome
     → step_of site state.Opening turn.message ≡ step.Pass → turn.message.kind ≡ context
     → after_turn site state.Opening turn ≡ state.Unbound
 unbound_after site turn may pass same =
-    ap (λ (b : Bool). moved (if b then state.Opening else state.Closing) turn.outcome)
-    (goes_on_context turn.message.kind (step_of site state.Opening turn.message) same pass)
-    ∙ ap (λ (o : Outcome). moved state.Opening o)
-    (led_context turn.outcome (subst (λ k. MayLead k turn.outcome) same may))
+    rw (
+      goes_on_context turn.message.kind (step_of site state.Opening turn.message) same pass,
+      led_context turn.outcome (subst (λ k. MayLead k turn.outcome) same may),
+    )
 
 first_passes : (site : Site) (turn : Turn) (turns : List Turn)
     → MayLead turn.message.kind turn.outcome
@@ -131,21 +127,18 @@ first_passes : (site : Site) (turn : Turn) (turns : List Turn)
     → IsContextFirst (turn.message.kind ∷ passed
     (plays site (after_turn site state.Opening turn) turns))
 first_passes site turn turns may pass =
-    let same = opens turn.message.kind (passes site state.Opening turn.message pass).is_placed in
-    let opened : IsOpened state.Unbound = record { out_of_place = refl } in (
+    let same = opens turn.message.kind (passes site state.Opening turn.message pass).is_placed in (
       same,
       no_context site (after_turn site state.Opening turn) turns
-          (subst IsOpened (sym (unbound_after site turn may pass same)) opened),
+          (rw (unbound_after site turn may pass same) (record { out_of_place = refl })),
     )
 
 first_fails : (site : Site) (turn : Turn) (turns : List Turn)
     → is_pass (step_of site state.Opening turn.message) ≡ false
     → IsContextFirst (passed (plays site (after_turn site state.Opening turn) turns))
 first_fails site turn turns e =
-    subst IsContextFirst
-    (sym (nothing_after_the_end site state.Opening turn turns
-    (ends turn.message.kind (step_of site state.Opening turn.message) e)))
-    tt
+    rw (nothing_after_the_end site state.Opening turn turns
+    (ends turn.message.kind (step_of site state.Opening turn.message) e)) tt
 
 pub context_first : (site : Site) (turns : List Turn) → AreLed turns
     → IsContextFirst (passed (plays site state.Opening turns))
@@ -178,10 +171,6 @@ left_open : (going : Bool) (s : State) (binding : Binding)
     → binding_of s ≡ Some binding
 left_open true s binding e = e
 left_open false s binding e = nobody binding e
-
-is_unbound : State → Bool
-is_unbound state.Unbound = true
-is_unbound _ = false
 
 went_on : (going : Bool) (s : State) → (if going then s else state.Closing) ≡ state.Unbound
     → going ≡ true
