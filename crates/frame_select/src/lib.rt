@@ -23,6 +23,3 @@ pub use item::Item;
 pub use items::Items;
 pub use selection::{Selection, admits};
 pub use want::Want;
-
-#[cfg(test)]
-mod tests;

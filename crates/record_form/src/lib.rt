@@ -18,8 +18,6 @@ mod kind;
 pub mod laws;
 mod memory;
 mod reading;
-#[cfg(test)]
-mod tests;
 mod writing;
 
 pub use entries::Entries;

@@ -1,0 +1,134 @@
+// Entries and their octets.
+use crate::kind::Kind;
+use crate::rows::{check, octets_of};
+use cds_time::{Cds, Rest};
+use octet_core::Octets;
+use record_form::{Entries, Entry, EntryFault, read_entry};
+use std::process::Abort;
+use std::test::Fail;
+
+#[test]
+fn entries_have_the_octets_of_their_form(rt: HostRuntime) -> Result<(), Fail> {
+    check(&rt, rt.alloc(), Kind::Entry, ENTRIES)?;
+    check(&rt, rt.alloc(), Kind::Entry, FAULTS)?;
+    check(&rt, rt.alloc(), Kind::FrameTime, TIMES)
+}
+
+// Kind, form and fields of the time, quality, antenna, lost, octets. The last moment of all, with
+// picoseconds; a frame at the ends of its ranges.
+const ENTRIES: &str = "
+01 00 4e20000003e80000 00 01 41 00000000 00000003 0010a1
+    = frame Cds { days: 20000, millis: 1000, rest: Micros(0) } 0 [65] 0 [0, 16, 161]|
+02 00 4e20000007d00007 030200
+    = LossOfSync { at: Cds { days: 20000, millis: 2000, rest: Micros(7) }, carrier: 3,
+    subcarrier: 2, symbol: 0 }|
+03 02 = Production { status: 2 }|
+04 01 ffff05265bff3b9ac9ff
+    = Seal { at: Cds { days: 65535, millis: 86399999, rest: Picos(999999999) } }|
+01 00 4e20000003e80000 00 10 16*ff 00ffffff 00010000 65536*aa
+    = frame Cds { days: 20000, millis: 1000, rest: Micros(0) } 0 [255, 255, 255, 255, 255, 255, 255,
+    255, 255, 255, 255, 255, 255, 255, 255, 255] 16777215 65536 octets, all alike: true|";
+
+// The kind; the form of the time, and milliseconds past the day's end; a frame's quality, its
+// antenna, the count of lost ones; a frame of no octets, and one of 65,539; octets that end too
+// early; the locks; the status; and the time of a seal.
+const FAULTS: &str = "
+05 00 4e20000003e80000 00 01 41 00000000 00000003 0010a1 = no kind of entry: 0x05|
+01 02 4e20000003e80000 00 01 41 00000000 00000003 0010a1 = a field out of its range at octet 1|
+01 00 4e20060003e80000 00 01 41 00000000 00000003 0010a1 = a field out of its range at octet 1|
+01 00 4e20000003e80000 03 01 41 00000000 00000003 0010a1 = a field out of its range at octet 10|
+01 00 4e20000003e80000 00 00 41 00000000 00000003 0010a1 = a field out of its range at octet 11|
+01 00 4e20000003e80000 00 11 41 00000000 00000003 0010a1 = a field out of its range at octet 11|
+01 00 4e20000003e80000 00 01 41 01000000 00000003 0010a1 = a field out of its range at octet 13|
+01 00 4e20000003e80000 00 01 41 00000000 00000000 0010a1 = a field out of its range at octet 17|
+01 00 4e20000003e80000 00 01 41 00000000 00010003 0010a1 = a field out of its range at octet 17|
+01 00 4e20000003e80000 00 01 41 00000000 00000004 0010a1 = the entry is cut|
+02 00 4e20000007d00007 040200 = a field out of its range at octet 10|
+02 00 4e20000007d00007 030400 = a field out of its range at octet 11|
+02 00 4e20000007d00007 030204 = a field out of its range at octet 12|
+03 03 = a field out of its range at octet 1|
+04 01 ffff05265bff3b9acaff = a field out of its range at octet 1|";
+
+// A frame gives its time, which has the octets 1 to 9, whatever follows, also behind another entry.
+const TIMES: &str = "
+0 01 00 4e20000003e80000 00 01 41 00000000 00000003 0010a1
+    = Some(Cds { days: 20000, millis: 1000, rest: Micros(0) })|
+0 01 00 4e20000003e80000 = Some(Cds { days: 20000, millis: 1000, rest: Micros(0) })|
+0 01 00 4e20000003e800 = None|
+0 = None|
+0 01 00 4e20000003e80000 03 01 41 00000000 00000003 0010a1
+    = Some(Cds { days: 20000, millis: 1000, rest: Micros(0) })|
+0 02 00 4e20000007d00007 030200 = None|
+0 03 02 = None|
+0 04 01 ffff05265bff3b9ac9ff = None|
+0 01 00 4e20060003e80000 00 01 41 00000000 00000003 0010a1 = None|
+13 02 00 4e20000007d00007 030200 01 00 4e20000003e80000 00 01 41 00000000 00000003 0010a1
+    = Some(Cds { days: 20000, millis: 1000, rest: Micros(0) })|";
+
+const FRAME: &str = "01 00 4e20000003e80000 00 01 41 00000000 00000003 0010a1";
+
+#[test]
+fn an_entry_that_ends_too_early_is_cut(rt: HostRuntime) -> Result<(), Fail> {
+    let octets = octets_of(rt.alloc(), FRAME)?;
+    for end in 0..octets.len() {
+        let read = read_entry(rt.alloc(), &octets[..end]);
+        assert_eq!(rt; read, Err(EntryFault::Cut));
+    }
+    Ok(())
+}
+
+#[test]
+fn a_frame_of_65537_octets_is_valid_and_not_storable(rt: HostRuntime) -> Result<(), Fail> {
+    let octets = vec![in rt.alloc(); 0xaa; 65_537]?;
+    let long = Entry::Frame {
+        ert: Cds {
+            days: 20_000,
+            millis: 1_000,
+            rest: Rest::Micros(0),
+        },
+        quality: 0,
+        antenna: Octets::copy_of(rt.alloc(), b"A")?,
+        lost: 0,
+        octets: Octets::from_vec(rt.alloc(), octets)?,
+    };
+    assert!(rt; long.is_valid());
+    assert!(rt; !long.is_storable());
+    Ok(())
+}
+
+#[test]
+fn entries_are_kept_in_their_order(rt: HostRuntime) -> Result<(), Fail> {
+    let mut entries = Entries::new(rt.alloc());
+    entries.push(Entry::LossOfSync {
+        at: Cds::EPOCH,
+        carrier: 3,
+        subcarrier: 2,
+        symbol: 0,
+    })?;
+    entries.push(Entry::Seal { at: Cds::EPOCH })?;
+    assert_eq!(rt; entries.len(), 2);
+    assert!(rt;
+        matches!(
+            entries.as_slice(),
+            [Entry::LossOfSync { .. }, Entry::Seal { .. }]
+        )
+    );
+    Ok(())
+}
+
+#[test]
+fn faults_say_what_they_are(rt: HostRuntime) -> Result<(), Fail> {
+    let told = format!(in rt.alloc();
+        "{}, {}, {}, {}",
+        EntryFault::Cut,
+        EntryFault::BadKind { found: 9 },
+        EntryFault::BadField { place: 7 },
+        EntryFault::Memory
+    )?;
+    assert_eq!(rt;
+        told.as_str(),
+        "the entry is cut, no kind of entry: 0x09, a field out of its range at octet 7, \
+        out of memory"
+    );
+    Ok(())
+}
