@@ -43,6 +43,3 @@ pub use peer::Peer;
 pub use peers::Peers;
 pub use service::Service;
 pub use site::Site;
-
-#[cfg(test)]
-mod tests;

@@ -56,6 +56,3 @@ pub use time_word::{Fraction, Time, When};
 pub use unread::Unread;
 pub use word::Word;
 pub use words_row::{Words, WriteWords};
-
-#[cfg(test)]
-mod tests;
