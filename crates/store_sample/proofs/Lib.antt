@@ -1,0 +1,4 @@
+pub mod Counting
+pub mod Valid
+pub mod Told
+pub mod Kept
