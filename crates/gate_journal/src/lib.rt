@@ -19,8 +19,6 @@ mod journal;
 pub mod laws;
 mod loading;
 mod order;
-#[cfg(test)]
-mod tests;
 mod writing;
 
 pub use fault::JournalFault;

@@ -1,8 +1,8 @@
 // A second reading of a file, field by field, as its form is described: where each field stands,
 // its range, and for each entry the times of those before it.
 
-use super::*;
 use cds_time::Cds;
+use gate_journal::JournalFault;
 use octet_core::Octets;
 use record_form::{Entries, Entry, Memory};
 use std::alloc::Global;
@@ -97,16 +97,16 @@ fn frame(
     let ert = time_behind(file, place, earlier, false)?;
     let quality = octet(file, place, 2)?;
     let length = within(file, place, 1, 1, 16)?;
-    let antenna = copy(alloc, next(file, place, length as usize)?)?;
+    let antenna = next(file, place, length as usize)?;
     let lost = within(file, place, 4, 0, 16_777_215)?;
     let length = within(file, place, 4, 1, 65_536)?;
-    let octets = copy(alloc, next(file, place, length as usize)?)?;
+    let octets = next(file, place, length as usize)?;
     Ok(Entry::Frame {
         ert,
         quality,
-        antenna,
+        antenna: copy(alloc, antenna)?,
         lost,
-        octets,
+        octets: copy(alloc, octets)?,
     })
 }
 

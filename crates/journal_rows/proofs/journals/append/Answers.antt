@@ -1,6 +1,6 @@
 use Rattle.std.proofs.Common.{◌≡◌, true, Some, rules, sym, ◌∙◌}
 use Rattle.disk_model.specs.MemoryDisk.{pending_of}
-use Rattle.gate_journal.proofs.tests.append.Goals as goal
+use Rattle.journal_rows.proofs.journals.append.Goals as goal
 
 -- the test that was passed says that the batch follows what is stored
 pub append-requires-clause-archive : goal.append-requires-clause-archive
