@@ -21,6 +21,3 @@ pub use memory::Memory;
 pub use message::{CONTEXT_BODY, HEADER, LONGEST_PDU, Message, head};
 pub use octet_queue::CAPACITY;
 pub use tml_fault::TmlFault;
-
-#[cfg(test)]
-mod tests;
