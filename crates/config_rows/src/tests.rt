@@ -5,4 +5,4 @@ mod identifiers;
 mod lines;
 mod sites;
 mod texts;
-mod words;
+mod word_rows;
