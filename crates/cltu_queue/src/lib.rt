@@ -39,6 +39,3 @@ pub use queue::Queue;
 pub use room::Room;
 pub use taken::Taken;
 pub use uplink_view::UplinkView;
-
-#[cfg(test)]
-mod tests;

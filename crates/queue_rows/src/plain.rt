@@ -3,7 +3,12 @@
 ghost use Rattle.std.specs.Prelude.{◌<◌};
 ghost use Rattle.cds_time.specs.declared.cds.TheConstants.{MOMENT_END};
 
-use super::*;
+use crate::script::DAY;
+use cds_time::{Cds, Rest};
+use cltu_queue::{Cltu, CltuFault, LastOk, Notice, Processed, Queue, Room, Taken, UplinkView};
+use octet_core::Octets;
+use std::alloc::{AllocError, Global};
+use std::process::Abort;
 
 // What is in the air: run, identification, beginning, delay, whether its end is to be told.
 #[derive(Clone, Copy)]
@@ -297,17 +302,22 @@ impl Plain {
     }
 }
 
-// A time within sixteen microseconds, or none.
+fn day(millis: u32, rest: Rest) -> Option<Cds> {
+    Some(Cds {
+        days: 20_000,
+        millis,
+        rest,
+    })
+}
+
+// A time within sixteen microseconds, or none; now and then one that names no moment.
 fn time(random: u64) -> Option<Cds> {
     match random % 8 {
         0..=4 => None,
-        5 => Some(picos(((random >> 4) % 16_000_000) as u32)),
-        6 => Some(micros(((random >> 4) % 16) as u16)),
-        _ => Some(if random % 64 == 7 {
-            no_moment()
-        } else {
-            micros(15)
-        }),
+        5 => day(0, Rest::Picos(((random >> 4) % 16_000_000) as u32)),
+        6 => day(0, Rest::Micros(((random >> 4) % 16) as u16)),
+        _ if random % 64 == 7 => day(86_400_000, Rest::Micros(0)),
+        _ => day(0, Rest::Micros(15)),
     }
 }
 
