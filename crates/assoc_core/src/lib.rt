@@ -33,6 +33,3 @@ pub use outer_tag::OuterTag;
 pub use pdu_kind::PduKind;
 pub use state::{Binding, State};
 pub use step::Step;
-
-#[cfg(test)]
-mod tests;

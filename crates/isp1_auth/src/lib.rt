@@ -22,6 +22,3 @@ pub use hash::Hash;
 pub use random_numbers::{GREATEST_NUMBER, RandomNumbers};
 pub use secret::Secret;
 pub use signing::make;
-
-#[cfg(test)]
-mod tests;

@@ -1,0 +1,84 @@
+// The BINDs of a station, and outer tags.
+use crate::kind::Kind;
+use crate::rows::check;
+use std::test::Fail;
+
+#[test]
+fn binds_are_answered_with_the_first_fault(rt: HostRuntime) -> Result<(), Fail> {
+    check(&rt, rt.alloc(), Kind::Bind, BINDS)?;
+    check(&rt, rt.alloc(), Kind::Spelled, SPELLED)?;
+    check(&rt, rt.alloc(), Kind::Peer, PEERS)
+}
+
+// The initiator, the service, the version and the instance. Behind a digit, the diagnostic of the
+// return of BIND, stands the fault. The last rows have each fault before the next.
+const BINDS: &str = "
+MOC 0 5 sagr=1.spack=P.rsl-fg=1.raf=onlc1 = instance 1|
+MOC 0 4 sagr=1.spack=P.rsl-fg=1.raf=onlc1 = instance 1|
+MOC 0 5 sagr=1.spack=P.rsl-fg=1.raf=onlc2 = instance 3|
+MOC 2 5 sagr=1.spack=P.rsl-fg=1.rcf=onlc1 = instance 4|
+MOC 16 5 sagr=1.spack=P.fsl-fg=1.cltu=cltu1 = instance 5|
+MOC 2 5 sagr=1.spack=P.rsl-fg=1.raf=onlc1 = 6 inconsistent service type|
+MOC 0 5 sagr=1.spack=P.fsl-fg=1.cltu=cltu1 = 6 inconsistent service type|
+OTHER 0 5 sagr=1.spack=P.rsl-fg=1.raf=onlc1
+    = 5 service instance not accessible to this initiator|
+SEC 0 5 sagr=1.spack=P.rsl-fg=1.raf=onlc1 = 5 service instance not accessible to this initiator|
+MOC 0 5 sagr=9.raf=x = 3 no such service instance|
+MOC 0 3 sagr=1.spack=P.rsl-fg=1.raf=onlc1 = 2 version not supported|
+MOC 0 6 sagr=1.spack=P.rsl-fg=1.raf=onlc1 = 2 version not supported|
+MOC 0 261 sagr=1.spack=P.rsl-fg=1.raf=onlc1 = 2 version not supported|
+MOC 4 5 sagr=1.spack=P.rsl-fg=1.raf=onlc1 = 1 service type not supported|
+MOC 65535 5 sagr=1.spack=P.rsl-fg=1.raf=onlc1 = 1 service type not supported|
+NOBODY 0 5 sagr=1.spack=P.rsl-fg=1.raf=onlc1 = 0 access denied|
+MO 1 3 sagr=9.raf=x = 0 access denied|
+OTHER 1 3 sagr=9.raf=x = 1 service type not supported|
+OTHER 2 3 sagr=9.raf=x = 2 version not supported|
+OTHER 2 5 sagr=1.spack=P.rsl-fg=1.raf=onlc1
+    = 5 service instance not accessible to this initiator|";
+
+// sagr=1.spack=P.rsl-fg=1.raf=onlc1 as a BIND spells it, and the same with onlc3.
+const SPELLED: &str = "
+310e300c06072b7004030102341a0131
+    310e300c06072b7004030102351a0150
+    310e300c06072b7004030102261a0131
+    3112301006072b7004030102161a056f6e6c6331
+    = instance 1|
+310e300c06072b7004030102341a0131
+    310e300c06072b7004030102351a0150
+    310e300c06072b7004030102261a0131
+    3112301006072b7004030102161a056f6e6c6333
+    = 3 no such service instance|";
+
+// By their whole names.
+const PEERS: &str = "
+MOC = peer 0|
+OTHER = peer 1|
+SEC = peer 2|
+MO = no peer|
+MOCK = no peer|
+moc = no peer|";
+
+#[test]
+fn the_outer_tag_is_told_by_its_octets(rt: HostRuntime) -> Result<(), Fail> {
+    check(&rt, rt.alloc(), Kind::OuterTag, OUTER_TAGS)
+}
+
+// The same numbers, but constructed where they are primitive and the other way round; UNBIND, its
+// return, the return of BIND, START, another class; octets that end too early; a number below 31,
+// and one with a superfluous octet, which are no tag in several octets.
+const OUTER_TAGS: &str = "
+bf6400 = Bind|
+bf64 = Bind|
+9f68017f = PeerAbort|
+9f64017f = Other|
+bf6800 = Other|
+bf6600 = Other|
+bf6700 = Other|
+bf6500 = Other|
+a000 = Other|
+7f6400 = Other|
+ = Missing|
+bf = Missing|
+bfe4 = Missing|
+bf1e00 = Missing|
+bf806400 = Missing|";
