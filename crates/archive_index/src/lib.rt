@@ -18,6 +18,3 @@ mod mark;
 mod totals;
 
 pub use index::Index;
-
-#[cfg(test)]
-mod tests;

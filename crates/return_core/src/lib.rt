@@ -22,6 +22,3 @@ pub use mode::Mode;
 pub use octet_core::Offer;
 pub use parts::are_of_archive;
 pub use transfer_buffer::Memory;
-
-#[cfg(test)]
-mod tests;

@@ -2,20 +2,17 @@ ghost use Rattle.std.specs.Prelude.{IfOk, ◌≤◌, length, take};
 ghost use Rattle.record_form.specs.Entry.{entries_of};
 ghost use Rattle.archive_index.specs.Kept.{Indexes};
 
-use super::*;
+use crate::plain_index::{Look, Seen, lost, picked, plain_look, what_shows};
+use crate::random::{Random, time};
+use archive_index::Index;
 use cds_time::Cds;
 use frame_select::{Filter, Selection, Want};
 use octet_core::{Memory, Octets};
-use plain::{is_closed, look, lost, picked, shown};
-use random::{Random, time};
 use record_form::Entry;
 use sle_common::{Channel, Gvcid};
 use std::alloc::Global;
 use std::process::Abort;
 use std::test::Fail;
-
-mod plain;
-mod random;
 
 const ENTRIES: u64 = 16;
 
@@ -59,13 +56,17 @@ const ALL: Selection = Selection {
     notices: false,
 };
 
-#[test]
-fn the_next_frame_of_a_channel_is_found(rt: HostRuntime) -> Result<(), Fail> {
-    let alloc = rt.alloc();
+fn two_frames(alloc: Global) -> Result<Vec<Entry>, Memory> {
     let mut entries = Vec::new(alloc);
     entries.push(frame(alloc, 500, 0, &[0x00, 0x7e, 0xa0])?)?;
     entries.push(frame(alloc, 1000, 0, &[0x40, 0x7f, 0xa1])?)?;
-    let index = index_of(alloc, &entries)?;
+    Ok(entries)
+}
+
+#[test]
+fn the_next_frame_of_a_channel_is_found(rt: HostRuntime) -> Result<(), Fail> {
+    let entries = two_frames(rt.alloc())?;
+    let index = index_of(rt.alloc(), &entries)?;
     let one = Selection {
         filter: Filter::Channel(Gvcid {
             spacecraft: 1,
@@ -79,14 +80,18 @@ fn the_next_frame_of_a_channel_is_found(rt: HostRuntime) -> Result<(), Fail> {
     Ok(())
 }
 
+fn frames_behind(alloc: Global, losses: &[u32]) -> Result<Vec<Entry>, Memory> {
+    let mut entries = Vec::new(alloc);
+    for lost in losses {
+        entries.push(frame(alloc, 1000, *lost, &[0x00])?)?;
+    }
+    Ok(entries)
+}
+
 #[test]
 fn lost_frames_add_up_to_their_greatest_number(rt: HostRuntime) -> Result<(), Fail> {
-    let alloc = rt.alloc();
-    let mut entries = Vec::new(alloc);
-    for lost in [7, 16_777_214, 1, 1, 16_777_215] {
-        entries.push(frame(alloc, 1000, lost, &[0x00])?)?;
-    }
-    let index = index_of(alloc, &entries)?;
+    let entries = frames_behind(rt.alloc(), &[7, 16_777_214, 1, 1, 16_777_215])?;
+    let index = index_of(rt.alloc(), &entries)?;
     let rows = [
         (0, 0, 0),
         (0, 1, 16_777_214),
@@ -125,16 +130,7 @@ fn same_places(
 }
 
 // A look from a random place on.
-fn same_look(
-    rt: &impl Abort,
-    alloc: Global,
-    index: &Index,
-    entries: &[Entry],
-    selection: &Selection,
-    random: &mut Random,
-) -> Result<(), Memory>
-    requires { Indexes index.now (entries_of entries.now) }
-{
+fn some_look(random: &mut Random) -> Look {
     let place = random.below(ENTRIES);
     let since = match random.below(ENTRIES) {
         since if since < place => Some(since),
@@ -142,30 +138,77 @@ fn same_look(
     };
     let room = random.below(8) as u32;
     let octets = random.below(20) as u32;
-    let want = Want::Items {
-        selection: *selection,
+    Look {
         place,
         since,
         room,
         octets,
-    };
-    let glimpse = index.glimpse(alloc, entries, &want)?;
-    let places = picked(alloc, entries, selection)?;
-    let plain = look(alloc, entries, &places, place, since, room, octets)?;
-    assert_eq!(rt; glimpse.items.len(), plain.items.len());
-    for (item, expected) in glimpse.items.as_slice().iter().zip(plain.items.iter()) {
-        assert_eq!(rt; shown(item), *expected);
     }
-    assert_eq!(rt; glimpse.next, plain.next);
-    assert_eq!(rt; glimpse.more, plain.more);
-    let closed = selection.stop.is_some_and(|stop| is_closed(entries, stop));
-    assert_eq!(rt; glimpse.closed, closed);
+}
+
+// What the index gives of a look.
+fn given(
+    alloc: Global,
+    index: &Index,
+    entries: &[Entry],
+    selection: &Selection,
+    look: Look,
+) -> Result<Seen, Memory>
+    requires { Indexes index.now (entries_of entries.now) }
+{
+    let want = Want::Items {
+        selection: *selection,
+        place: look.place,
+        since: look.since,
+        room: look.room,
+        octets: look.octets,
+    };
+    what_shows(alloc, &index.glimpse(alloc, entries, &want)?)
+}
+
+fn same_look(
+    rt: &impl Abort,
+    alloc: Global,
+    index: &Index,
+    entries: &[Entry],
+    selection: &Selection,
+    look: Look,
+) -> Result<(), Memory>
+    requires { Indexes index.now (entries_of entries.now) }
+{
+    let seen = given(alloc, index, entries, selection, look)?;
+    let plain = plain_look(alloc, entries, selection, look)?;
+    assert_eq!(rt; seen, plain);
     Ok(())
+}
+
+// The index answers ten selections and looks as a plain filter of the entries does.
+fn same_answers(
+    rt: &impl Abort,
+    alloc: Global,
+    index: &Index,
+    entries: &[Entry],
+    random: &mut Random,
+) -> Result<(), Memory>
+    requires { Indexes index.now (entries_of entries.now) }
+{
+    for _ in 0..10 {
+        let selection = random.selection();
+        same_places(rt, alloc, index, entries, &selection)?;
+        same_look(rt, alloc, index, entries, &selection, some_look(random))?;
+    }
+    Ok(())
+}
+
+// So does that of a random archive.
+fn same_archive(rt: &impl Abort, alloc: Global, random: &mut Random) -> Result<(), Memory> {
+    let entries = random_archive(alloc, random)?;
+    let index = index_of(alloc, &entries)?;
+    same_answers(rt, alloc, &index, &entries, random)
 }
 
 #[test]
 fn random_archives_are_answered_as_by_a_plain_filter(rt: HostRuntime) -> Result<(), Fail> {
-    let alloc = rt.alloc();
     let mut random = Random {
         state: 1,
         frame: 0,
@@ -174,13 +217,7 @@ fn random_archives_are_answered_as_by_a_plain_filter(rt: HostRuntime) -> Result<
     for _ in 0..40 {
         random.frame = 0;
         random.seal = 0;
-        let entries = random_archive(alloc, &mut random)?;
-        let index = index_of(alloc, &entries)?;
-        for _ in 0..10 {
-            let selection = random.selection();
-            same_places(&rt, alloc, &index, &entries, &selection)?;
-            same_look(&rt, alloc, &index, &entries, &selection, &mut random)?;
-        }
+        same_archive(&rt, rt.alloc(), &mut random)?;
     }
     Ok(())
 }
@@ -193,38 +230,47 @@ fn cut_to(index: &mut Index, entries: &[Entry], length: usize)
     index.cut(length as u64);
 }
 
+// And that of a cut archive, of the entries left.
+fn same_cut(
+    rt: &impl Abort,
+    alloc: Global,
+    entries: &[Entry],
+    left: usize,
+    random: &mut Random,
+) -> Result<(), Memory>
+    requires { left ≤ length entries.now }
+{
+    let mut index = index_of(alloc, entries)?;
+    cut_to(&mut index, entries, left);
+    same_answers(rt, alloc, &index, &entries[..left], random)
+}
+
 #[test]
 fn an_index_that_was_cut_answers_as_one_of_the_entries_left(rt: HostRuntime) -> Result<(), Fail> {
-    let alloc = rt.alloc();
     let mut random = Random {
         state: 2,
         frame: 0,
         seal: 0,
     };
-    let entries = random_archive(alloc, &mut random)?;
+    let entries = random_archive(rt.alloc(), &mut random)?;
     for length in 0..entries.len() {
-        let mut index = index_of(alloc, &entries)?;
-        cut_to(&mut index, &entries, length);
-        let left = &entries[..length];
-        for _ in 0..10 {
-            let selection = random.selection();
-            same_places(&rt, alloc, &index, left, &selection)?;
-            same_look(&rt, alloc, &index, left, &selection, &mut random)?;
-        }
+        same_cut(&rt, rt.alloc(), &entries, length, &mut random)?;
     }
     Ok(())
 }
 
-#[test]
-fn a_look_tells_the_statuses_of_a_report(rt: HostRuntime) -> Result<(), Fail> {
-    let alloc = rt.alloc();
+// The lock and production statuses that a look tells, and how many entries there are.
+fn statuses(alloc: Global, entries: &[Entry], want: Want) -> Result<([u8; 4], u8, u64), Memory> {
+    let index = index_of(alloc, entries)?;
+    let glimpse = index.glimpse(alloc, entries, &want)?;
+    let lock = glimpse.lock;
+    Ok((lock, glimpse.production, glimpse.front))
+}
+
+// A frame, a loss of synchronisation and a change of the production status.
+fn three_entries(alloc: Global) -> Result<Vec<Entry>, Memory> {
     let mut entries = Vec::new(alloc);
-    let none = index_of(alloc, &entries)?.glimpse(alloc, &entries, &Want::Front)?;
-    assert_eq!(rt; none.lock, [3, 3, 3, 3]);
-    assert_eq!(rt; none.production, 0);
     entries.push(frame(alloc, 1000, 0, &[0x00])?)?;
-    let locked = index_of(alloc, &entries)?.glimpse(alloc, &entries, &Want::Nothing)?;
-    assert_eq!(rt; locked.lock, [0, 0, 0, 0]);
     entries.push(Entry::LossOfSync {
         at: Cds::EPOCH,
         carrier: 3,
@@ -232,9 +278,19 @@ fn a_look_tells_the_statuses_of_a_report(rt: HostRuntime) -> Result<(), Fail> {
         symbol: 0,
     })?;
     entries.push(Entry::Production { status: 2 })?;
-    let lost = index_of(alloc, &entries)?.glimpse(alloc, &entries, &Want::Front)?;
-    assert_eq!(rt; lost.lock, [1, 0, 2, 3]);
-    assert_eq!(rt; lost.production, 2);
-    assert_eq!(rt; lost.front, 3);
+    Ok(entries)
+}
+
+#[test]
+fn a_look_tells_the_statuses_of_a_report(rt: HostRuntime) -> Result<(), Fail> {
+    let entries = three_entries(rt.alloc())?;
+    for (count, want, expected) in [
+        (0, Want::Front, ([3, 3, 3, 3], 0, 0)),
+        (1, Want::Nothing, ([0, 0, 0, 0], 0, 1)),
+        (3, Want::Front, ([1, 0, 2, 3], 2, 3)),
+    ] {
+        let first = entries.get(..count).unwrap_or(entries.as_slice());
+        assert_eq!(rt; statuses(rt.alloc(), first, want)?, expected);
+    }
     Ok(())
 }

@@ -1,7 +1,7 @@
 // The index's answers by a plain filter of the whole list.
 ghost use Rattle.std.specs.Prelude.{◌<◌, ◌^◌};
 
-use frame_select::{Item, Selection, admits};
+use frame_select::{Glimpse, Item, Selection, admits};
 use octet_core::Memory;
 use record_form::Entry;
 use std::alloc::Global;
@@ -24,7 +24,7 @@ fn is_started(entries: &[Entry], start: u128) -> bool {
     entries.iter().any(|entry| frame_time(entry).is_some_and(|time| start <= time))
 }
 
-pub fn is_closed(entries: &[Entry], stop: u128) -> bool {
+fn is_closed(entries: &[Entry], stop: u128) -> bool {
     entries.iter().any(|entry| {
         frame_time(entry).is_some_and(|time| stop < time)
             || seal_time(entry).is_some_and(|time| stop <= time)
@@ -76,7 +76,17 @@ pub fn lost(entries: &[Entry], after: u64, upto: u64) -> u32
 #[derive(Clone, Copy, Debug, PartialEq, Eq)]
 pub struct PlaceTold(pub u64, pub Option<i32>);
 
-pub fn shown(item: &Item) -> PlaceTold {
+/// What a look gives: its items, the place behind them, whether a picked entry remains, and whether
+/// the selection's stop is closed.
+#[derive(Debug, Drop, PartialEq, Eq)]
+pub struct Seen {
+    pub items: Vec<PlaceTold>,
+    pub next: u64,
+    pub more: bool,
+    pub closed: bool,
+}
+
+fn shown(item: &Item) -> PlaceTold {
     match item {
         Item::Frame {
             place,
@@ -89,38 +99,50 @@ pub fn shown(item: &Item) -> PlaceTold {
     }
 }
 
-/// What a look gives: its items, the place behind them, and whether a picked entry remains.
-#[derive(Debug, Drop)]
-pub struct PlainLook {
-    pub items: Vec<PlaceTold>,
-    pub next: u64,
-    pub more: bool,
+/// What a glimpse shows.
+pub fn what_shows(alloc: Global, glimpse: &Glimpse) -> Result<Seen, Memory> {
+    let mut items = Vec::new(alloc);
+    for item in glimpse.items.as_slice() {
+        items.push(shown(item))?;
+    }
+    Ok(Seen {
+        items,
+        next: glimpse.next,
+        more: glimpse.more,
+        closed: glimpse.closed,
+    })
 }
 
-/// A look behind `place` for so many items and octets.
-pub fn look(
-    alloc: Global,
-    entries: &[Entry],
-    places: &[u64],
-    from: u64,
-    since: Option<u64>,
-    room: u32,
-    octets: u32,
-) -> Result<PlainLook, Memory> {
-    let mut since = since;
-    let mut room = room;
+/// A look from a place on, for so many items and octets.
+#[derive(Clone, Copy)]
+pub struct Look {
+    pub place: u64,
+    pub since: Option<u64>,
+    pub room: u32,
+    pub octets: u32,
+}
+
+// What a look gives of the places that are picked.
+fn look_over(alloc: Global, entries: &[Entry], places: &[u64], look: Look) -> Result<Seen, Memory> {
+    let Look {
+        place: from,
+        mut since,
+        mut room,
+        octets,
+    } = look;
     let mut octets = octets as usize;
-    let mut look = PlainLook {
+    let mut seen = Seen {
         items: Vec::new(alloc),
         next: from,
         more: false,
+        closed: false,
     };
     for place in places {
         if *place < from {
             continue;
         }
         if room == 0 || octets == 0 {
-            look.more = true;
+            seen.more = true;
             break;
         }
         let mut continuity = None;
@@ -129,9 +151,22 @@ pub fn look(
             since = Some(*place);
             octets = octets.saturating_sub(frame.len());
         }
-        look.items.push(PlaceTold(*place, continuity))?;
-        look.next = place.saturating_add(1);
+        seen.items.push(PlaceTold(*place, continuity))?;
+        seen.next = place.saturating_add(1);
         room -= 1;
     }
-    Ok(look)
+    Ok(seen)
+}
+
+/// What a look gives.
+pub fn plain_look(
+    alloc: Global,
+    entries: &[Entry],
+    selection: &Selection,
+    look: Look,
+) -> Result<Seen, Memory> {
+    let places = picked(alloc, entries, selection)?;
+    let mut seen = look_over(alloc, entries, &places, look)?;
+    seen.closed = selection.stop.is_some_and(|stop| is_closed(entries, stop));
+    Ok(seen)
 }

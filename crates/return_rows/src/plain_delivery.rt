@@ -1,7 +1,9 @@
 // A delivery as a plain program: it counts in the picked list, and takes a sentence of the rules a
 // line.
 
-use super::*;
+use crate::ground::{Entry, Instance, Link, Round, behind, is_frame, length};
+use return_core::Mode;
+use std::alloc::{AllocError, Global};
 
 // Backlog or end of data at the head of a buffer.
 #[derive(Clone, Copy, PartialEq, Eq)]
@@ -12,10 +14,7 @@ enum Head {
 
 #[derive(Drop)]
 pub struct Plain<'a> {
-    picked: &'a [Entry],
-    mode: Mode,
-    size: usize,
-    latency: u128,
+    instance: Instance<'a>,
     settled: usize,
     held: usize,
     head: Option<Head>,
@@ -27,13 +26,13 @@ pub struct Plain<'a> {
     last: Option<u64>,
 }
 
-pub fn next_random(random: u64) -> u64 {
+fn next_random(random: u64) -> u64 {
     random
         .wrapping_mul(6_364_136_223_846_793_005)
         .wrapping_add(1_442_695_040_888_963_407)
 }
 
-pub fn entry_of(random: u64) -> Entry {
+fn entry_of(random: u64) -> Entry {
     match (random >> 33) % 8 {
         0 => Entry::Loss,
         1 => Entry::Production,
@@ -42,7 +41,7 @@ pub fn entry_of(random: u64) -> Entry {
     }
 }
 
-pub fn link_of(random: u64) -> Link {
+fn link_of(random: u64) -> Link {
     match (random >> 33) % 8 {
         0 => Link::Blocked,
         1 => Link::Waits,
@@ -76,12 +75,9 @@ pub fn rounds_of(alloc: Global, random: &mut u64) -> Result<Vec<Round>, AllocErr
 }
 
 impl<'a> Plain<'a> {
-    pub fn new(picked: &'a [Entry], mode: Mode, size: usize, latency: u128) -> Plain<'a> {
+    pub fn new(instance: Instance<'a>) -> Plain<'a> {
         Plain {
-            picked,
-            mode,
-            size,
-            latency,
+            instance,
             settled: 0,
             held: 0,
             head: None,
@@ -96,7 +92,11 @@ impl<'a> Plain<'a> {
     // The entry so many behind the settled ones.
     fn entry(&self, behind: usize) -> Entry {
         let place = self.settled.saturating_add(behind);
-        self.picked.get(place).copied().unwrap_or(Entry::Small)
+        self.instance
+            .entries
+            .get(place)
+            .copied()
+            .unwrap_or(Entry::Small)
     }
 
     fn count(&self, held: usize) -> usize {
@@ -108,7 +108,7 @@ impl<'a> Plain<'a> {
         for k in 0..held {
             octets = octets.saturating_add(length(self.entry(k)));
         }
-        self.count(held) >= self.size || octets >= 524_288
+        self.count(held) >= self.instance.size as usize || octets >= 524_288
     }
 
     fn has_notice(&self, held: usize) -> bool {
@@ -153,12 +153,12 @@ impl<'a> Plain<'a> {
     }
 
     fn is_due(&self, front: usize, is_closed: bool, now: u128) -> bool {
-        let is_late = now.saturating_sub(self.since) >= self.latency;
+        let is_late = now.saturating_sub(self.since) >= self.instance.latency;
         !self.is_empty()
             && (self.is_full(self.held)
                 || self.head.is_some()
                 || self.has_notice(self.held)
-                || (self.mode != Mode::Offline && is_late)
+                || (self.instance.mode != Mode::Offline && is_late)
                 || (is_closed && self.is_all_held(front)))
     }
 
@@ -176,7 +176,7 @@ impl<'a> Plain<'a> {
             self.ended = self.ended || self.head == Some(Head::End);
             self.release();
             "sent"
-        } else if self.mode == Mode::Timely && self.held > 0 {
+        } else if self.instance.mode == Mode::Timely && self.held > 0 {
             self.release();
             self.owed = true;
             "discarded"
@@ -219,12 +219,13 @@ impl<'a> Plain<'a> {
         Ok(text)
     }
 
-    fn round(&mut self, alloc: Global, closes: usize, round: Round) -> Result<String, AllocError> {
+    fn round(&mut self, alloc: Global, round: Round) -> Result<String, AllocError> {
         let (front, now, link) = round;
         if link == Link::Blocked {
             return format!(in alloc; "-");
         }
-        let picked = front.min(closes).min(self.picked.len());
+        let closes = self.instance.closes;
+        let picked = front.min(closes).min(self.instance.entries.len());
         self.step(picked, front >= closes, now);
         if !self.fixed {
             return format!(in alloc; "-");
@@ -237,15 +238,10 @@ impl<'a> Plain<'a> {
         format!(in alloc; "{word}{shown}")
     }
 
-    pub fn run(
-        mut self,
-        alloc: Global,
-        closes: usize,
-        rounds: &[Round],
-    ) -> Result<String, AllocError> {
+    pub fn run(mut self, alloc: Global, rounds: &[Round]) -> Result<String, AllocError> {
         let mut text = String::new(alloc);
         for round in rounds {
-            let done = self.round(alloc, closes, *round)?;
+            let done = self.round(alloc, *round)?;
             text.push_str(done.as_str())?;
             text.push_str("; ")?;
         }
