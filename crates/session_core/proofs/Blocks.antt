@@ -14,7 +14,8 @@ use Rattle.station_config.specs.declared.site.Site.{Site}
 use Rattle.cltu_queue.specs.declared.book_reply.BookReply.{BookReply}
 use Rattle.session_core.specs.declared.course.Course.{Course}
 use Rattle.session_core.specs.declared.course.Course.TheVariants.{Going, Closing as ClosingWith}
-use Rattle.session_core.specs.declared.course.Course.TheVariants.{Over, LinkFailed, Spent}
+use Rattle.session_core.specs.declared.course.Course.TheVariants.{Over, LinkFailing, LinkFailed}
+use Rattle.session_core.specs.declared.course.Course.TheVariants.{Spent}
 use Rattle.session_core.specs.declared.standing.Standing.{Standing}
 use Rattle.session_core.specs.Numbers.{communications_failure}
 use Rattle.session_core.specs.Course.{is_going, is_live, is_blocked}
@@ -244,6 +245,13 @@ stuck_stepped site s None stuck has live = refl
 stuck_stepped site s (Some told) stuck has live =
     stuck_step site s.standing (next_of s) told.moment told.answer.reply stuck has live
 
+step_blocks_so : (left : Blocks) (t u : Standing) (live blocked : Bool) → is_live t.course ≡ live
+    → is_blocked t.arrival ≡ blocked
+    → left ++ step_blocks t u ≡ left ++ (if live && not blocked then waiting u else [])
+step_blocks_so left t u live blocked e b =
+    ap (λ (x : Bool). left ++ (if x && not (is_blocked t.arrival) then waiting u else [])) e
+    ∙ ap (λ (x : Bool). left ++ (if live && not x then waiting u else [])) b
+
 step_hands : (site : Site) (s : State) (told : Option Told) (left : Blocks) (live blocked : Bool)
     → is_live s.standing.course ≡ live → is_blocked s.standing.arrival ≡ blocked
     → Heard_so s.standing left
@@ -252,21 +260,14 @@ step_hands : (site : Site) (s : State) (told : Option Told) (left : Blocks) (liv
 step_hands site s told left true false e b h =
     let u = (stepped site s told).standing in (
       waiting u,
-      ap (λ (x : Bool). left ++ (if x && not (is_blocked s.standing.arrival) then waiting u else
-          []))
-          e
-          ∙ ap (λ (x : Bool). left ++ (if true && not x then waiting u else [])) b
+      step_blocks_so left s.standing u true false e b
           ∙ ap (λ (x : Blocks). x ++ waiting u) (h.free e b),
       record { few = few_waiting (has_block u) u.block; waits_so = λ live. refl },
     )
 step_hands site s told left true true e b h =
     let u = (stepped site s told).standing in (
       left,
-      ap (λ (x : Bool). left ++ (if x && not (is_blocked s.standing.arrival) then waiting u else
-          []))
-          e
-          ∙ ap (λ (x : Bool). left ++ (if true && not x then waiting u else [])) b
-          ∙ append-nil left,
+      step_blocks_so left s.standing u true true e b ∙ append-nil left,
       record {
         few = h.left_so.few;
         waits_so = λ live.
@@ -278,10 +279,7 @@ step_hands site s told left true true e b h =
 step_hands site s told left false blocked e b h =
     let u = (stepped site s told).standing in (
       left,
-      ap (λ (x : Bool). left ++ (if x && not (is_blocked s.standing.arrival) then waiting u else
-          []))
-          e
-          ∙ append-nil left,
+      step_blocks_so left s.standing u false blocked e b ∙ append-nil left,
       record {
         few = h.left_so.few;
         waits_so = λ live.
@@ -296,6 +294,7 @@ end_live : (c : Course) (waits : Bool) → is_live (course_at_end c waits) ≡ t
 end_live Going waits e = refl
 end_live (ClosingWith end) waits e = refl
 end_live (Over end) waits e = e
+end_live LinkFailing waits e = absurd (cc)
 end_live LinkFailed waits e = e
 end_live Spent waits e = e
 

@@ -1,4 +1,4 @@
--- A session that ended, or whose link failed, stays so and calls its link no more.
+-- A session without a link calls it no more, and one that has ended repeats its end.
 use Rattle.std.proofs.Common.{◌≡◌, ℕ, Bool, true, false, not, ◌&&◌, ◌||◌, if◌then◌else◌, Option}
 use Rattle.std.proofs.Common.{Some, None, List, [], ◌∷◌, ◌++◌, refl, ap, ◌∙◌}
 use Rattle.octet_core.specs.declared.offer.Offer.{Offer}
@@ -7,24 +7,23 @@ use Rattle.link_model.specs.declared.call.Heard.{Heard}
 use Rattle.station_config.specs.declared.site.Site.{Site}
 use Rattle.cltu_queue.specs.declared.book_reply.BookReply.{BookReply}
 use Rattle.station_book.specs.State.{Event}
-use Rattle.session_core.specs.declared.arrival.Arrival.TheVariants.{Nothing}
 use Rattle.session_core.specs.declared.course.Course.{Course}
-use Rattle.session_core.specs.declared.course.Course.TheVariants.{Over, LinkFailed, Spent}
-use Rattle.session_core.specs.declared.ended.Ended.{Ended}
+use Rattle.session_core.specs.declared.course.Course.TheVariants.{Over, LinkFailing, LinkFailed}
+use Rattle.session_core.specs.declared.course.Course.TheVariants.{Spent}
 use Rattle.session_core.specs.declared.standing.Standing.{Standing}
 use Rattle.session_core.specs.Numbers.{communications_failure}
 use Rattle.session_core.specs.Course.{is_going, is_live, is_over, is_blocked}
 use Rattle.session_core.specs.Handling.{aborted}
-use Rattle.session_core.specs.Steps.{Next, has_message, has_block, may_poll, at_moment}
+use Rattle.session_core.specs.Steps.{Next, has_message, has_block, waits, may_poll, at_moment}
 use Rattle.session_core.specs.Steps.{is_idle, with_next, acted, pulse_of, is_dead, is_due, timed}
-use Rattle.session_core.specs.Steps.{with_heartbeat, after_step, course_at_end}
+use Rattle.session_core.specs.Steps.{with_heartbeat, after_step, may_speak, course_at_end}
 use Rattle.isp1_tml.specs.Message.{heartbeat, spelling}
 use Rattle.session_core.specs.Session.{State, Round, Told, next_of, cleared, listened, stepped}
 use Rattle.session_core.specs.Session.{before_step, before_speak, after_round}
 use Rattle.session_core.specs.Session.{IsRound}
 use Rattle.session_core.specs.Session.{round_calls, round_events, session_calls}
-use Rattle.session_core.specs.Session.{session_events, spoken_of}
-use Rattle.session_core.specs.Laws.{EndsRepeat, FaultsRepeat}
+use Rattle.session_core.specs.Session.{AreRounds, session_events, spoken_of}
+use Rattle.session_core.specs.Laws.{EndsRepeat}
 use Rattle.session_core.proofs.Truths.{or_true, none_of}
 
 -- a round with these answers
@@ -38,15 +37,28 @@ IsStill c = is_live c ≡ false
 
 pub not_going : (c : Course) → IsStill c → is_going c ≡ false
 not_going (Over end) e = refl
+not_going LinkFailing e = refl
 not_going LinkFailed e = refl
 not_going Spent e = refl
 not_going _ e = absurd (cc)
 
+-- it neither offers nor polls
+pub no_wait : (s : Standing) → IsStill s.course → waits s ≡ false
+no_wait s still = ap (λ (live : Bool). live && has_block s) still
+
+pub no_poll : (s : Standing) (next : Next) → IsStill s.course → may_poll s next ≡ false
+no_poll s next still =
+    ap (λ (going : Bool). (going && not (is_blocked s.arrival)) && not (has_message next))
+    (not_going s.course still)
+
+pub no_speech : (s : Standing) → IsStill s.course → may_speak s ≡ false
+no_speech s still =
+    ap (λ (live : Bool). (live && has_block s) && not (is_blocked s.arrival)) still
+
 pub still_waits_not : (s : State) (r : Round) (site : Site) → IsStill s.standing.course
     → IsRound site s r → r.waited ≡ None
 still_waits_not s r site still is =
-    none_of r.waited
-    (is.listens.offers ∙ ap (λ (live : Bool). live && has_block s.standing) still)
+    none_of r.waited (is.listens.offers ∙ no_wait s.standing still)
 
 pub still_hears_not : (s : State) (r : Round) (site : Site) → IsStill s.standing.course
     → IsRound site s r → r.heard ≡ None
@@ -55,8 +67,7 @@ still_hears_not s r site still is =
     (is.listens.polls
     ∙ ap (λ (w : Option Offer). may_poll (cleared s w) (next_of s))
     (still_waits_not s r site still is)
-    ∙ ap (λ (going : Bool). (going && not (is_blocked Nothing)) && not (has_message (next_of s)))
-    (not_going s.standing.course still))
+    ∙ no_poll (cleared s None) (next_of s) still)
 
 -- how such a session stands before its step
 pub still_before : (s : State) (r : Round) (site : Site) → IsStill s.standing.course
@@ -112,12 +123,10 @@ still_before_speak site s r still is =
 pub still_speaks_not : (site : Site) (s : State) (r : Round) → IsStill s.standing.course
     → IsRound site s r → r.spoke ≡ None
 still_speaks_not site s r still is =
-    let u = (before_speak site s r).standing in
     none_of r.spoke
     (is.speaks
-    ∙ ap (λ (c : Course). (is_live c && has_block u) && not (is_blocked u.arrival))
-    (still_before_speak site s r still is)
-    ∙ ap (λ (live : Bool). (live && has_block u) && not (is_blocked u.arrival)) still)
+    ∙ no_speech (before_speak site s r).standing
+    (ap is_live (still_before_speak site s r still is) ∙ still))
 
 pub still_round : (site : Site) (s : State) (r : Round) → IsStill s.standing.course
     → IsRound site s r → r ≡ made None None r.told None
@@ -130,69 +139,76 @@ pub still_calls : (site : Site) (s : State) (r : Round) → IsStill s.standing.c
     → IsRound site s r → round_calls site s r ≡ []
 still_calls site s r still is = ap (round_calls site s) (still_round site s r still is)
 
-over_end : (c d : Course) (waits : Bool) → IsStill d → c ≡ d → course_at_end c waits ≡ d
-over_end c (Over end) waits still e = ap (λ (x : Course). course_at_end x waits) e
-over_end c LinkFailed waits still e = ap (λ (x : Course). course_at_end x waits) e
-over_end c Spent waits still e = ap (λ (x : Course). course_at_end x waits) e
-over_end c _ waits still e = absurd (cc)
+-- how such a session stands at the end of a round
+still_end : (c : Course) (waits : Bool) → IsStill c → IsStill (course_at_end c waits)
+still_end (Over end) waits still = refl
+still_end LinkFailing waits still = refl
+still_end LinkFailed waits still = refl
+still_end Spent waits still = refl
+still_end _ waits still = absurd (cc)
 
-spoken_course : (site : Site) (s : State) (r : Round) → IsStill s.standing.course
-    → IsRound site s r → (after_round site s r).standing.course ≡ s.standing.course
-spoken_course site s r still is =
-    let u = before_speak site s (made None None r.told None) in
-    ap (λ (x : Round). (after_round site s x).standing.course) (still_round site s r still is)
-    ∙ over_end u.standing.course s.standing.course (has_block u.standing) still
-    (still_course site (listened s None None) r.told still)
+still_round_ends : (site : Site) (s : State) (r : Round) → IsStill s.standing.course
+    → IsRound site s r → (waits : Bool)
+    × ((after_round site s r).standing.course ≡ course_at_end s.standing.course waits)
+still_round_ends site s r still is =
+    let u = before_speak site s (made None None r.told None) in (
+      has_block u.standing,
+      ap (λ (x : Round). (after_round site s x).standing.course) (still_round site s r still is)
+          ∙ ap (λ (c : Course). course_at_end c (has_block u.standing))
+          (still_course site (listened s None None) r.told still),
+    )
 
-pub still_stays : (site : Site) (s : State) (r : Round) (c : Course) → IsStill c
-    → s.standing.course ≡ c → IsRound site s r
-    → (after_round site s r).standing.course ≡ c
-still_stays site s r c still e is =
-    spoken_course site s r (ap is_live e ∙ still) is ∙ e
+pub still_calls_none : (site : Site) (s : State) (rounds : List Round)
+    → IsStill s.standing.course → AreRounds site s rounds → session_calls site s rounds ≡ []
+still_calls_none site s [] still h = refl
+still_calls_none site s (r ∷ rounds) still h =
+    let now = after_round site s r in
+    let ends = still_round_ends site s r still h.0 in
+    ap (λ (x : List Call). x ++ session_calls site now rounds) (still_calls site s r still h.0)
+    ∙ still_calls_none site now rounds
+    (ap is_live ends.1 ∙ still_end s.standing.course ends.0 still) h.1
 
 -- ---- after an end
 
-no_events : (site : Site) (door : ℕ) (s : State) (r : Round) (end : Ended)
-    → s.standing.course ≡ Over end → IsRound site s r → round_events site door s r ≡ []
-no_events site door s r end e is =
-    let still : IsStill s.standing.course = ap is_live e in
+pub over_still : (c : Course) → is_over c ≡ true → IsStill c
+over_still (Over end) over = refl
+over_still LinkFailed over = refl
+over_still _ over = absurd (cc)
+
+pub over_stays : (c : Course) (waits : Bool) → is_over c ≡ true → course_at_end c waits ≡ c
+over_stays (Over end) waits over = refl
+over_stays LinkFailed waits over = refl
+over_stays _ waits over = absurd (cc)
+
+over_course : (site : Site) (s : State) (r : Round) → is_over s.standing.course ≡ true
+    → IsRound site s r → (after_round site s r).standing.course ≡ s.standing.course
+over_course site s r over is =
+    let ends = still_round_ends site s r (over_still s.standing.course over) is in
+    ends.1 ∙ over_stays s.standing.course ends.0 over
+
+no_events : (site : Site) (door : ℕ) (s : State) (r : Round) → is_over s.standing.course ≡ true
+    → IsRound site s r → round_events site door s r ≡ []
+no_events site door s r over is =
+    let before = still_before s r site (over_still s.standing.course over) is in
     let silent : r.told ≡ None =
     none_of r.told
     (is.asks
-    ∙ ap (λ (t : State). not (is_over t.standing.course)) (still_before s r site still is)
-    ∙ ap (λ (c : Course). not (is_over c)) e) in
+    ∙ ap (λ (t : State). not (is_over t.standing.course)) before
+    ∙ ap (λ (b : Bool). not b) over) in
     ap (λ (told : Option Told). round_events site door s
     (made r.waited r.heard told r.spoke)) silent
 
 pub ends_repeat : EndsRepeat
-ends_repeat site door s [] end e h = record { calls = refl; events = refl; same = ap spoken_of e }
-ends_repeat site door s (r ∷ rounds) end e h =
-    let still : IsStill s.standing.course = ap is_live e in
+ends_repeat site door s [] over h = record { calls = refl; events = refl; same = refl }
+ends_repeat site door s (r ∷ rounds) over h =
     let now = after_round site s r in
-    let rest = ends_repeat site door now rounds end
-    (still_stays site s r (Over end) refl e h.0) h.1 in
+    let course = over_course site s r over h.0 in
+    let rest = ends_repeat site door now rounds (ap is_over course ∙ over) h.1 in
     record {
-      calls =
-          ap (λ (x : List Call). x ++ session_calls site now rounds)
-          (still_calls site s r still h.0)
-          ∙ rest.calls;
+      calls = still_calls_none site s (r ∷ rounds) (over_still s.standing.course over) h;
       events =
           ap (λ (x : List Event). x ++ session_events site door now rounds)
-          (no_events site door s r end e h.0)
+          (no_events site door s r over h.0)
           ∙ rest.events;
-      same = rest.same;
-    }
-
-pub faults_repeat : FaultsRepeat
-faults_repeat site s [] e h = record { calls = refl; same = ap spoken_of e }
-faults_repeat site s (r ∷ rounds) e h =
-    let still : IsStill s.standing.course = ap is_live e in
-    let now = after_round site s r in
-    let rest = faults_repeat site now rounds (still_stays site s r LinkFailed refl e h.0) h.1 in
-    record {
-      calls =
-          ap (λ (x : List Call). x ++ session_calls site now rounds)
-          (still_calls site s r still h.0)
-          ∙ rest.calls;
-      same = rest.same;
+      same = rest.same ∙ ap spoken_of course;
     }

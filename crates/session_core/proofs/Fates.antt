@@ -1,6 +1,6 @@
 -- What a round's calls leave of what a session has come to.
-use Rattle.std.proofs.Common.{◌≡◌, ℕ, Bool, true, false, not, ◌&&◌, ◌||◌, if◌then◌else◌, Option}
-use Rattle.std.proofs.Common.{Some, None, List, [], Ok, Err, refl, sym, ap, subst, ◌∙◌, arith}
+use Rattle.std.proofs.Common.{◌≡◌, ℕ, Bool, true, false, not, ◌&&◌, if◌then◌else◌, Option}
+use Rattle.std.proofs.Common.{Some, None, List, [], Ok, Err, refl, sym, ap, subst, ◌∙◌}
 use Rattle.std.specs.Prelude.{is_some}
 use Rattle.octet_core.specs.declared.offer.Offer.{Offer}
 use Rattle.octet_core.specs.declared.offer.Offer.TheVariants.{Whole, Stalled, Failed as Refused}
@@ -17,9 +17,13 @@ use Rattle.assoc_core.specs.declared.step.Step.TheVariants.{Pass, Denied, Abort}
 use Rattle.cltu_queue.specs.declared.book_reply.BookReply.{BookReply}
 use Rattle.session_core.specs.declared.course.Course.{Course}
 use Rattle.session_core.specs.declared.course.Course.TheVariants.{Going, Closing as ClosingWith}
-use Rattle.session_core.specs.declared.course.Course.TheVariants.{Over, LinkFailed, Spent}
+use Rattle.session_core.specs.declared.course.Course.TheVariants.{Over, LinkFailing, LinkFailed}
+use Rattle.session_core.specs.declared.course.Course.TheVariants.{Spent}
 use Rattle.session_core.specs.declared.ended.Ended.{Ended}
-use Rattle.session_core.specs.declared.ended.Ended.TheVariants.{PeerClosed, Range}
+use Rattle.session_core.specs.declared.arrival.Arrival.{Arrival}
+use Rattle.session_core.specs.declared.ended.Ended.TheVariants.{PeerClosed, Range, Broken}
+use Rattle.session_core.specs.declared.ended.Ended.TheVariants.{PeerAborted, Aborted}
+use Rattle.session_core.specs.declared.spoken.Spoken.{Spoken}
 use Rattle.session_core.specs.declared.standing.Standing.{Standing}
 use Rattle.session_core.specs.Numbers.{communications_failure, other_reason}
 use Rattle.session_core.specs.Course.{is_going, is_live, is_over, is_spent, is_blocked, has_closed}
@@ -30,55 +34,63 @@ use Rattle.session_core.specs.Handling.{is_lost, invoked, after_judged}
 use Rattle.session_core.specs.Steps.{Next, has_message, has_block, round_begun, waits, may_poll}
 use Rattle.session_core.specs.Steps.{after_wait, after_offer, at_moment, is_idle, with_next, acted}
 use Rattle.session_core.specs.Steps.{pulse_of, is_dead, is_due, timed, after_step}
-use Rattle.session_core.specs.Steps.{may_speak, may_poll_by, course_at_end, round_ended}
+use Rattle.session_core.specs.Steps.{may_speak, course_at_end, round_ended}
 use Rattle.session_core.specs.Session.{Told, offer_calls, poll_calls, standing_waited}
-use Rattle.session_core.specs.Session.{standing_heard, standing_spoke, spoken_of, is_fault}
-use Rattle.session_core.specs.Kept.{Kept, space_of, Waited, PolledOnce, Said as SaidOnce, kept_after}
-use Rattle.session_core.specs.Outcome.{has_failed, is_still, FailsBy, Rests}
+use Rattle.session_core.specs.Session.{standing_heard, standing_spoke, spoken_of, is_end, is_fault}
+use Rattle.session_core.specs.Kept.{Kept, space_of, Waited, PolledOnce, Said as SaidOnce}
+use Rattle.session_core.specs.Kept.{kept_after}
+use Rattle.session_core.specs.Outcome.{come_to, has_ended, has_failed, is_still, FailsBy, Rests}
 use Rattle.session_core.specs.Outcome as kept
-use Rattle.session_core.proofs.Truths.{both_of, none_of}
-use Rattle.session_core.proofs.Ends.{IsStill, not_going}
-use Rattle.session_core.proofs.Rounds.{tells-tells, going_polls}
+use Rattle.session_core.proofs.Truths.{both_of, none_of, not_false}
+use Rattle.session_core.proofs.Ends.{IsStill, no_wait, no_poll, no_speech, over_still, over_stays}
+use Rattle.session_core.proofs.Stalls.{uncounted_at}
+use Rattle.session_core.proofs.Rounds.{tells-tells, polls_by}
 use Rattle.session_core.proofs.Sound.{busy_going}
 
 -- ---- tests of courses
 
--- a course of a session that goes on, closes or has ended
+-- a course of a session that goes on, closes, or has ended by no fault of its link
 abbrev is_plain : Course → Bool
-is_plain c = is_live c || is_over c
+is_plain (Over end) = true
+is_plain c = is_live c
 
--- a test that fails of each such course
+-- a test that fails of each such course, and tells the same of a link that fails and of one that
+-- has failed
 pub record Rare (P : Course → Bool) : Type 0 where
   going : P Going ≡ false
   closing : (end : Ended) → P (ClosingWith end) ≡ false
   over : (end : Ended) → P (Over end) ≡ false
+  failed : P LinkFailed ≡ P LinkFailing
 
 abbrev pub faulty : Course → Bool
 faulty c = is_fault (spoken_of c)
 
 pub faulty_rare : Rare faulty
-faulty_rare = record { going = refl; closing = λ end. refl; over = λ end. refl }
+faulty_rare =
+    record { going = refl; closing = λ end. refl; over = λ end. refl; failed = refl }
 
 pub spent_rare : Rare is_spent
-spent_rare = record { going = refl; closing = λ end. refl; over = λ end. refl }
+spent_rare =
+    record { going = refl; closing = λ end. refl; over = λ end. refl; failed = refl }
 
 plain_rare : (P : Course → Bool) → Rare P → (c : Course) → is_plain c ≡ true → P c ≡ false
 plain_rare P rare Going e = rare.going
 plain_rare P rare (ClosingWith end) e = rare.closing end
 plain_rare P rare (Over end) e = rare.over end
-plain_rare P rare LinkFailed e = absurd (cc)
-plain_rare P rare Spent e = absurd (cc)
+plain_rare P rare _ e = absurd (cc)
 
 live_plain : (c : Course) → is_live c ≡ true → is_plain c ≡ true
-live_plain c e = ap (λ (live : Bool). live || is_over c) e
+live_plain Going e = refl
+live_plain (ClosingWith end) e = refl
+live_plain _ e = absurd (cc)
 
 pub live_rare : (P : Course → Bool) → Rare P → (c : Course) → is_live c ≡ true → P c ≡ false
 live_rare P rare c e = plain_rare P rare c (live_plain c e)
 
--- a test that fails of a session with a link, and of one whose link has failed
+-- a test that fails of a session with a link, and of one whose link fails
 pub record Linkless (P : Course → Bool) : Type 0 where
   live : (c : Course) → is_live c ≡ true → P c ≡ false
-  failing : P LinkFailed ≡ false
+  failing : P LinkFailing ≡ false
 
 pub spent_linkless : Linkless is_spent
 spent_linkless = record { live = live_rare is_spent spent_rare; failing = refl }
@@ -86,19 +98,14 @@ spent_linkless = record { live = live_rare is_spent spent_rare; failing = refl }
 over_live : (c : Course) → is_live c ≡ true → is_over c ≡ false
 over_live Going e = refl
 over_live (ClosingWith end) e = refl
-over_live (Over end) e = absurd (cc)
-over_live LinkFailed e = refl
-over_live Spent e = refl
+over_live _ e = absurd (cc)
 
 pub over_linkless : Linkless is_over
 over_linkless = record { live = over_live; failing = refl }
 
 pub going_live : (c : Course) → is_going c ≡ true → is_live c ≡ true
 going_live Going e = refl
-going_live (ClosingWith end) e = refl
-going_live (Over end) e = absurd (cc)
-going_live LinkFailed e = absurd (cc)
-going_live Spent e = absurd (cc)
+going_live _ e = absurd (cc)
 
 -- ---- the link's answers
 
@@ -118,7 +125,7 @@ heard_keeps P h s (Some (Arrived octets)) next e = refl
 heard_keeps P h s (Some Nothing) next e = refl
 heard_keeps P h s (Some Closed) next e = refl
 heard_keeps P h s (Some Failed) next e =
-    h.failing ∙ sym (h.live s.course (going_live s.course (going_polls s next e)))
+    h.failing ∙ sym (h.live s.course (going_live s.course (polls_by s (has_message next) e).going))
 
 -- a session that speaks has a link
 speaks_live : (s : Standing) → true ≡ may_speak s → is_live s.course ≡ true
@@ -139,48 +146,63 @@ end_keeps P rare Going waits = refl
 end_keeps P rare (ClosingWith end) true = refl
 end_keeps P rare (ClosingWith end) false = rare.over end ∙ sym (rare.closing end)
 end_keeps P rare (Over end) waits = refl
+end_keeps P rare LinkFailing waits = rare.failed
 end_keeps P rare LinkFailed waits = refl
 end_keeps P rare Spent waits = refl
 
 -- ---- a step
 
-plain_if : (b : Bool) (s t : Standing) → is_plain s.course ≡ true → is_plain t.course ≡ true
-    → is_plain (if b then s else t).course ≡ true
-plain_if true s t h k = h
-plain_if false s t h k = k
+-- what a message may make of a session: its course stays plain, and what listen came to stays
+record Keeps (s t : Standing) : Type 0 where
+  plain : is_plain s.course ≡ true → is_plain t.course ≡ true
+  arrival : t.arrival ≡ s.arrival
 
-plain_passing : (site : Site) (s : Standing) (said : Said) (reply : BookReply)
-    → is_plain s.course ≡ true → is_plain (after_passing site s said reply).course ≡ true
-plain_passing site s (context interval factor) reply h =
-    plain_if (is_agreed site interval factor) _ (ended_by s (Range interval factor)) h refl
-plain_passing site s beat reply h = h
-plain_passing site s (bind b) reply h = h
-plain_passing site s (unbind u) reply h = refl
-plain_passing site s (peer_abort diagnostic) reply h = refl
-plain_passing site s undecoded reply h = h
-plain_passing site s out_of_place reply h = h
+keeps_either : (b : Bool) (s t u : Standing) → Keeps s t → Keeps s u
+    → Keeps s (if b then t else u)
+keeps_either true s t u h k = h
+keeps_either false s t u h k = k
 
-plain_concluded : (site : Site) (s : Standing) (said : Said) (step : Step) (reply : BookReply)
-    → is_plain s.course ≡ true → is_plain (concluded site s said step reply).course ≡ true
-plain_concluded site s said Pass reply h = plain_passing site s said reply h
-plain_concluded site s said Denied reply h = refl
-plain_concluded site s said (Abort diagnostic) reply h = refl
+keeps_self : (s : Standing) → Keeps s s
+keeps_self s = record { plain = λ h. h; arrival = refl }
 
-plain_judged : (site : Site) (s : Standing) (said : Said) (step : Step) (reply : BookReply)
-    → is_plain s.course ≡ true → is_plain (after_judged site s said step reply).course ≡ true
-plain_judged site s said step reply h =
-    plain_if (is_lost reply) (aborted s other_reason) (concluded site s said step reply) refl
-    (plain_concluded site s said step reply h)
+keeps_end : (s : Standing) (end : Ended) → Keeps s (ended_by s end)
+keeps_end s end = record { plain = λ h. refl; arrival = refl }
 
-plain_next : (site : Site) (s : Standing) (next : Next) (reply : BookReply)
-    → is_plain s.course ≡ true → is_plain (with_next site s next reply).course ≡ true
-plain_next site s (Err fault) reply h = refl
-plain_next site s (Ok None) reply h =
-    plain_if (has_closed s.arrival) (ended_by s PeerClosed) s refl h
-plain_next site s (Ok (Some message)) reply h =
+keeps_passing : (site : Site) (s : Standing) (said : Said) (reply : BookReply)
+    → Keeps s (after_passing site s said reply)
+keeps_passing site s (context interval factor) reply =
+    keeps_either (is_agreed site interval factor) s _ (ended_by s (Range interval factor))
+    (record { plain = λ h. h; arrival = refl }) (keeps_end s (Range interval factor))
+keeps_passing site s beat reply = keeps_self s
+keeps_passing site s (bind b) reply = record { plain = λ h. h; arrival = refl }
+keeps_passing site s (unbind u) reply = record { plain = λ h. refl; arrival = refl }
+keeps_passing site s (peer_abort diagnostic) reply = keeps_end s (PeerAborted diagnostic)
+keeps_passing site s undecoded reply = keeps_self s
+keeps_passing site s out_of_place reply = keeps_self s
+
+keeps_concluded : (site : Site) (s : Standing) (said : Said) (step : Step) (reply : BookReply)
+    → Keeps s (concluded site s said step reply)
+keeps_concluded site s said Pass reply = keeps_passing site s said reply
+keeps_concluded site s said Denied reply = record { plain = λ h. refl; arrival = refl }
+keeps_concluded site s said (Abort diagnostic) reply = keeps_end s (Aborted diagnostic)
+
+keeps_judged : (site : Site) (s : Standing) (said : Said) (step : Step) (reply : BookReply)
+    → Keeps s (after_judged site s said step reply)
+keeps_judged site s said step reply =
+    keeps_either (is_lost reply) s (aborted s other_reason) (concluded site s said step reply)
+    (keeps_end s (Aborted other_reason)) (keeps_concluded site s said step reply)
+
+keeps_next : (site : Site) (s : Standing) (next : Next) (reply : BookReply)
+    → Keeps s (with_next site s next reply)
+keeps_next site s (Err fault) reply = keeps_end s (Broken fault)
+keeps_next site s (Ok None) reply =
+    keeps_either (has_closed s.arrival) s (ended_by s PeerClosed) s (keeps_end s PeerClosed)
+    (keeps_self s)
+keeps_next site s (Ok (Some message)) reply =
     let said = said_in s.association message in
     let step = judged site s.association said s.moment in
-    plain_judged site (invoked s said step) said step reply h
+    let h = keeps_judged site (invoked s said step) said step reply in
+    record { plain = h.plain; arrival = h.arrival }
 
 keeps_if : (P : Course → Bool) (b : Bool) (s t : Standing) → (b ≡ false → P t.course ≡ P s.course)
     → P (if b then s else t).course ≡ P s.course
@@ -194,7 +216,8 @@ acted_keeps P rare site s next reply =
     (λ busy.
     let going = busy_going (is_blocked s.arrival) (is_going s.course) busy in
     let plain = live_plain s.course (going_live s.course going) in
-    plain_rare P rare (with_next site s next reply).course (plain_next site s next reply plain)
+    plain_rare P rare (with_next site s next reply).course
+    ((keeps_next site s next reply).plain plain)
     ∙ sym (plain_rare P rare s.course plain))
 
 ends_if : (P : Course → Bool) → Rare P → (b : Bool) (s : Standing)
@@ -222,41 +245,48 @@ step_keeps P rare site s next now reply =
     ∙ timed_keeps P rare t
     ∙ acted_keeps P rare site (at_moment s now) next reply
 
+-- what listen came to stays over a step
+arrives_either : (b : Bool) (s t : Standing) (a : Arrival) → s.arrival ≡ a → t.arrival ≡ a
+    → (if b then s else t).arrival ≡ a
+arrives_either true s t a h k = h
+arrives_either false s t a h k = k
+
+step_arrives : (site : Site) (s : Standing) (next : Next) (now : ℕ) (reply : BookReply)
+    → (after_step site s next now reply).arrival ≡ s.arrival
+step_arrives site s next now reply =
+    let e = at_moment s now in
+    let t = acted site e next reply in
+    let u = timed t in
+    let t_so : t.arrival ≡ s.arrival =
+    arrives_either (is_idle e) e (with_next site e next reply) s.arrival refl
+    (keeps_next site e next reply).arrival in
+    let u_so : u.arrival ≡ s.arrival =
+    arrives_either (is_live t.course && is_dead (pulse_of t) t.moment)
+    (aborted t communications_failure) t s.arrival t_so t_so in
+    arrives_either ((is_live u.course && not (has_block u)) && is_due (pulse_of u) u.moment)
+    (record u { block = spelling heartbeat }) u s.arrival u_so u_so
+
+pub told_blocks : (site : Site) (v : Kept) (told : Option Told)
+    → is_blocked (kept_after site v told).standing.arrival ≡ is_blocked v.standing.arrival
+told_blocks site v None = refl
+told_blocks site v (Some told) =
+    ap is_blocked (step_arrives site v.standing _ told.moment told.answer.reply)
+
 pub told_keeps : (P : Course → Bool) → Rare P → (site : Site) (v : Kept) (told : Option Told)
     → P (kept_after site v told).standing.course ≡ P v.standing.course
 told_keeps P rare site v None = refl
 told_keeps P rare site v (Some told) =
     step_keeps P rare site v.standing _ told.moment told.answer.reply
 
--- a session that has ended isn't spent
-pub over_unspent : (c : Course) → true ≡ is_over c → is_spent c ≡ false
-over_unspent (Over end) e = refl
-over_unspent Going e = refl
-over_unspent (ClosingWith end) e = refl
-over_unspent LinkFailed e = refl
-over_unspent Spent e = absurd (cc)
-
 -- ---- counts of faults
 
+not_both : (b : Bool) → (not b && b) ≡ false
+not_both true = refl
+not_both false = refl
+
 pub uncounted : (b : Bool) (n : ℕ) → FailsBy b b n n
-uncounted true n = record {
-  counts = record {
-    never_falls = omega arith;
-    rose = λ e. absurd (cc);
-    raised = λ e. absurd (cc);
-    kept = λ e. refl;
-  };
-  stays = λ e. e;
-}
-uncounted false n = record {
-  counts = record {
-    never_falls = omega arith;
-    rose = λ e. absurd (cc);
-    raised = λ e. absurd (cc);
-    kept = λ e. refl;
-  };
-  stays = λ e. e;
-}
+uncounted b n =
+    record { counts = uncounted_at (not b && b) n (not_both b); stays = λ e. e }
 
 -- a call that didn't fail
 pub quietly_counted : (b : Bool) (m n : ℕ) → CountsWhere false m n → FailsBy b b m n
@@ -319,21 +349,7 @@ offer_counts s after said m n may is =
 pub going_unfailed : (c : Course) → is_going c ≡ true → faulty c ≡ false
 going_unfailed c e = live_rare faulty faulty_rare c (going_live c e)
 
--- a session that may poll goes on
-pub polls_going : (s : Standing) (is_held : Bool) → true ≡ may_poll_by s is_held
-    → is_going s.course ≡ true
-polls_going s is_held e =
-    let free = both_of (is_going s.course && not (is_blocked s.arrival)) (not is_held) e in
-    (both_of (is_going s.course) (not (is_blocked s.arrival)) (sym free.first)).first
-
 -- ---- a session that is still
-
-still_by : (c : Course) → not (is_live c) ≡ true → IsStill c
-still_by Going e = absurd (cc)
-still_by (ClosingWith end) e = absurd (cc)
-still_by (Over end) e = refl
-still_by LinkFailed e = refl
-still_by Spent e = refl
 
 -- what a listen leaves of a session that is still: no call, and what it has come to
 record Stays (before after : Option (List Call)) (c d : Course) : Type 0 where
@@ -344,8 +360,7 @@ still_waits : (a b : Option (List Call)) (old new : Kept) → Waited a b old new
     → IsStill old.standing.course → Stays a b old.standing.course new.standing.course
 still_waits a b old new w still =
     let none : w.waited ≡ None =
-    none_of w.waited
-    (w.offers ∙ ap (λ (live : Bool). live && has_block old.standing) still) in
+    none_of w.waited (w.offers ∙ no_wait old.standing still) in
     record {
       told = subst (λ (x : Option Offer). Tells a b (offer_calls old.standing x)) none w.told;
       same =
@@ -360,12 +375,7 @@ still_polls : (a b : Option (List Call)) (old new : Kept) → PolledOnce a b old
 still_polls a b old new p still =
     let s = old.standing in
     let none : p.heard ≡ None =
-    none_of p.heard
-    (p.polls
-    ∙ ap
-    (λ (going : Bool).
-    (going && not (is_blocked s.arrival)) && not (has_message (next_held old.feeder)))
-    (not_going s.course still)) in
+    none_of p.heard (p.polls ∙ no_poll s (next_held old.feeder) still) in
     record {
       told =
           subst (λ (x : Option Heard). Tells a b (poll_calls (space_of old.feeder) x)) none
@@ -375,7 +385,8 @@ still_polls a b old new p still =
           ∙ ap (λ (x : Option Heard). (standing_heard s x).course) none;
     }
 
-stays_both : (a b c : Option (List Call)) (x y z : Course) → Stays a b x y → (IsStill y → Stays b c y z)
+stays_both : (a b c : Option (List Call)) (x y z : Course) → Stays a b x y
+    → (IsStill y → Stays b c y z)
     → IsStill x → Stays a c x z
 stays_both a b c x y z h k still =
     let later = k (ap is_live h.same ∙ still) in
@@ -395,56 +406,87 @@ pub rests_listened : (a b c : Option (List Call)) (old between new : Kept)
 rests_listened a b c old between new w p =
     let stays : is_still old ≡ true → Stays a c old.standing.course new.standing.course =
     λ e.
-    let still = still_by old.standing.course e in
+    let still = not_false (is_live old.standing.course) e in
     stays_both a b c old.standing.course between.standing.course new.standing.course
     (still_waits a b old between w still) (still_polls b c between new p) still in
     record {
       silent = λ e. (stays e).told;
       same = λ e. ap spoken_of (stays e).same;
+      over = λ e. listened_keeps is_over over_linkless a b c old between new w p ∙ e;
       spent = listened_keeps is_spent spent_linkless a b c old between new w p;
     }
 
 -- ---- speak
 
-still_end : (c : Course) (waits : Bool) → IsStill c → course_at_end c waits ≡ c
-still_end Going waits e = absurd (cc)
-still_end (ClosingWith end) waits e = absurd (cc)
-still_end (Over end) waits e = refl
-still_end LinkFailed waits e = refl
-still_end Spent waits e = refl
+-- what a speak leaves of a session that is still: no call, and how it stands at the round's end
+record StaysAtEnd (before after : Option (List Call)) (old new : Standing) : Type 0 where
+  told : Tells before after []
+  same : new.course ≡ course_at_end old.course (has_block old)
 
 still_says : (a b : Option (List Call)) (old mid new : Kept) → SaidOnce a b old mid
     → new ≡ record mid { standing = round_ended mid.standing } → IsStill old.standing.course
-    → Stays a b old.standing.course new.standing.course
+    → StaysAtEnd a b old.standing new.standing
 still_says a b old mid new w is still =
     let s = old.standing in
     let none : w.spoke ≡ None =
-    none_of w.spoke
-    (w.offers
-    ∙ ap (λ (live : Bool). (live && has_block s) && not (is_blocked s.arrival)) still) in
+    none_of w.spoke (w.offers ∙ no_speech s still) in
     record {
       told = subst (λ (x : Option Offer). Tells a b (offer_calls s x)) none w.told;
       same =
           ap (λ (v : Kept). v.standing.course) is
           ∙ ap (λ (v : Kept). (round_ended v.standing).course) w.new_is
-          ∙ ap (λ (x : Option Offer). (round_ended (standing_spoke s x)).course) none
-          ∙ still_end s.course (has_block s) still;
+          ∙ ap (λ (x : Option Offer). (round_ended (standing_spoke s x)).course) none;
     }
+
+still_comes : (c : Course) (waits : Bool) → IsStill c
+    → spoken_of (course_at_end c waits) ≡ spoken_of c
+still_comes (Over end) waits still = refl
+still_comes LinkFailing waits still = refl
+still_comes LinkFailed waits still = refl
+still_comes Spent waits still = refl
+still_comes _ waits still = absurd (cc)
 
 pub rests_spoken : (a b : Option (List Call)) (old mid new : Kept) → SaidOnce a b old mid
     → new ≡ record mid { standing = round_ended mid.standing } → Rests a b old new
 rests_spoken a b old mid new w is =
-    let stays : is_still old ≡ true → Stays a b old.standing.course new.standing.course =
-    λ e. still_says a b old mid new w is (still_by old.standing.course e) in
+    let s = old.standing in
+    let stays : is_still old ≡ true → StaysAtEnd a b s new.standing =
+    λ e. still_says a b old mid new w is (not_false (is_live s.course) e) in
     record {
       silent = λ e. (stays e).told;
-      same = λ e. ap spoken_of (stays e).same;
+      same = λ e.
+          ap spoken_of (stays e).same
+          ∙ still_comes s.course (has_block s) (not_false (is_live s.course) e);
+      over = λ e.
+          ap is_over
+          ((still_says a b old mid new w is (over_still s.course e)).same
+          ∙ over_stays s.course (has_block s) e)
+          ∙ e;
       spent =
           ap (λ (v : Kept). kept.is_spent v) is
           ∙ end_keeps is_spent spent_rare mid.standing.course (has_block mid.standing)
           ∙ ap (λ (v : Kept). kept.is_spent v) w.new_is
           ∙ spoke_keeps is_spent spent_linkless old.standing w.spoke w.offers;
     }
+
+over_at_end : (c : Course) (waits : Bool)
+    → is_over (course_at_end c waits) ≡ is_end (spoken_of (course_at_end c waits))
+over_at_end Going waits = refl
+over_at_end (ClosingWith end) true = refl
+over_at_end (ClosingWith end) false = refl
+over_at_end (Over end) waits = refl
+over_at_end LinkFailing waits = refl
+over_at_end LinkFailed waits = refl
+over_at_end Spent waits = refl
+
+-- what a round comes to tells whether the session has ended
+pub ends_told : (mid new : Kept) (told : Spoken)
+    → new ≡ record mid { standing = round_ended mid.standing } → told ≡ come_to new
+    → has_ended new ≡ is_end told
+ends_told mid new told is come =
+    ap (λ (v : Kept). has_ended v) is
+    ∙ over_at_end mid.standing.course (has_block mid.standing)
+    ∙ sym (ap is_end come ∙ ap (λ (v : Kept). is_end (come_to v)) is)
 
 pub end_counts : (mid new : Kept) (was : Bool) (m n : ℕ)
     → new ≡ record mid { standing = round_ended mid.standing } → FailsBy was (has_failed mid) m n
@@ -455,3 +497,8 @@ end_counts mid new was m n is h =
     (ap (λ (v : Kept). has_failed v) is
     ∙ end_keeps faulty faulty_rare mid.standing.course (has_block mid.standing)))
     h
+
+-- ---- a round of a session that has ended
+
+pub over_is_still : (v : Kept) → has_ended v ≡ true → is_still v ≡ true
+over_is_still v over = ap not (over_still v.standing.course over)

@@ -2,6 +2,7 @@ mod Truths
 mod Messages
 mod Ends
 mod Fates
+mod Stalls
 mod Faults
 mod One
 mod Blocks

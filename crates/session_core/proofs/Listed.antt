@@ -16,14 +16,15 @@ use Rattle.session_core.specs.Session.{AreRounds, session_calls, session_events,
 use Rattle.session_core.specs.Session.{listen_calls, round_calls, round_events}
 use Rattle.session_core.specs.Session.{after_round, step_events}
 use Rattle.session_core.specs.Kept.{Kept, Shows, IsSound, Listened, Spoke, told_by, own_events}
-use Rattle.session_core.specs.Kept.{kept_after, asked}
+use Rattle.session_core.specs.Kept.{Said, kept_after, asked}
+use Rattle.session_core.specs.Steps.{round_ended}
 use Rattle.session_core.specs.Lists.{Stage, to_listen, to_step, to_speak, Part, none_made}
 use Rattle.session_core.specs.Lists.{made_listen, made_step, stage_of, part_state, IsPart}
 use Rattle.session_core.specs.Lists.{part_calls, part_events, Began, start_of, state_after}
 use Rattle.session_core.specs.Lists.{StandsAt, Goes, GoesStep, readings_in, GoesRound}
 use Rattle.session_core.specs.Outcome.{has_ended}
 use Rattle.session_core.proofs.Streams.{WorkedOut, Gives}
-use Rattle.session_core.proofs.Rounds.{asks_by, stands_by, events_by, tells-tells}
+use Rattle.session_core.proofs.Rounds.{asks_by, stands_by, events_by, spoke_by, tells-tells}
 use Rattle.session_core.proofs.Sound.{sound_first, sound_rounds}
 
 -- ---- one round more
@@ -248,15 +249,20 @@ speak_at a c old new p (made_step waited heard told) e b calls events h =
       shows = subst (Shows new) (sym now) (p.stands t h.shows);
     }
 
-pub goes_speak : (a c : Option (List Call)) (old new : Kept) → Spoke a c old new
+goes_spoken : (a c : Option (List Call)) (old new : Kept) → Spoke a c old new
     → Goes to_speak to_listen a c old new
-goes_speak a c old new p = record {
+goes_spoken a c old new p = record {
   own = p.own;
   told = p.told;
   stands = λ b calls events h.
       speak_at a c old new p h.part h.stage_is b calls events
       (at_of to_speak b old calls events h);
 }
+
+pub goes_speak : (a c : Option (List Call)) (old mid new : Kept) → Said a c old mid
+    → new ≡ record mid { standing = round_ended mid.standing }
+    → Goes to_speak to_listen a c old new
+goes_speak a c old mid new said is = goes_spoken a c old new (spoke_by a c old mid new said is)
 
 -- ---- a whole round
 

@@ -17,7 +17,8 @@ use Rattle.station_config.specs.declared.site.Site.{Site}
 use Rattle.session_core.specs.declared.arrival.Arrival.{Arrival}
 use Rattle.session_core.specs.declared.course.Course.{Course}
 use Rattle.session_core.specs.declared.course.Course.TheVariants.{Going, Closing as ClosingWith}
-use Rattle.session_core.specs.declared.course.Course.TheVariants.{Over, LinkFailed, Spent}
+use Rattle.session_core.specs.declared.course.Course.TheVariants.{Over, LinkFailing, LinkFailed}
+use Rattle.session_core.specs.declared.course.Course.TheVariants.{Spent}
 use Rattle.session_core.specs.declared.standing.Standing.{Standing}
 use Rattle.session_core.specs.Course.{is_going, is_over, is_blocked}
 use Rattle.session_core.specs.Steps.{Next, has_message, is_idle, handles}
@@ -135,7 +136,8 @@ over_idle : (a : Arrival) (c : Course) → false ≡ not (is_over c)
 over_idle a (Over end) e = or_true (is_blocked a)
 over_idle a Going e = absurd (cc)
 over_idle a (ClosingWith end) e = absurd (cc)
-over_idle a LinkFailed e = absurd (cc)
+over_idle a LinkFailing e = absurd (cc)
+over_idle a LinkFailed e = or_true (is_blocked a)
 over_idle a Spent e = absurd (cc)
 
 idle_takes_none : (s : State) → is_idle s.standing ≡ true

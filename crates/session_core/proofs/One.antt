@@ -4,47 +4,23 @@ use Rattle.std.proofs.Common.{◌++◌}
 use Rattle.std.proofs.Common.{refl, sym, ap, subst, ◌∙◌}
 use Rattle.std.specs.Prelude.{is_some}
 use Rattle.octet_core.specs.declared.offer.Offer.{Offer}
-use Rattle.octet_core.specs.declared.offer.Offer.TheVariants.{Whole, Stalled, Failed as Refused}
 use Rattle.link_model.specs.declared.call.Call.{Call}
 use Rattle.link_model.specs.declared.call.Heard.{Heard}
-use Rattle.link_model.specs.declared.call.Heard.TheVariants.{Arrived, Nothing, Closed, Failed}
 use Rattle.station_config.specs.declared.site.Site.{Site}
 use Rattle.station_book.specs.State.{Event, Answer, Call as BookCall, Reply, answer, answered}
-use Rattle.session_core.specs.declared.course.Course.{Course}
-use Rattle.session_core.specs.declared.course.Course.TheVariants.{Over}
-use Rattle.session_core.specs.declared.ended.Ended.{Ended}
-use Rattle.session_core.specs.declared.standing.Standing.{Standing}
 use Rattle.session_core.specs.Course.{is_over}
-use Rattle.session_core.specs.Steps.{may_poll, may_speak, round_begun}
+use Rattle.session_core.specs.Steps.{may_poll, may_speak}
 use Rattle.session_core.specs.Session.{State, Round, Told, next_of, cleared, listened}
-use Rattle.session_core.specs.Session.{standing_waited, standing_heard, before_step, before_speak}
+use Rattle.session_core.specs.Session.{before_step, before_speak}
 use Rattle.session_core.specs.Session.{after_round, IsRound, AreRounds, event_of, step_events}
 use Rattle.session_core.specs.Session.{round_calls, round_events, session_calls, session_events}
-use Rattle.session_core.specs.Session.{session_end, spoken_of}
+use Rattle.session_core.specs.Session.{session_end}
 use Rattle.session_core.specs.Laws.{LinkAnswer, offer_answers, poll_answers}
 use Rattle.session_core.specs.Laws.{session_answers, RepeatEnd, OneSession}
 use Rattle.session_core.proofs.Ends.{made, ends_repeat}
+use Rattle.session_core.proofs.Fates.{waited_keeps, heard_keeps, over_linkless}
 
 -- ---- a session that asks nothing has ended
-
-over_of : (c : Course) → is_over c ≡ true → (end : Ended) × (c ≡ Over end)
-over_of (Over end) e = (end, refl)
-over_of _ e = absurd (cc)
-
-wait_over : (s : Standing) (waited : Option Offer)
-    → is_over (standing_waited (round_begun s) waited).course ≡ true → is_over s.course ≡ true
-wait_over s None e = e
-wait_over s (Some Whole) e = e
-wait_over s (Some Stalled) e = e
-wait_over s (Some Refused) e = absurd (cc)
-
-poll_over : (s : Standing) (heard : Option Heard)
-    → is_over (standing_heard s heard).course ≡ true → is_over s.course ≡ true
-poll_over s None e = e
-poll_over s (Some (Arrived octets)) e = e
-poll_over s (Some Nothing) e = e
-poll_over s (Some Closed) e = e
-poll_over s (Some Failed) e = absurd (cc)
 
 not_true : (b : Bool) → false ≡ not b → b ≡ true
 not_true true e = refl
@@ -58,17 +34,19 @@ no_event site door s (Some told) later e = absurd (cc)
 -- rounds without an event are those of a session that has ended
 silent : (site : Site) (door : ℕ) (s : State) (rounds : List Round) (r : Round)
     → AreRounds site s (r ∷ rounds) → session_events site door s (r ∷ rounds) ≡ []
-    → (end : Ended) × (s.standing.course ≡ Over end)
-    × RepeatEnd site door s (r ∷ rounds) end
+    → RepeatEnd site door s (r ∷ rounds)
 silent site door s rounds r h e =
     let none = no_event site door (before_step s r) r.told
     (session_events site door (after_round site s r) rounds) e in
     let asks : false ≡ not (is_over (before_step s r).standing.course) =
     ap is_some (sym none) ∙ h.0.asks in
-    let over = over_of s.standing.course
-    (wait_over s.standing r.waited (poll_over (cleared s r.waited) r.heard
-    (not_true (is_over (before_step s r).standing.course) asks))) in
-    (over.0, over.1, ends_repeat site door s (r ∷ rounds) over.0 over.1 h)
+    ends_repeat site door s (r ∷ rounds)
+    (sym (waited_keeps is_over over_linkless s.standing r.waited h.0.listens.offers)
+    ∙ sym
+    (heard_keeps is_over over_linkless (cleared s r.waited) r.heard (next_of s)
+    h.0.listens.polls)
+    ∙ not_true (is_over (before_step s r).standing.course) asks)
+    h
 
 -- ---- equal answers
 
@@ -172,10 +150,10 @@ pub one_session : OneSession
 one_session site door s [] [] is was h e = record { calls = refl; end = refl }
 one_session site door s [] (q ∷ others) is was h e =
     let over = silent site door s others q was (sym e) in
-    record { calls = sym over.2.calls; end = ap spoken_of over.1 ∙ sym over.2.same }
+    record { calls = sym over.calls; end = sym over.same }
 one_session site door s (r ∷ rounds) [] is was h e =
     let over = silent site door s rounds r is e in
-    record { calls = over.2.calls; end = over.2.same ∙ sym (ap spoken_of over.1) }
+    record { calls = over.calls; end = over.same }
 one_session site door s (r ∷ rounds) (q ∷ others) is was h e =
     let now = after_round site s q in
     let before = after_round site s r in

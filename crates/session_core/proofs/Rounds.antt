@@ -32,7 +32,7 @@ use Rattle.session_core.specs.Session.{step_events, poll_space, IsArrival, IsHea
 use Rattle.session_core.specs.Session.{AreOctets}
 use Rattle.session_core.specs.Kept.{Kept, Shows, IsSound, space_of, Waited, PolledOnce, Listened}
 use Rattle.session_core.specs.Kept.{Hears, told_now, told_by, own_events, kept_after, Said, Spoke}
-use Rattle.session_core.proofs.Truths.{both_of}
+use Rattle.session_core.proofs.Truths.{both_of, not_false}
 use Rattle.session_core.proofs.Streams.{WorkedOut, Gives, next_is, space_is, given_or_not}
 
 pub tells-nil : (a : Option (List Call)) → Tells a a []
@@ -58,12 +58,16 @@ still_going s (Some Whole) e = e
 still_going s (Some Stalled) e = e
 still_going s (Some Refused) e = absurd (cc)
 
--- a session that may poll goes on
-pub going_polls : (s : Standing) (next : Next) → true ≡ may_poll s next → is_going s.course ≡ true
-going_polls s next e =
-    let free = both_of (is_going s.course && not (is_blocked s.arrival))
-    (not (has_message next)) e in
-    (both_of (is_going s.course) (not (is_blocked s.arrival)) (sym free.first)).first
+-- a session that may poll goes on, and its round isn't blocked
+pub record Polls (s : Standing) : Type 0 where
+  pub going : is_going s.course ≡ true
+  pub free : is_blocked s.arrival ≡ false
+
+pub polls_by : (s : Standing) (is_held : Bool) → true ≡ may_poll_by s is_held → Polls s
+polls_by s is_held e =
+    let outer = both_of (is_going s.course && not (is_blocked s.arrival)) (not is_held) e in
+    let both = both_of (is_going s.course) (not (is_blocked s.arrival)) (sym outer.first) in
+    record { going = both.first; free = not_false (is_blocked s.arrival) both.second }
 
 -- a poll's space is that of the state, where the poll is made
 polled_so : (a b : ℕ) (heard : Option Heard) → (is_some heard ≡ true → a ≡ b)
@@ -94,7 +98,7 @@ listened_by law a b c old between new w was =
     → is_going s.standing.course ≡ true =
     λ s h e.
     still_going s.standing w.waited
-    (going_polls (cleared s w.waited) (next_of s) (sym e ∙ polls s h)) in
+    (polls_by (cleared s w.waited) (has_message (next_of s)) (sym e ∙ polls s h)).going in
     let same : (s : State) → Shows old s → IsSound s
     → (poll_calls space p.heard ≡ poll_calls (poll_space s) p.heard)
     × (IsHeard space p.heard → IsHeard (poll_space s) p.heard) =

@@ -5,6 +5,7 @@ use Rattle.std.proofs.lemmas.List.{append-nil}
 use Rattle.std.proofs.lemmas.List.Elements.{filter_map-append}
 use Rattle.link_model.specs.declared.call.Call.{Call}
 use Rattle.link_model.specs.Calls.{Tells}
+use Rattle.link_model.specs.Counts.{CountsWhere}
 use Rattle.station_book.specs.State.{Event}
 use Rattle.station_book.specs.State as book
 use Rattle.station_book.specs.History.{IsLegal, then_after, replay, reading_of}
@@ -14,15 +15,18 @@ use Rattle.session_core.specs.declared.spoken.Spoken.{Spoken}
 use Rattle.session_core.specs.declared.spoken.Spoken.TheVariants.{Going}
 use Rattle.session_core.specs.declared.standing.Standing.{Standing}
 use Rattle.session_core.specs.Course.{is_over}
-use Rattle.session_core.specs.Session.{session_calls, session_events, session_end, spoken_of}
+use Rattle.session_core.specs.Session.{Round, AreRounds, session_calls, session_events}
+use Rattle.session_core.specs.Session.{session_end, spoken_of, is_fault}
 use Rattle.session_core.specs.Kept.{Kept}
-use Rattle.session_core.specs.Outcome.{come_to}
+use Rattle.session_core.specs.Outcome.{come_to, has_failed, FailsBy}
 use Rattle.session_core.specs.Lists.{Began, start_of, StandsAt, to_listen, Part, none_made}
 use Rattle.session_core.specs.Lists.{made_listen, made_step, stage_of, readings_in, GoesRound}
-use Rattle.session_core.specs.Serving.{Serves}
+use Rattle.session_core.specs.Lists.{to_step, OnlyListens}
+use Rattle.session_core.specs.Serving.{Made, Serves, Breaks}
 use Rattle.session_core.specs.Laws.{EndsAsItStands}
 use Rattle.session_core.proofs.Listed.{At, at_of}
 use Rattle.session_core.proofs.Rounds.{tells-nil, tells-tells}
+use Rattle.session_core.proofs.Fates.{uncounted, both_count}
 
 -- ---- histories
 
@@ -79,7 +83,8 @@ going_on : (c : Course) → spoken_of c ≡ Going → is_over c ≡ false
 going_on course.Going e = refl
 going_on (course.Closing end) e = refl
 going_on (course.Over end) e = absurd (cc)
-going_on course.LinkFailed e = refl
+going_on course.LinkFailing e = refl
+going_on course.LinkFailed e = absurd (cc)
 going_on course.Spent e = refl
 
 -- one round more
@@ -110,6 +115,20 @@ lasts_on b a c d bk mid now readings reading v w h came r = record {
 
 -- ---- rounds at an end
 
+-- the events of a session's rounds
+abbrev made_so : (b : Began) (bk now : book.State) (readings : List ℕ) (made : ℕ)
+    (events : List Event) (rounds : List Round) → AreRounds b.site (start_of b) rounds
+    → events ≡ session_events b.site b.door (start_of b) rounds → IsLegal bk events
+    → now ≡ replay bk events → readings_in events ≡ take made readings
+    → Made b rounds bk now readings
+made_so b bk now readings made events rounds right is legal book_is reads = record {
+  right = right;
+  legal = subst (λ (x : List Event). IsLegal bk x) is legal;
+  book_is = book_is ∙ ap (λ (x : List Event). replay bk x) is;
+  made = made;
+  reads = ap readings_in (sym is) ∙ reads;
+}
+
 serves_at : (part : Part) → stage_of part ≡ to_listen → (b : Began)
     (a d : Option (List Call)) (bk now : book.State) (readings : List ℕ) (made : ℕ) (end : Spoken)
     (v : Kept) (h : Lasts b a d bk now (take made readings) v) → At part b v h.calls h.events
@@ -121,13 +140,10 @@ serves_at none_made e b a d bk now readings made end v h at ends all =
     at.events_are ∙ append-nil (session_events b.site b.door (start_of b) at.rounds) in
     record {
       rounds = at.rounds;
-      right = at.right;
+      so = made_so b bk now readings made h.events at.rounds at.right events_are h.legal
+          h.book_is h.reads;
       told = subst (λ (x : List Call). Tells a d x) calls_are h.told;
-      legal = subst (λ (x : List Event). IsLegal bk x) events_are h.legal;
-      book_is = h.book_is ∙ ap (λ (x : List Event). replay bk x) events_are;
       ends = ends ∙ end_at none_made e b v h.calls h.events at;
-      made = made;
-      reads = ap readings_in (sym events_are) ∙ h.reads;
       all = all;
     }
 serves_at (made_listen waited heard) e b a d bk now readings made end v h at ends all = absurd (cc)
@@ -141,3 +157,57 @@ pub serves_by : (b : Began) (a d : Option (List Call)) (bk now : book.State)
 serves_by b a d bk now readings made end v h =
     serves_at h.stands.part h.stands.stage_is b a d bk now readings made end v h
     (at_of to_listen b v h.calls h.events h.stands)
+
+-- ---- rounds until memory was wanted
+
+-- of a session that couldn't begin
+pub breaks_first : (b : Began) (before : Option (List Call)) (faults : ℕ) (bk : book.State)
+    (readings : List ℕ) → Breaks b before before faults faults bk bk readings
+breaks_first b before faults bk readings = record {
+  rounds = [];
+  so = record { right = tt; legal = tt; book_is = refl; made = 0; reads = refl };
+  part = none_made;
+  part_right = tt;
+  unasked = refl;
+  told = tells-nil before;
+  fails = (uncounted false faults).counts;
+}
+
+breaks_at : (part : Part) → stage_of part ≡ to_step → (b : Began) (a d : Option (List Call))
+    (k n : ℕ) (bk now : book.State) (readings : List ℕ) (made : ℕ) (v : Kept)
+    (calls : List Call) (events : List Event) → At part b v calls events → Tells a d calls
+    → IsLegal bk events → now ≡ replay bk events → readings_in events ≡ take made readings
+    → CountsWhere (has_failed v) k n → Breaks b a d k n bk now readings
+breaks_at none_made e b a d k n bk now readings made v calls events at told legal book_is reads
+    fails = absurd (cc)
+breaks_at (made_listen waited heard) e b a d k n bk now readings made v calls events at told legal
+    book_is reads fails =
+    record {
+      rounds = at.rounds;
+      so = made_so b bk now readings made events at.rounds at.right
+          (at.events_are
+          ∙ append-nil (session_events b.site b.door (start_of b) at.rounds))
+          legal book_is reads;
+      part = made_listen waited heard;
+      part_right = at.part_right;
+      unasked = refl;
+      told = subst (λ (x : List Call). Tells a d x) at.calls_are told;
+      fails =
+          subst (λ (s : Standing). CountsWhere (is_fault (spoken_of s.course)) k n)
+          at.shows.standing fails;
+    }
+breaks_at (made_step waited heard told_so) e b a d k n bk now readings made v calls events at told
+    legal book_is reads fails = absurd (cc)
+
+-- of one that goes on
+pub breaks_by : (b : Began) (a c d : Option (List Call)) (k m n : ℕ) (bk mid now : book.State)
+    (readings : List ℕ) (made : ℕ) (v : Kept) → Lasts b a c bk mid (take made readings) v
+    → FailsBy false (has_failed v) k m → now ≡ mid → OnlyListens c d m n v
+    → Breaks b a d k n bk now readings
+breaks_by b a c d k m n bk mid now readings made v h faults same l =
+    let stands = l.goes.stands b h.calls h.events h.stands in
+    breaks_at stands.part stands.stage_is b a d k n bk now readings made l.heard
+    (h.calls ++ l.goes.own) h.events
+    (at_of to_step b l.heard (h.calls ++ l.goes.own) h.events stands)
+    (tells-tells a c d h.calls l.goes.own h.told l.goes.told) h.legal (same ∙ h.book_is) h.reads
+    (both_count false (has_failed v) (has_failed l.heard) k m n faults l.fails).counts

@@ -1,6 +1,6 @@
 -- Where a round begins and the session goes on, its stream has no fault.
 use Rattle.std.proofs.Common.{◌≡◌, ℕ, Bool, true, false, not, ◌||◌, if◌then◌else◌, List, []}
-use Rattle.std.proofs.Common.{◌∷◌}
+use Rattle.std.proofs.Common.{◌∷◌, ◌++◌}
 use Rattle.std.proofs.Common.{Option, Some, None, Err, refl, sym, ap, ◌∙◌}
 use Rattle.octet_core.specs.declared.offer.Offer.{Offer}
 use Rattle.octet_core.specs.declared.offer.Offer.TheVariants.{Whole, Stalled, Failed as Refused}
@@ -14,7 +14,8 @@ use Rattle.station_config.specs.declared.site.Site.{Site}
 use Rattle.cltu_queue.specs.declared.book_reply.BookReply.{BookReply}
 use Rattle.session_core.specs.declared.course.Course.{Course}
 use Rattle.session_core.specs.declared.course.Course.TheVariants.{Going, Closing as ClosingWith}
-use Rattle.session_core.specs.declared.course.Course.TheVariants.{Over, LinkFailed, Spent}
+use Rattle.session_core.specs.declared.course.Course.TheVariants.{Over, LinkFailing, LinkFailed}
+use Rattle.session_core.specs.declared.course.Course.TheVariants.{Spent}
 use Rattle.session_core.specs.declared.standing.Standing.{Standing}
 use Rattle.session_core.specs.Numbers.{communications_failure}
 use Rattle.session_core.specs.Course.{is_going, is_over, is_blocked}
@@ -23,6 +24,7 @@ use Rattle.session_core.specs.Steps.{Next, at_moment, is_idle, with_next, acted,
 use Rattle.session_core.specs.Steps.{after_step, course_at_end}
 use Rattle.session_core.specs.Session.{State, Round, Told, at_first, next_by, next_of, listened}
 use Rattle.session_core.specs.Session.{standing_heard, standing_spoke, cleared, stepped, Asks}
+use Rattle.session_core.specs.Session.{came_with}
 use Rattle.session_core.specs.Session.{spoken_state, before_step, before_speak, after_round}
 use Rattle.session_core.specs.Session.{after_rounds, IsRound, AreRounds}
 use Rattle.session_core.specs.Kept.{IsSound}
@@ -51,6 +53,7 @@ end_going Going waits e = refl
 end_going (ClosingWith end) true e = absurd (cc)
 end_going (ClosingWith end) false e = absurd (cc)
 end_going (Over end) waits e = absurd (cc)
+end_going LinkFailing waits e = absurd (cc)
 end_going LinkFailed waits e = absurd (cc)
 end_going Spent waits e = absurd (cc)
 
@@ -122,40 +125,46 @@ step_going site s next now reply e =
     let t = acted site (at_moment s now) next reply in
     time_by _ t (beat_by _ (timed t) e)
 
+-- the stream has no fault, whether octets came or not
+sound_heard : (came : List ℕ) (heard : Option Heard) → (reading 0 came).fault ≡ None
+    → ((octets : List ℕ) → heard ≡ Some (Arrived octets)
+    → (reading 0 (came ++ octets)).fault ≡ None)
+    → (reading 0 (came_with came heard)).fault ≡ None
+sound_heard came None before arrived = before
+sound_heard came (Some (Arrived octets)) before arrived = arrived octets refl
+sound_heard came (Some Nothing) before arrived = before
+sound_heard came (Some Closed) before arrived = before
+sound_heard came (Some Failed) before arrived = before
+
 sound_step : (site : Site) (s : State) (waited : Option Offer) (heard : Option Heard) (told : Told)
     → IsSound s
     → is_going (stepped site (listened s waited heard) (Some told)).standing.course ≡ true
     → (reading 0 (listened s waited heard).came).fault ≡ None
-sound_step site s waited (Some (Arrived octets)) told sound e =
-    let t = listened s waited (Some (Arrived octets)) in
-    no_fault site (at_moment t.standing told.moment) (reading 0 t.came).fault _ told.answer.reply
-    refl (step_going site t.standing (next_of t) told.moment told.answer.reply e)
-sound_step site s waited None told sound e =
-    let t = listened s waited None in
+sound_step site s waited heard told sound e =
+    let t = listened s waited heard in
     let going = step_going site t.standing (next_of t) told.moment told.answer.reply e in
-    sound (listen_going s waited None
-    (act_going site (at_moment t.standing told.moment) (next_of t) told.answer.reply going))
-sound_step site s waited (Some Nothing) told sound e =
-    let t = listened s waited (Some Nothing) in
-    let going = step_going site t.standing (next_of t) told.moment told.answer.reply e in
-    sound (listen_going s waited (Some Nothing)
-    (act_going site (at_moment t.standing told.moment) (next_of t) told.answer.reply going))
-sound_step site s waited (Some Closed) told sound e =
-    let t = listened s waited (Some Closed) in
-    let going = step_going site t.standing (next_of t) told.moment told.answer.reply e in
-    sound (listen_going s waited (Some Closed)
-    (act_going site (at_moment t.standing told.moment) (next_of t) told.answer.reply going))
-sound_step site s waited (Some Failed) told sound e =
-    let t = listened s waited (Some Failed) in
-    let going = step_going site t.standing (next_of t) told.moment told.answer.reply e in
-    sound (listen_going s waited (Some Failed)
-    (act_going site (at_moment t.standing told.moment) (next_of t) told.answer.reply going))
+    sound_heard s.came heard
+    (sound
+    (listen_going s waited heard
+    (act_going site (at_moment t.standing told.moment) (next_of t) told.answer.reply going)))
+    (λ octets arrived.
+    let u = listened s waited (Some (Arrived octets)) in
+    no_fault site (at_moment u.standing told.moment) (reading 0 u.came).fault _
+    told.answer.reply refl
+    (sym
+    (ap
+    (λ (h : Option Heard).
+    let v = listened s waited h in
+    is_going (acted site (at_moment v.standing told.moment) (next_of v) told.answer.reply).course)
+    arrived)
+    ∙ going))
 
 -- a session that asks nothing has ended
 over_not_going : (c : Course) → false ≡ not (is_over c) → is_going c ≡ true → true ≡ false
 over_not_going Going h e = sym h
 over_not_going (ClosingWith end) h e = absurd (cc)
 over_not_going (Over end) h e = absurd (cc)
+over_not_going LinkFailing h e = absurd (cc)
 over_not_going LinkFailed h e = absurd (cc)
 over_not_going Spent h e = absurd (cc)
 

@@ -1,6 +1,6 @@
 -- What truth values tell.
-use Rattle.std.proofs.Common.{◌≡◌, Bool, true, false, ◌&&◌, ◌||◌, Option, Some, None, refl}
-use Rattle.std.specs.Prelude.{is_some, Result, Ok, Err, OnOk}
+use Rattle.std.proofs.Common.{◌≡◌, Bool, true, false, not, ◌&&◌, ◌||◌, Option, Some, None, refl}
+use Rattle.std.specs.Prelude.{is_some, Result, Ok, Err, OnOk, OnErr}
 
 pub or_true : (b : Bool) → (b || true) ≡ true
 or_true true = refl
@@ -26,9 +26,17 @@ pub both_of : (a b : Bool) → true ≡ (a && b) → Both a b
 both_of true b e = record { first = refl; second = cc }
 both_of false b e = absurd (cc)
 
+pub not_false : (b : Bool) → not b ≡ true → b ≡ false
+not_false true e = absurd (cc)
+not_false false e = refl
+
 pub not_second : (a b : Bool) → false ≡ (a && b) → a ≡ true → b ≡ false
 not_second true b e h = cc
 not_second false b e h = absurd (cc)
+
+pub on_err : {X E P : Type 0} (r : Result X E) → P → OnErr r P
+on_err (Ok x) h = tt
+on_err (Err e) h = h
 
 -- what follows of two facts that hold where an answer is Ok
 pub on_ok_both : {X E P Q R : Type 0} (r : Result X E) → (P → Q → R) → OnOk r P → OnOk r Q

@@ -3,7 +3,8 @@ use Rattle.std.specs.Prelude.{Bool, true, false}
 use Rattle.session_core.specs.declared.arrival.Arrival.{Arrival}
 use Rattle.session_core.specs.declared.arrival.Arrival.TheVariants.{Blocked, Octets, Closed}
 use Rattle.session_core.specs.declared.course.Course.{Course}
-use Rattle.session_core.specs.declared.course.Course.TheVariants.{Going, Closing, Over, Spent}
+use Rattle.session_core.specs.declared.course.Course.TheVariants.{Going, Closing, Over, LinkFailed}
+use Rattle.session_core.specs.declared.course.Course.TheVariants.{Spent}
 
 -- it handles messages
 abbrev pub is_going : Course → Bool
@@ -16,8 +17,10 @@ is_live Going = true
 is_live (Closing _) = true
 is_live _ = false
 
+-- it has ended, by its link's failure too
 abbrev pub is_over : Course → Bool
 is_over (Over _) = true
+is_over LinkFailed = true
 is_over _ = false
 
 -- a step of it wanted memory: no session comes to this by the answers of its link and of the book

@@ -12,9 +12,10 @@ use Rattle.link_model.specs.Calls.{Tells}
 use Rattle.archive_terms.specs.Glimpse.{wants_nothing}
 use Rattle.station_config.specs.declared.site.Site.{Site}
 use Rattle.cltu_queue.specs.declared.ask.Ask.{Ask}
+use Rattle.cltu_queue.specs.declared.book_reply.BookReply.{BookReply}
 use Rattle.station_book.specs.State.{Event, answer}
 use Rattle.station_book.specs.State as book
-use Rattle.station_book.specs.History.{moment_at, answer_to, event_at}
+use Rattle.station_book.specs.History.{moment_at, answer_to, event_at, after, reply_of}
 use Rattle.session_core.specs.declared.standing.Standing.{Standing}
 use Rattle.session_core.specs.Course.{is_going, is_over}
 use Rattle.session_core.specs.Numbers.{longest_piece}
@@ -110,6 +111,12 @@ abbrev pub own_events : Site → Kept → book.State → ℕ → List Event
 own_events site v b reading =
     if is_over v.standing.course then []
     else event_at b (answer v.door reading (asked site v b reading) wants_nothing) ∷ []
+
+-- At a reading the session of a door asked a book this, and stands so by the reply.
+pub record Acts (door reading : ℕ) (book_before book_after : book.State) (old new : Standing)
+    (ask : Ask) (led : BookReply → Standing) : Type 0 where
+  pub book : book_after ≡ after book_before (answer door reading ask wants_nothing)
+  pub standing : new ≡ led (reply_of book_before door old.moment ask)
 
 -- a message is given, unless the round is idle
 abbrev pub feeder_after : Standing → Feeding → Feeding

@@ -14,15 +14,12 @@ use Rattle.link_model.specs.declared.call.Heard.TheVariants.{Failed}
 use Rattle.link_model.specs.Calls.{octets_heard, blocks_in}
 use Rattle.station_config.specs.declared.site.Site.{Site}
 use Rattle.station_book.specs.State.{Event}
-use Rattle.session_core.specs.declared.course.Course.TheVariants.{Over, LinkFailed}
-use Rattle.session_core.specs.declared.ended.Ended.{Ended}
-use Rattle.session_core.specs.declared.spoken.Spoken.TheVariants as spoken
 use Rattle.session_core.specs.declared.standing.Standing.{Standing}
-use Rattle.session_core.specs.Course.{is_live, is_blocked}
+use Rattle.session_core.specs.Course.{is_live, is_over, is_blocked}
 use Rattle.session_core.specs.Steps.{Next, has_block, handles}
 use Rattle.session_core.specs.Session.{State, Round, at_first, next_of, before_step, before_speak}
 use Rattle.session_core.specs.Session.{after_round, after_rounds, AreRounds, session_calls}
-use Rattle.session_core.specs.Session.{session_events, session_end, is_fault}
+use Rattle.session_core.specs.Session.{session_events, session_end, spoken_of, is_fault}
 use Rattle.session_core.specs.Kept.{Kept}
 use Rattle.session_core.specs.Outcome.{come_to}
 use Rattle.session_core.specs.Lists.{Began, start_of, StandsAt, to_listen}
@@ -101,28 +98,17 @@ EachBlockOnce =
 -- ---- ends
 
 -- these rounds call neither link nor book, and come to the same end
-pub record RepeatEnd (site : Site) (door : ℕ) (s : State) (rounds : List Round)
-    (end : Ended) : Type 0 where
+pub record RepeatEnd (site : Site) (door : ℕ) (s : State) (rounds : List Round) : Type 0 where
   pub calls : session_calls site s rounds ≡ []
   pub events : session_events site door s rounds ≡ []
-  pub same : session_end site s rounds ≡ spoken.Ended end
+  pub same : session_end site s rounds ≡ spoken_of s.standing.course
 
--- After an end nothing is polled, offered or asked, and the end repeats itself.
+-- After an end, one by a fault of the link too, nothing is polled, offered or asked, and the end
+-- repeats itself.
 abbrev pub EndsRepeat : Type 0
 EndsRepeat =
-    (site : Site) (door : ℕ) (s : State) (rounds : List Round) (end : Ended)
-    → s.standing.course ≡ Over end → AreRounds site s rounds → RepeatEnd site door s rounds end
-
--- these rounds don't call the link, and tell its fault
-pub record LeaveLink (site : Site) (s : State) (rounds : List Round) : Type 0 where
-  pub calls : session_calls site s rounds ≡ []
-  pub same : session_end site s rounds ≡ spoken.LinkFault
-
--- After a poll or an offer failed, the link isn't called again.
-abbrev pub FaultsRepeat : Type 0
-FaultsRepeat =
-    (site : Site) (s : State) (rounds : List Round) → s.standing.course ≡ LinkFailed
-    → AreRounds site s rounds → LeaveLink site s rounds
+    (site : Site) (door : ℕ) (s : State) (rounds : List Round) → is_over s.standing.course ≡ true
+    → AreRounds site s rounds → RepeatEnd site door s rounds
 
 -- ---- faults
 
@@ -132,6 +118,18 @@ was_refused (Polled space Failed) = true
 was_refused (Polled space _) = false
 was_refused (Offered octets Refused) = true
 was_refused (Offered octets _) = false
+
+-- no call stands behind one that was answered Failed
+abbrev pub FailsLast : List Call → Type 0
+FailsLast [] = Unit {0}
+FailsLast (call ∷ calls) = (was_refused call ≡ true → calls ≡ []) × FailsLast calls
+
+-- After a poll or an offer failed, the link isn't called again, by this round or a later one.
+abbrev pub FaultsAreLast : Type 0
+FaultsAreLast =
+    (site : Site) (door draw entered : ℕ) (rounds : List Round)
+    → AreRounds site (at_first door draw entered) rounds
+    → FailsLast (session_calls site (at_first door draw entered) rounds)
 
 -- A session tells a fault of its link exactly where a call that it made was answered Failed.
 abbrev pub FaultsAreOfCalls : Type 0

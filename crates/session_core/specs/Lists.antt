@@ -14,7 +14,7 @@ use Rattle.session_core.specs.Session.{State, Told, at_first, Listens, listened,
 use Rattle.session_core.specs.Session.{stepped, step_events, after_rounds, AreRounds, session_calls}
 use Rattle.session_core.specs.Session.{session_events, Round}
 use Rattle.session_core.specs.Kept.{Kept, Shows, own_events}
-use Rattle.session_core.specs.Outcome.{has_ended, has_failed, FailsBy}
+use Rattle.session_core.specs.Outcome.{has_ended, has_failed, is_blocked, FailsBy}
 
 -- how far a round has come: the next call is listen, step or speak
 pub data Stage : Type 0 where
@@ -93,12 +93,13 @@ pub record Goes (from to : Stage) (before after : Option (List Call))
   pub stands : (b : Began) (calls : List Call) (events : List Event)
       → StandsAt from b old calls events → StandsAt to b new (calls ++ own) events
 
--- A step at a reading made at most one event of a book, which is its own of what the session kept and
--- of the book. For all lists for which the session stood, it stands for these with that event.
+-- A step at a reading made at most one event of a book, which is its own of what the session kept
+-- and of the book. For all lists for which the session stood, it stands for these with that event.
 pub record GoesStep (site : Site) (reading : ℕ) (book_before book_after : book.State)
     (old new : Kept) : Type 0 where
   pub book_is : book_after ≡ replay book_before (own_events site old book_before reading)
   pub failed : has_failed new ≡ has_failed old
+  pub blocked : is_blocked new ≡ is_blocked old
   pub stands : (b : Began) (calls : List Call) (events : List Event) → b.site ≡ site
       → StandsAt to_step b old calls events
       → StandsAt to_speak b new calls (events ++ own_events site old book_before reading)

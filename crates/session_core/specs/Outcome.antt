@@ -1,12 +1,13 @@
 -- What a session has come to, and what its calls leave of that. This product's own rule.
 use Rattle.std.specs.Prelude.{◌≡◌, ℕ, Bool, not, ◌&&◌, IsTrue, Option, List, [], Result, OnErr}
-use Rattle.std.specs.Prelude.{is_err, IsErr}
+use Rattle.std.specs.Prelude.{is_err, IsErr, IsOk}
 use Rattle.link_model.specs.declared.call.Call.{Call}
 use Rattle.link_model.specs.Calls.{Tells}
 use Rattle.link_model.specs.Counts.{CountsWhere}
 use Rattle.station_book.specs.State as book
 use Rattle.session_core.specs.declared.spoken.Spoken.{Spoken}
 use Rattle.session_core.specs.Course as course
+use Rattle.session_core.specs.Steps.{waits}
 use Rattle.session_core.specs.Session.{spoken_of, is_fault}
 use Rattle.session_core.specs.Kept.{Kept}
 
@@ -14,6 +15,7 @@ use Rattle.session_core.specs.Kept.{Kept}
 abbrev pub come_to : Kept → Spoken
 come_to v = spoken_of v.standing.course
 
+-- it has ended, by its link's failure too
 abbrev pub has_ended : Kept → Bool
 has_ended v = course.is_over v.standing.course
 
@@ -25,9 +27,17 @@ has_failed v = is_fault (come_to v)
 abbrev pub is_spent : Kept → Bool
 is_spent v = course.is_spent v.standing.course
 
--- it has ended, its link has failed, or it is spent
+-- it has ended, its link fails, or it is spent
 abbrev pub is_still : Kept → Bool
 is_still v = not (course.is_live v.standing.course)
+
+-- a block that waited stalled in this round
+abbrev pub is_blocked : Kept → Bool
+is_blocked v = course.is_blocked v.standing.arrival
+
+-- a block waits for a link that takes it
+abbrev pub has_waiting : Kept → Bool
+has_waiting v = waits v.standing
 
 -- A call found the link failed or not, and left it failed or not. The link's count of faults went
 -- up by one exactly where the link failed in this call, and one that has failed stays so.
@@ -35,17 +45,33 @@ pub record FailsBy (was is : Bool) (before now : ℕ) : Type 0 where
   pub counts : CountsWhere (not was && is) before now
   pub stays : IsTrue was → IsTrue is
 
--- A session that is still doesn't call its link, and comes to nothing else. Whether a session is
--- spent doesn't change.
+-- A round's offer stalled or not: the link's count of stalls went up by one where it did, and else
+-- stayed. A block waits behind the round only where it did.
+pub record StallsOnce (waiting : Bool) (before now : ℕ) : Type 0 where
+  pub stalled : Bool
+  pub counts : CountsWhere stalled before now
+  pub waits : IsTrue waiting → IsTrue stalled
+
+-- A session that is still doesn't call its link, and comes to nothing else; one that has ended has
+-- ended. Whether a session is spent doesn't change.
 pub record Rests (before after : Option (List Call)) (old new : Kept) : Type 0 where
   pub silent : IsTrue (is_still old) → Tells before after []
   pub same : IsTrue (is_still old) → come_to new ≡ come_to old
+  pub over : IsTrue (has_ended old) → IsTrue (has_ended new)
   pub spent : is_spent new ≡ is_spent old
 
--- A call is refused for want of memory alone, which leaves the book as it was. It is refused exactly
--- where the session is spent behind it, and where it was spent before.
+-- A call is refused for want of memory alone, which leaves the book as it was. It is refused
+-- exactly where the session is spent behind it, and where it was spent before.
 pub record Spends {T E : Type 0} (result : Result T E) (book_before book_after : book.State)
     (old new : Kept) : Type 0 where
   pub left : OnErr result (book_after ≡ book_before)
   pub spent : is_spent new ≡ is_err result
   pub repeats : IsTrue (is_spent old) → IsErr result
+
+-- A session that has ended leaves the book as it was, wants no memory, and comes to the same end.
+pub record Repeats {T E : Type 0} (result : Result T E) (book_before book_after : book.State)
+    (old new : Kept) : Type 0 where
+  pub left : book_after ≡ book_before
+  pub good : IsOk result
+  pub same : come_to new ≡ come_to old
+  pub over : IsTrue (has_ended new)

@@ -20,7 +20,8 @@ use Rattle.assoc_core.specs.declared.state.State.TheVariants.{Opening}
 use Rattle.station_book.specs.State.{Answer, Event, answer, answered}
 use Rattle.session_core.specs.declared.arrival.Arrival.TheVariants.{Nothing}
 use Rattle.session_core.specs.declared.course.Course.{Course}
-use Rattle.session_core.specs.declared.course.Course.TheVariants.{Going, Over, LinkFailed}
+use Rattle.session_core.specs.declared.course.Course.TheVariants.{Going, Over, LinkFailing}
+use Rattle.session_core.specs.declared.course.Course.TheVariants.{LinkFailed}
 use Rattle.session_core.specs.declared.spoken.Spoken.{Spoken}
 use Rattle.session_core.specs.declared.spoken.Spoken.TheVariants as spoken
 use Rattle.session_core.specs.declared.standing.Standing.{Standing}
@@ -209,8 +210,13 @@ Speaks s spoke = is_some spoke ≡ may_speak s.standing
 -- what a round comes to
 abbrev pub spoken_of : Course → Spoken
 spoken_of (Over end) = spoken.Ended end
+spoken_of LinkFailing = spoken.LinkFault
 spoken_of LinkFailed = spoken.LinkFault
 spoken_of _ = spoken.Going
+
+abbrev pub is_end : Spoken → Bool
+is_end spoken.Going = false
+is_end _ = true
 
 abbrev pub is_fault : Spoken → Bool
 is_fault spoken.LinkFault = true

@@ -16,7 +16,7 @@ use Rattle.cltu_queue.specs.declared.book_reply.BookReply.{BookReply}
 use Rattle.session_core.specs.declared.arrival.Arrival.TheVariants as arrival
 use Rattle.session_core.specs.declared.course.Course.{Course}
 use Rattle.session_core.specs.declared.course.Course.TheVariants.{Closing as ClosingWith}
-use Rattle.session_core.specs.declared.course.Course.TheVariants.{Over, LinkFailed}
+use Rattle.session_core.specs.declared.course.Course.TheVariants.{Over, LinkFailing, LinkFailed}
 use Rattle.session_core.specs.declared.ended.Ended.TheVariants.{PeerClosed, Broken}
 use Rattle.session_core.specs.declared.standing.Standing.{Standing}
 use Rattle.session_core.specs.Numbers.{communications_failure}
@@ -50,7 +50,7 @@ waits s = is_live s.course && has_block s
 abbrev pub after_wait : Standing → Offer → Standing
 after_wait s Whole = record s { block = []; relieved = true }
 after_wait s Stalled = record s { arrival = arrival.Blocked }
-after_wait s Refused = record s { course = LinkFailed }
+after_wait s Refused = record s { course = LinkFailing }
 
 -- ---- listen: a poll
 
@@ -66,7 +66,7 @@ abbrev pub after_poll : Standing → Heard → Standing
 after_poll s (Arrived _) = record s { arrival = arrival.Octets }
 after_poll s Nothing = s
 after_poll s Closed = record s { arrival = arrival.Closed }
-after_poll s Failed = record s { course = LinkFailed }
+after_poll s Failed = record s { course = LinkFailing }
 
 -- ---- step: the moment
 
@@ -159,11 +159,13 @@ may_speak s = is_live s.course && has_block s && not (is_blocked s.arrival)
 abbrev pub after_offer : Standing → Offer → Standing
 after_offer s Whole = record s { block = []; sent = s.moment }
 after_offer s Stalled = s
-after_offer s Refused = record s { course = LinkFailed }
+after_offer s Refused = record s { course = LinkFailing }
 
--- a closing session ends once its block was taken whole
+-- a closing session ends once its block was taken whole, and one whose link fails ends with the
+-- round
 abbrev pub course_at_end : Course → Bool → Course
 course_at_end (ClosingWith end) waits = if waits then ClosingWith end else Over end
+course_at_end LinkFailing waits = LinkFailed
 course_at_end course waits = course
 
 abbrev pub round_ended : Standing → Standing

@@ -11,7 +11,10 @@ pub enum Course {
     Closing(Ended),
     /// It ended so.
     Over(Ended),
-    /// A poll or an offer of it failed.
+    /// A poll or an offer of this round failed. The link isn't called again, and the session ends
+    /// with the round.
+    LinkFailing,
+    /// It ended so: a poll or an offer of it failed.
     LinkFailed,
     /// A step of it wanted memory. It does nothing any more.
     Spent,

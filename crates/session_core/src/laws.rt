@@ -1,5 +1,5 @@
 // What holds of every session. A law's function does nothing: its contract is the law.
-ghost use Rattle.session_core.specs.Laws.{HandledInOrder, EachBlockOnce, EndsRepeat, FaultsRepeat};
+ghost use Rattle.session_core.specs.Laws.{HandledInOrder, EachBlockOnce, EndsRepeat, FaultsAreLast};
 ghost use Rattle.session_core.specs.Laws.{FaultsAreOfCalls, EndsAsItStands, OneSession};
 
 use isp1_tml::laws as stream;
@@ -23,14 +23,16 @@ pub fn each_block_is_handed_over_once()
     link::parts_of_two_runs_join();
 }
 
-/// After an end a session calls neither link nor book, and repeats the end.
+/// After an end, one by a fault of its link too, a session calls neither link nor book, and repeats
+/// the end.
 pub fn ends_repeat()
     ensures { EndsRepeat }
 {}
 
-/// After a poll or an offer failed, a session doesn't call the link again, and tells the fault.
-pub fn faults_repeat()
-    ensures { FaultsRepeat }
+/// After a poll or an offer failed, a session doesn't call the link again, by this round or a later
+/// one.
+pub fn faults_are_last()
+    ensures { FaultsAreLast }
 {}
 
 /// A session tells a fault of its link exactly where a poll or an offer of it was answered Failed.

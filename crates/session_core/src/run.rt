@@ -1,10 +1,10 @@
 // Rounds from a session's beginning.
-ghost use Rattle.std.specs.Prelude.{ℕ, ◌<◌, IfOk, slice_index};
+ghost use Rattle.std.specs.Prelude.{ℕ, ◌<◌, IfOk, OnErr, slice_index};
 ghost use Rattle.cds_time.specs.declared.cds.TheConstants.{MOMENT_END};
 ghost use Rattle.link_model.specs.Counts.{CountsWhere};
 ghost use Rattle.station_config.specs.Validity.{IsSite};
 ghost use Rattle.session_core.specs.Session.{is_fault};
-ghost use Rattle.session_core.specs.Serving.{Serves, began_of};
+ghost use Rattle.session_core.specs.Serving.{Serves, Breaks, began_of};
 
 use crate::session::Session;
 use crate::spoken::Spoken;
@@ -41,6 +41,11 @@ pub fn run_rounds<L: Link>(
     // The link's count of faults rises exactly where this ends by a fault of the link.
     ensures faults { IfOk result (λ end. CountsWhere (is_fault end) (L.faults link.old)
         (L.faults link.new)) }
+
+    // After want of memory the rounds made until then stand.
+    ensures memory { OnErr result (Breaks (began_of start.entry) (L.calls link.old)
+        (L.calls link.new) (L.faults link.old) (L.faults link.new) book.old book.new
+        readings.now) }
 {
     let mut session = Session::new(alloc, start.door, start.draw, start.entered)?;
     for reading in readings {

@@ -1,6 +1,6 @@
 // A session.
 ghost use Rattle.std.specs.Prelude.{◌≡◌, ◌<◌, ◌≤◌, List, [], ◌++◌, IfOk, OnOk, OnErr, Ok, Some};
-ghost use Rattle.std.specs.Prelude.{◌∷◌, length, vec_len, true, IsTrue, IsFalse};
+ghost use Rattle.std.specs.Prelude.{◌∷◌, length, vec_len, true, false, not, ◌&&◌, IsTrue, IsFalse};
 ghost use Rattle.cds_time.specs.declared.cds.TheConstants.{MOMENT_END};
 ghost use Rattle.isp1_tml.specs.Feeding.{next_of as next_held, after_next as after_given};
 ghost use Rattle.isp1_tml.specs.Feeding.{fresh};
@@ -8,27 +8,29 @@ ghost use Rattle.isp1_tml.specs.Given.{content_of};
 ghost use Rattle.link_model.specs.declared.call.Call.{Call};
 ghost use Rattle.link_model.specs.declared.call.Call.TheVariants.{Offered};
 ghost use Rattle.link_model.specs.Calls.{Tells};
-ghost use Rattle.link_model.specs.Counts.{CountsWhere, offer_failed};
+ghost use Rattle.link_model.specs.Counts.{CountsWhere, offer_failed, offer_stalled};
 ghost use Rattle.archive_terms.specs.Glimpse.{wants_nothing};
 ghost use Rattle.station_config.specs.Validity.{IsSite};
 ghost use Rattle.station_book.specs.State.{Event, answer};
 ghost use Rattle.station_book.specs.History.{after, reply_of, moment_at, replay};
-ghost use Rattle.session_core.specs.Kept.{Waited, PolledOnce, Hears, Said, Listened, Spoke};
+ghost use Rattle.session_core.specs.Kept.{Waited, PolledOnce, Hears, Said};
 ghost use Rattle.session_core.specs.Kept.{feeder_after, asked, told_now, told_by, kept_after};
-ghost use Rattle.session_core.specs.Kept.{own_events};
+ghost use Rattle.session_core.specs.Kept.{own_events, Acts};
 ghost use Rattle.session_core.specs.Lists.{Began, StandsAt, Goes, GoesRound, to_listen, to_step};
 ghost use Rattle.session_core.specs.Lists.{to_speak, GoesStep, OnlyListens};
 ghost use Rattle.session_core.specs.Outcome.{come_to, has_ended, has_failed, is_spent, FailsBy};
-ghost use Rattle.session_core.specs.Outcome.{Rests, Spends};
+ghost use Rattle.session_core.specs.Outcome.{is_blocked, has_waiting, StallsOnce, Rests, Spends};
+ghost use Rattle.session_core.specs.Outcome.{Repeats};
 ghost use Rattle.session_core.specs.Course.{is_going};
-ghost use Rattle.session_core.specs.Session.{spoken_of, is_fault};
-ghost use Rattle.session_core.specs.Steps.{has_message, after_wait, after_offer, ask_of, acted};
+ghost use Rattle.session_core.specs.Session.{spoken_of, is_end, is_fault};
+ghost use Rattle.session_core.specs.Steps.{has_message, ask_of, acted};
 ghost use Rattle.session_core.specs.Steps.{message_ask, with_message, idle_ask, next_ask};
 ghost use Rattle.session_core.specs.Steps.{with_next};
 ghost use Rattle.session_core.specs.declared.spoken.Spoken.TheVariants.{Going};
 
 use crate::arrival::Arrival;
 use crate::bind_places::places_of;
+use crate::block::Block;
 use crate::course::Course;
 use crate::ended::Ended;
 use crate::handling::said_ask;
@@ -92,28 +94,13 @@ fn holds_message(feeder: &Feeder) -> bool
     feeder.has_message()
 }
 
-// Offers the block that waited.
-fn offer_waiting<L: Link>(standing: &mut Standing, link: &mut L) -> Offer
-    ensures told { Tells (L.calls link.old) (L.calls link.new)
-        (Offered standing.old.block result ∷ []) }
-    ensures standing { standing.new ≡ after_wait standing.old result }
+// Offers a block.
+fn offer<L: Link>(block: &Block, link: &mut L) -> Offer
+    ensures told { Tells (L.calls link.old) (L.calls link.new) (Offered block.now result ∷ []) }
     ensures faults { CountsWhere (offer_failed result) (L.faults link.old) (L.faults link.new) }
+    ensures stalls { CountsWhere (offer_stalled result) (L.stalls link.old) (L.stalls link.new) }
 {
-    let answer = link.offer(standing.block.octets());
-    standing.end_wait(answer);
-    answer
-}
-
-// Offers the round's block.
-fn offer_block<L: Link>(standing: &mut Standing, link: &mut L) -> Offer
-    ensures told { Tells (L.calls link.old) (L.calls link.new)
-        (Offered standing.old.block result ∷ []) }
-    ensures standing { standing.new ≡ after_offer standing.old result }
-    ensures faults { CountsWhere (offer_failed result) (L.faults link.old) (L.faults link.new) }
-{
-    let answer = link.offer(standing.block.octets());
-    standing.end_offer(answer);
-    answer
+    link.offer(block.octets())
 }
 
 // Polls the link once, and feeds what arrived.
@@ -124,6 +111,7 @@ fn hear<L: Link>(feeder: &mut Feeder, standing: &mut Standing, space: &mut [u8],
         standing.new }
     ensures faults { FailsBy (is_fault (spoken_of standing.old.course))
         (is_fault (spoken_of standing.new.course)) (L.faults link.old) (L.faults link.new) }
+    ensures stalls { CountsWhere false (L.stalls link.old) (L.stalls link.new) }
 {
     let room = feeder.room().min(space.len());
     let into = &mut space[..room];
@@ -137,7 +125,7 @@ fn hear<L: Link>(feeder: &mut Feeder, standing: &mut Standing, space: &mut [u8],
         }
         Poll::Nothing => {}
         Poll::Closed => standing.arrival = Arrival::Closed,
-        Poll::Failed => standing.course = Course::LinkFailed,
+        Poll::Failed => standing.course = Course::LinkFailing,
     }
 }
 
@@ -170,11 +158,14 @@ impl Session {
         ensures waited { Waited (L.calls link.old) (L.calls link.new) self.old self.new }
         ensures faults { FailsBy (has_failed self.old) (has_failed self.new) (L.faults link.old)
             (L.faults link.new) }
+        ensures stalls { CountsWhere (is_blocked self.new) (L.stalls link.old)
+            (L.stalls link.new) }
     {
         let waits = self.standing.waits();
         self.standing.begin_round();
         if waits {
-            offer_waiting(&mut self.standing, link);
+            let answer = offer(&self.standing.block, link);
+            self.standing.end_wait(answer);
         }
     }
 
@@ -183,23 +174,11 @@ impl Session {
         ensures polled { PolledOnce (L.calls link.old) (L.calls link.new) self.old self.new }
         ensures faults { FailsBy (has_failed self.old) (has_failed self.new) (L.faults link.old)
             (L.faults link.new) }
+        ensures stalls { CountsWhere false (L.stalls link.old) (L.stalls link.new) }
     {
         if self.standing.may_poll(holds_message(&self.feeder)) {
             hear(&mut self.feeder, &mut self.standing, &mut self.space, link);
         }
-    }
-
-    // The first call of a round, with what it makes of each state that the session shows.
-    fn hear_round<L: Link>(&mut self, link: &mut L)
-        ensures lists { Listened (L.calls link.old) (L.calls link.new) self.old self.new }
-        ensures faults { FailsBy (has_failed self.old) (has_failed self.new) (L.faults link.old)
-            (L.faults link.new) }
-        ensures rests { Rests (L.calls link.old) (L.calls link.new) self.old self.new }
-        ensures ended { has_ended self.new ≡ has_ended self.old }
-    {
-        laws::is_worked_out();
-        self.clear_way(link);
-        self.poll(link);
     }
 
     /// The first call of a round: offers the block that waits, and polls once where none waits any
@@ -212,13 +191,20 @@ impl Session {
         ensures faults { FailsBy (has_failed self.old) (has_failed self.new) (L.faults link.old)
             (L.faults link.new) }
 
+        // Its count of stalls rises exactly where the block that waited stalls: there alone a block
+        // waits behind this call.
+        ensures stalls { CountsWhere (is_blocked self.new) (L.stalls link.old)
+            (L.stalls link.new) }
+        ensures waits { has_waiting self.new ≡ is_blocked self.new }
+
         // A session that is still doesn't call its link; and no listen ends a session.
         ensures rests { Rests (L.calls link.old) (L.calls link.new) self.old self.new }
         ensures ended { has_ended self.new ≡ has_ended self.old }
     {
         laws::is_worked_out();
         laws::any_pieces();
-        self.hear_round(link);
+        self.clear_way(link);
+        self.poll(link);
     }
 }
 
@@ -254,14 +240,11 @@ fn handle(
     requires reading { asking.reading < MOMENT_END }
     requires now { standing.old.moment ≡ moment_at book.old asking.reading }
     requires moment { standing.old.moment < MOMENT_END }
-    ensures book { OnOk result (book.new ≡ after book.old
-        (answer asking.entry.door asking.entry.reading
+    ensures acts { OnOk result (Acts asking.entry.door asking.entry.reading book.old book.new
+        standing.old standing.new
         (message_ask asking.entry.site.now standing.old (content_of message.entry)
-        standing.old.moment) wants_nothing)) }
-    ensures standing { OnOk result (standing.new ≡ with_message asking.entry.site.now standing.old
-        (content_of message.entry) (reply_of book.old asking.entry.door standing.old.moment
-        (message_ask asking.entry.site.now standing.old (content_of message.entry)
-        standing.old.moment))) }
+        standing.old.moment)
+        (with_message asking.entry.site.now standing.old (content_of message.entry))) }
     ensures err { OnErr result (book.new ≡ book.old) }
 {
     let Asking {
@@ -300,13 +283,10 @@ fn take_message(
     requires now { standing.old.moment ≡ moment_at book.old asking.reading }
     requires moment { standing.old.moment < MOMENT_END }
     ensures feeder { OnOk result (feeder.new ≡ after_given feeder.old) }
-    ensures book { OnOk result (book.new ≡ after book.old
-        (answer asking.entry.door asking.entry.reading
+    ensures acts { OnOk result (Acts asking.entry.door asking.entry.reading book.old book.new
+        standing.old standing.new
         (next_ask asking.entry.site.now standing.old (next_held feeder.old) standing.old.moment)
-        wants_nothing)) }
-    ensures standing { OnOk result (standing.new ≡ with_next asking.entry.site.now standing.old
-        (next_held feeder.old) (reply_of book.old asking.entry.door standing.old.moment
-        (next_ask asking.entry.site.now standing.old (next_held feeder.old) standing.old.moment))) }
+        (with_next asking.entry.site.now standing.old (next_held feeder.old))) }
     ensures err { OnErr result (book.new ≡ book.old) }
 {
     match feeder.next_message() {
@@ -335,13 +315,10 @@ fn act(
     requires now { standing.old.moment ≡ moment_at book.old asking.reading }
     requires moment { standing.old.moment < MOMENT_END }
     ensures feeder { OnOk result (feeder.new ≡ feeder_after standing.old feeder.old) }
-    ensures book { OnOk result (book.new ≡ after book.old
-        (answer asking.entry.door asking.entry.reading
+    ensures acts { OnOk result (Acts asking.entry.door asking.entry.reading book.old book.new
+        standing.old standing.new
         (ask_of asking.entry.site.now standing.old (next_held feeder.old) standing.old.moment)
-        wants_nothing)) }
-    ensures standing { OnOk result (standing.new ≡ acted asking.entry.site.now standing.old
-        (next_held feeder.old) (reply_of book.old asking.entry.door standing.old.moment
-        (ask_of asking.entry.site.now standing.old (next_held feeder.old) standing.old.moment))) }
+        (acted asking.entry.site.now standing.old (next_held feeder.old))) }
     ensures err { OnErr result (book.new ≡ book.old) }
 {
     if standing.is_idle() {
@@ -386,6 +363,8 @@ impl Session {
         ensures kept { OnOk result (self.new
             ≡ kept_after site.now self.old (told_by site.now self.old book.old reading)) }
         ensures memory { Spends result book.old book.new self.old self.new }
+        ensures ended { IsTrue (has_ended self.old)
+            → Repeats result book.old book.new self.old self.new }
     {
         if self.standing.is_over() {
             return Ok(());
@@ -409,6 +388,10 @@ impl Session {
         ensures lists { OnOk result (GoesStep site.now reading book.old book.new self.old
             self.new) }
         ensures memory { Spends result book.old book.new self.old self.new }
+
+        // After an end the book isn't asked.
+        ensures ended { IsTrue (has_ended self.old)
+            → Repeats result book.old book.new self.old self.new }
     {
         laws::is_worked_out();
         laws::any_pieces();
@@ -423,9 +406,12 @@ impl Session {
         ensures said { Said (L.calls link.old) (L.calls link.new) self.old self.new }
         ensures faults { FailsBy (has_failed self.old) (has_failed self.new) (L.faults link.old)
             (L.faults link.new) }
+        ensures stalls { CountsWhere (has_waiting self.new && not (is_blocked self.old))
+            (L.stalls link.old) (L.stalls link.new) }
     {
         if self.standing.may_speak() {
-            offer_block(&mut self.standing, link);
+            let answer = offer(&self.standing.block, link);
+            self.standing.end_offer(answer);
         }
     }
 
@@ -435,20 +421,9 @@ impl Session {
     {
         match self.standing.course {
             Course::Over(end) => Spoken::Ended(end),
-            Course::LinkFailed => Spoken::LinkFault,
+            Course::LinkFailing | Course::LinkFailed => Spoken::LinkFault,
             Course::Going | Course::Closing(_) | Course::Spent => Spoken::Going,
         }
-    }
-
-    // The third call of a round, with what it makes of each state that the session shows.
-    fn say_round<L: Link>(&mut self, link: &mut L)
-        ensures lists { Spoke (L.calls link.old) (L.calls link.new) self.old self.new }
-        ensures faults { FailsBy (has_failed self.old) (has_failed self.new) (L.faults link.old)
-            (L.faults link.new) }
-        ensures rests { Rests (L.calls link.old) (L.calls link.new) self.old self.new }
-    {
-        self.say(link);
-        self.standing.end_round();
     }
 
     /// The third call of a round: offers the block, and says what the round came to.
@@ -459,10 +434,18 @@ impl Session {
         // The link's count of faults rises exactly where the link fails in this call.
         ensures faults { FailsBy (has_failed self.old) (has_failed self.new) (L.faults link.old)
             (L.faults link.new) }
+
+        // Its count of stalls rises exactly where the block still waits and stalls in this call.
+        ensures stalls { CountsWhere (has_waiting self.new && not (is_blocked self.old))
+            (L.stalls link.old) (L.stalls link.new) }
         ensures rests { Rests (L.calls link.old) (L.calls link.new) self.old self.new }
         ensures outcome { result ≡ come_to self.new }
+
+        // The session has ended exactly where the round came to an end or to a fault.
+        ensures over { has_ended self.new ≡ is_end result }
     {
-        self.say_round(link);
+        self.say(link);
+        self.standing.end_round();
         self.outcome()
     }
 
@@ -481,12 +464,21 @@ impl Session {
             (L.calls link.new) book.old book.new self.old self.new) }
         ensures faults { OnOk result (FailsBy (has_failed self.old) (has_failed self.new)
             (L.faults link.old) (L.faults link.new)) }
+        ensures stalls { OnOk result (StallsOnce (has_waiting self.new) (L.stalls link.old)
+            (L.stalls link.new)) }
         ensures outcome { IfOk result (λ spoken. spoken ≡ come_to self.new) }
+        ensures over { IfOk result (λ spoken. has_ended self.new ≡ is_end spoken) }
         ensures memory { Spends result book.old book.new self.old self.new }
 
         // Where it wants memory, its calls of the link are those of a listen.
         ensures heard { OnErr result (OnlyListens (L.calls link.old) (L.calls link.new)
             (L.faults link.old) (L.faults link.new) self.old) }
+
+        // After an end neither link nor book is called, and the end repeats itself.
+        ensures silent { IsTrue (has_ended self.old)
+            → Tells (L.calls link.old) (L.calls link.new) [] }
+        ensures ended { IsTrue (has_ended self.old)
+            → Repeats result book.old book.new self.old self.new }
     {
         self.listen(link);
         self.step(site, book, reading)?;

@@ -9,6 +9,7 @@ pub enum Spoken {
     Going,
     /// The session ended so. Every later call says the same, and touches neither book nor link.
     Ended(Ended),
-    /// A poll or an offer of this session failed. The link isn't called again.
+    /// A poll or an offer of this session failed. Every later call says the same, and touches
+    /// neither book nor link.
     LinkFault,
 }

@@ -76,11 +76,11 @@ impl Standing {
         })
     }
 
-    // Whether it has ended.
+    // Whether it has ended, by its link's failure too.
     pub(crate) fn is_over(&self) -> bool
         ensures { result ≡ is_over self.now.course }
     {
-        matches!(self.course, Course::Over(_))
+        matches!(self.course, Course::Over(_) | Course::LinkFailed)
     }
 
     // Whether it wanted memory.
@@ -146,7 +146,7 @@ impl Standing {
                 self.relieved = true;
             }
             Offer::Stalled => self.arrival = Arrival::Blocked,
-            Offer::Failed => self.course = Course::LinkFailed,
+            Offer::Failed => self.course = Course::LinkFailing,
         }
     }
 
@@ -273,11 +273,12 @@ impl Standing {
                 self.sent = self.moment;
             }
             Offer::Stalled => {}
-            Offer::Failed => self.course = Course::LinkFailed,
+            Offer::Failed => self.course = Course::LinkFailing,
         }
     }
 
-    // A closing session ends once its block was taken whole.
+    // A closing session ends once its block was taken whole, and one whose link fails ends with the
+    // round.
     pub(crate) fn end_round(&mut self)
         ensures { self.new ≡ round_ended self.old }
     {
@@ -291,6 +292,7 @@ fn course_at_end(course: Course, waits: bool) -> Course
 {
     match course {
         Course::Closing(end) => { if waits { course } else { Course::Over(end) } }
+        Course::LinkFailing => Course::LinkFailed,
         _ => course,
     }
 }

@@ -230,6 +230,6 @@ fn a_bind_is_answered_at_its_last_octet(rt: HostRuntime) -> Result<(), Fail> {
 
 #[test]
 fn a_plain_program_does_the_same(rt: HostRuntime) -> Result<(), Fail> {
-    random::compare(&rt, rt.alloc(), SITE, 100)?;
+    random::compare(&rt, rt.alloc(), SITE, 60)?;
     Ok(())
 }

@@ -103,9 +103,14 @@ impl Plain {
         Ok(stream_of(self.alloc, &self.came)?)
     }
 
-    // Whether it has ended, or its link has failed.
-    fn is_over(&self) -> bool {
+    // Whether it has ended, by its link's failure too.
+    fn has_ended(&self) -> bool {
         matches!(self.course, Course::Over(_) | Course::LinkFailed)
+    }
+
+    // Whether it has a link, which hasn't failed.
+    fn has_link(&self) -> bool {
+        matches!(self.course, Course::Going | Course::Closing(_))
     }
 
     fn end(&mut self, end: Ended) {
@@ -128,7 +133,7 @@ impl Plain {
                 self.relieved = true;
             }
             Offer::Stalled => self.arrival = Arrival::Blocked,
-            Offer::Failed => self.course = Course::LinkFailed,
+            Offer::Failed => self.course = Course::LinkFailing,
         }
     }
 
@@ -144,7 +149,7 @@ impl Plain {
             }
             Poll::Nothing => {}
             Poll::Closed => self.arrival = Arrival::Closed,
-            Poll::Failed => self.course = Course::LinkFailed,
+            Poll::Failed => self.course = Course::LinkFailing,
         }
         Ok(())
     }
@@ -280,7 +285,7 @@ impl Plain {
 
     // The dead timer, and then the heartbeat.
     fn look_at_times(&mut self) -> Result<(), Memory> {
-        if self.is_over() {
+        if !self.has_link() {
             return Ok(());
         }
         if self.has_passed(self.heard, self.patience) {
@@ -295,7 +300,7 @@ impl Plain {
 
     // The block is offered, unless it stalled in this round already.
     fn offer(&mut self, link: &mut MemoryLink) {
-        if self.block.is_empty() || self.is_over() || self.arrival == Arrival::Blocked {
+        if self.block.is_empty() || !self.has_link() || self.arrival == Arrival::Blocked {
             return;
         }
         match link.offer(&self.block) {
@@ -304,7 +309,7 @@ impl Plain {
                 self.sent = self.moment;
             }
             Offer::Stalled => {}
-            Offer::Failed => self.course = Course::LinkFailed,
+            Offer::Failed => self.course = Course::LinkFailing,
         }
     }
 }
@@ -333,7 +338,7 @@ impl Talker for Plain {
     fn listen(&mut self, link: &mut MemoryLink) -> Result<(), Memory> {
         self.arrival = Arrival::Nothing;
         self.relieved = false;
-        if self.is_over() {
+        if !self.has_link() {
             return Ok(());
         }
         self.offer_waiting(link);
@@ -352,7 +357,7 @@ impl Talker for Plain {
         requires site { IsSite site.now }
         requires reading { reading < MOMENT_END }
     {
-        if matches!(self.course, Course::Over(_)) {
+        if self.has_ended() {
             return Ok(());
         }
         self.moment = book.peek(reading);
@@ -368,10 +373,10 @@ impl Talker for Plain {
 
     fn speak(&mut self, link: &mut MemoryLink) -> Result<Spoken, Memory> {
         self.offer(link);
-        if let Course::Closing(end) = self.course {
-            if self.block.is_empty() {
-                self.course = Course::Over(end);
-            }
+        match self.course {
+            Course::Closing(end) if self.block.is_empty() => self.course = Course::Over(end),
+            Course::LinkFailing => self.course = Course::LinkFailed,
+            _ => {}
         }
         Ok(match self.course {
             Course::Over(end) => Spoken::Ended(end),

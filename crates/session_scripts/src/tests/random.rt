@@ -212,23 +212,15 @@ impl Pair {
         Ok(())
     }
 
-    // A session that came to this end comes to it again, and its door gets another session. After
-    // an end the book has no later moment.
-    fn renew(
-        &mut self,
-        site: &Site,
-        door: u32,
-        end: &str,
-        dice: &mut Dice,
-    ) -> Result<(), AllocError>
+    // A session that came to an end comes to it again and again, and the book has no later moment
+    // by that. Its door gets another session.
+    fn renew(&mut self, site: &Site, door: u32, dice: &mut Dice) -> Result<(), AllocError>
         requires { IsSite site.now }
     {
         self.make(site, What::Round, door, 0)?;
-        if !end.ends_with("LinkFault ") {
-            self.wait(site, 1)?;
-            self.make(site, What::Round, door, 0)?;
-            self.make(site, What::Moment, 0, 0)?;
-        }
+        self.wait(site, 1)?;
+        self.make(site, What::Round, door, 0)?;
+        self.make(site, What::Moment, 0, 0)?;
         self.make(site, What::Quit, door, 0)?;
         let call = dice.below(40);
         let failing = if call < 8 { call } else { 0 };
@@ -266,7 +258,7 @@ impl Pair {
         let told = self.make(site, What::Round, user.door, 0)?;
         self.probe(site, user.door, dice)?;
         if is_end(told.as_str()) {
-            self.renew(site, user.door, told.as_str(), dice)?;
+            self.renew(site, user.door, dice)?;
             *user = new_user(self.alloc, user.door);
         }
         Ok(())

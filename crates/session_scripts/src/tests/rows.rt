@@ -401,11 +401,19 @@ quit 1
 in 1 UNBIND=heard 16 Aborted { diagnostic: 127 }
 ";
 
-// The same five rounds, in which each call of the link fails in turn.
+// The same five rounds, in which each call of the link fails in turn. Behind the round in which one
+// failed, the book has no later moment.
 pub const FAILING: &str = "\
 open 1 1
+clock 10000000
 in 1 CONTEXT=unheard LinkFault
+moment=10000000
+clock 40000000
 round 1=LinkFault
+listen 1=
+step 1=
+speak 1=LinkFault
+moment=10000000
 new
 open 1 2
 in 1 CONTEXT=heard 20
@@ -423,8 +431,11 @@ open 1 4
 in 1 CONTEXT=heard 20
 stall 1 2
 in 1 MOC-0-5-RC UNBIND=heard 117 stalled OK-5
+clock 20000000
 round 1=unsent OK-5 LinkFault
+clock 40000000
 round 1=LinkFault
+moment=20000000
 bind 9 1=AlreadyBound
 new
 open 1 5
@@ -460,6 +471,7 @@ clock 30000000
 round 1=silence unsent BEAT LinkFault
 clock 300000000
 round 1=LinkFault
+moment=30000000
 ";
 
 pub const LONGEST: &str = "\

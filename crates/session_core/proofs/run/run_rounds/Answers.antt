@@ -6,12 +6,16 @@ use Rattle.session_core.specs.Session.{is_fault}
 use Rattle.session_core.specs.Outcome.{FailsBy}
 use Rattle.session_core.specs.Serving.{began_of}
 use Rattle.session_core.proofs.Fates.{uncounted, both_count}
-use Rattle.session_core.proofs.Serving.{Lasts, lasts_first, lasts_on, serves_by}
+use Rattle.session_core.proofs.Truths.{on_err}
+use Rattle.session_core.proofs.Serving.{Lasts, lasts_first, lasts_on, serves_by, breaks_first}
+use Rattle.session_core.proofs.Serving.{breaks_by}
 use Rattle.session_core.proofs.run.run_rounds.Goals as goal
 
 pub loop-reading-init : goal.loop-reading-init
 loop-reading-init g c = record {
-  lasts = lasts_first _ _ _ _ (c.in_ok-session.ensures.lists (began_of c.args.start) refl refl refl);
+  lasts =
+      lasts_first _ _ _ _
+      (c.in_ok-session.ensures.lists (began_of c.args.start) refl refl refl);
   going = c.in_ok-session.ensures.going;
   faults =
       subst
@@ -72,3 +76,15 @@ returns-clause-faults g c =
     CountsWhere (is_fault s) (g.L.Link.faults c.args.link.now)
     (g.L.Link.faults c.loop-reading.link))
     c.loop-reading.invariant.going c.loop-reading.invariant.faults.counts
+
+pub returns-in_err-session-clause-memory : goal.returns-in_err-session-clause-memory
+returns-in_err-session-clause-memory g c =
+    on_err c.from_residual.result (breaks_first (began_of c.args.start) _ _ _ _)
+
+pub returns-in_err-end-clause-memory : goal.returns-in_err-end-clause-memory
+returns-in_err-end-clause-memory g c =
+    on_err c.from_residual-in_err-end.result
+    (breaks_by (began_of c.args.start) _ _ _ _ _ _ _ _ _ c.args.readings.now
+    c.loop-reading.reading-index c.loop-reading.session c.loop-reading.invariant.lasts
+    c.loop-reading.invariant.faults c.in_err-end.ensures.memory.left
+    c.in_err-end.ensures.heard)

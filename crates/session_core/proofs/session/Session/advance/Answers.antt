@@ -18,7 +18,7 @@ returns-clause-book c =
     c.self.view_is
     (asked_at c.args.site.now c.self.inside.door c.self.inside.feeder c.self.inside.standing
     c.enter.new.self c.args.book.now c.act.new.book c.args.reading c.peek.result
-    c.peek.ensures.exact c.enter.ensures c.in_ok-act.ensures.book)
+    c.peek.ensures.exact c.enter.ensures c.in_ok-act.ensures.acts.book)
 
 pub returns-clause-kept : goal.returns-clause-kept
 returns-clause-kept c =
@@ -31,5 +31,5 @@ returns-clause-kept c =
     (advanced_by c.args.site.now c.self.inside.door c.self.inside.feeder c.act.new.feeder
     c.self.inside.standing c.enter.new.self c.act.new.standing c.look_at_timer.new.self
     c.put_heartbeat.new.self c.args.book.now c.args.reading c.peek.result c.peek.ensures.exact
-    c.enter.ensures c.in_ok-act.ensures.feeder c.in_ok-act.ensures.standing
+    c.enter.ensures c.in_ok-act.ensures.feeder c.in_ok-act.ensures.acts.standing
     c.look_at_timer.ensures c.put_heartbeat.ensures)

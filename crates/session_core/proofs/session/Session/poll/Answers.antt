@@ -1,14 +1,14 @@
 use Rattle.std.proofs.Common.{sym, subst, ◌∙◌}
 use Rattle.session_core.specs.Kept.{Kept, PolledOnce}
 use Rattle.session_core.specs.Outcome.{has_failed, FailsBy}
-use Rattle.session_core.proofs.Rounds.{keeping, polled_by}
-use Rattle.session_core.proofs.Fates.{faulty, polls_going}
+use Rattle.session_core.proofs.Rounds.{keeping, polls_by, polled_by}
+use Rattle.session_core.proofs.Fates.{faulty}
 use Rattle.session_core.proofs.session.Session.poll.Goals as goal
 
 pub hear-requires-clause-going : goal.hear-requires-clause-going
 hear-requires-clause-going g c κs within =
-    polls_going c.self.inside.standing c.holds_message.result
-    (sym c.if-may_poll.true ∙ c.may_poll.ensures)
+    (polls_by c.self.inside.standing c.holds_message.result
+    (sym c.if-may_poll.true ∙ c.may_poll.ensures)).going
 
 pub returns-then-may_poll-clause-polled : goal.returns-then-may_poll-clause-polled
 returns-then-may_poll-clause-polled g c =

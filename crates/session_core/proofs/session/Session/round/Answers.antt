@@ -1,4 +1,8 @@
+use Rattle.std.proofs.Common.{Bool, subst}
+use Rattle.session_core.specs.Outcome.{has_failed, is_blocked, has_waiting, FailsBy}
 use Rattle.session_core.proofs.Listed.{goes_round}
+use Rattle.session_core.proofs.Fates.{both_count}
+use Rattle.session_core.proofs.Stalls.{round_stalls}
 use Rattle.session_core.proofs.session.Session.round.Goals as goal
 
 pub returns-clause-lists : goal.returns-clause-lists
@@ -6,3 +10,18 @@ returns-clause-lists g c =
     goes_round c.args.site.now _ _ _ c.args.book.now c.step.new.book c.args.reading
     c.args.self.now c.listen.new.self c.step.new.self c.speak.new.self c.listen.ensures.lists
     c.listen.ensures.ended c.in_ok-step.ensures.lists c.speak.ensures.lists
+
+pub returns-clause-faults : goal.returns-clause-faults
+returns-clause-faults g c =
+    both_count _ _ _ _ _ _ c.listen.ensures.faults
+    (subst
+    (λ (b : Bool).
+    FailsBy b (has_failed c.speak.new.self) (g.L.Link.faults c.listen.new.link)
+    (g.L.Link.faults c.speak.new.link))
+    c.in_ok-step.ensures.lists.failed c.speak.ensures.faults)
+
+pub returns-clause-stalls : goal.returns-clause-stalls
+returns-clause-stalls g c =
+    round_stalls (is_blocked c.listen.new.self) (is_blocked c.step.new.self)
+    (has_waiting c.speak.new.self) _ _ _ c.listen.ensures.stalls
+    c.in_ok-step.ensures.lists.blocked c.speak.ensures.stalls

@@ -1,8 +1,9 @@
 use Rattle.std.proofs.Common.{ap, ◌∙◌}
-use Rattle.session_core.specs.Outcome.{has_failed}
+use Rattle.session_core.specs.Kept.{Kept}
+use Rattle.session_core.specs.Outcome.{has_failed, is_blocked}
 use Rattle.session_core.proofs.Truths.{on_ok_both}
 use Rattle.session_core.proofs.Listed.{goes_step}
-use Rattle.session_core.proofs.Fates.{faulty, faulty_rare, told_keeps}
+use Rattle.session_core.proofs.Fates.{faulty, faulty_rare, told_keeps, told_blocks}
 use Rattle.session_core.proofs.session.Session.step.Goals as goal
 
 pub returns-clause-lists : goal.returns-clause-lists
@@ -13,6 +14,9 @@ returns-clause-lists c =
       failed =
           ap has_failed kept
           ∙ told_keeps faulty faulty_rare c.args.site.now c.args.self.now _;
+      blocked =
+          ap (λ (v : Kept). is_blocked v) kept
+          ∙ told_blocks c.args.site.now c.args.self.now _;
       stands =
           goes_step c.is_worked_out.ensures c.any_pieces.ensures.gives c.args.site.now
           c.args.self.now c.take_step.new.self c.args.book.now c.args.reading kept;
