@@ -11,38 +11,31 @@ use Rattle.station_book.specs.History.{moment_at, reply_of}
 use Rattle.session_core.specs.declared.bind_places.BindPlaces.{BindPlaces}
 use Rattle.session_core.specs.declared.standing.Standing.{Standing}
 use Rattle.session_core.specs.Message.{Said, context, heartbeat, bind, unbind, peer_abort}
-use Rattle.session_core.specs.Message.{undecoded, out_of_place, said_in, judged}
-use Rattle.session_core.specs.Handling.{said_ask, invoked, after_judged}
-use Rattle.session_core.specs.Steps.{message_ask, with_message}
-use Rattle.session_core.specs.Seen.{ask_by, places_of}
+use Rattle.session_core.specs.Message.{invocation, undecoded, out_of_place, judged}
+use Rattle.session_core.specs.Handling.{passed_ask, said_ask, invoked, after_judged}
+use Rattle.session_core.specs.Steps.{said_to, message_ask, with_message}
+use Rattle.session_core.specs.Seen.{passed_ask_by, ask_by, places_of}
 
-pub ask_same : (site : Site) (said : Said) (step : Step)
+passed_same : (site : Site) (said : Said)
+    → passed_ask_by said (places_of site said Pass).instance ≡ passed_ask site said
+passed_same site (context interval factor) = refl
+passed_same site heartbeat = refl
+passed_same site (bind b) = refl
+passed_same site (unbind u) = refl
+passed_same site (peer_abort diagnostic) = refl
+passed_same site (invocation i) = refl
+passed_same site undecoded = refl
+passed_same site out_of_place = refl
+
+ask_same : (site : Site) (said : Said) (step : Step)
     → ask_by said step (places_of site said step).instance ≡ said_ask site said step
-ask_same site (context interval factor) Pass = refl
-ask_same site (context interval factor) Denied = refl
-ask_same site (context interval factor) (Abort code) = refl
-ask_same site heartbeat Pass = refl
-ask_same site heartbeat Denied = refl
-ask_same site heartbeat (Abort code) = refl
-ask_same site (bind b) Pass = refl
-ask_same site (bind b) Denied = refl
-ask_same site (bind b) (Abort code) = refl
-ask_same site (unbind u) Pass = refl
-ask_same site (unbind u) Denied = refl
-ask_same site (unbind u) (Abort code) = refl
-ask_same site (peer_abort diagnostic) Pass = refl
-ask_same site (peer_abort diagnostic) Denied = refl
-ask_same site (peer_abort diagnostic) (Abort code) = refl
-ask_same site undecoded Pass = refl
-ask_same site undecoded Denied = refl
-ask_same site undecoded (Abort code) = refl
-ask_same site out_of_place Pass = refl
-ask_same site out_of_place Denied = refl
-ask_same site out_of_place (Abort code) = refl
+ask_same site said Pass = passed_same site said
+ask_same site said Denied = refl
+ask_same site said (Abort code) = refl
 
 -- what the code asks of a message is what the definition does
 pub asked_by_message : (site : Site) (s : Standing) (content : Content) (said : Said) (step : Step)
-    (places : BindPlaces) (ask : Ask) → said ≡ said_in s.association content
+    (places : BindPlaces) (ask : Ask) → said ≡ said_to site s content
     → step ≡ judged site s.association said s.moment → places ≡ places_of site said step
     → ask ≡ ask_by said step places.instance → ask ≡ message_ask site s content s.moment
 asked_by_message site s content said step places ask said_so step_so places_so ask_so =
@@ -55,7 +48,7 @@ asked_by_message site s content said step places ask said_so step_so places_so a
 -- and so is what it leads to
 pub led_by_message : (site : Site) (s t : Standing) (content : Content) (said : Said) (step : Step)
     (ask : Ask) (reply : BookReply) (door reading : ℕ) (b : book.State)
-    → said ≡ said_in s.association content → step ≡ judged site s.association said s.moment
+    → said ≡ said_to site s content → step ≡ judged site s.association said s.moment
     → ask ≡ message_ask site s content s.moment → s.moment ≡ moment_at b reading
     → reply ≡ reply_of b door (moment_at b reading) ask
     → t ≡ after_judged site (invoked s said step) said step reply

@@ -28,11 +28,12 @@ use Rattle.session_core.specs.declared.standing.Standing.{Standing}
 use Rattle.session_core.specs.Numbers.{communications_failure, other_reason}
 use Rattle.session_core.specs.Course.{is_going, is_live, is_over, is_spent, is_blocked, has_closed}
 use Rattle.session_core.specs.Message.{Said, context, heartbeat as beat, bind, unbind, peer_abort}
-use Rattle.session_core.specs.Message.{undecoded, out_of_place, said_in, judged}
+use Rattle.session_core.specs.Message.{invocation, undecoded, out_of_place, judged}
 use Rattle.session_core.specs.Handling.{ended_by, aborted, is_agreed, after_passing, concluded}
 use Rattle.session_core.specs.Handling.{is_lost, invoked, after_judged}
 use Rattle.session_core.specs.Steps.{Next, has_message, has_block, round_begun, waits, may_poll}
-use Rattle.session_core.specs.Steps.{after_wait, after_offer, at_moment, is_idle, with_next, acted}
+use Rattle.session_core.specs.Steps.{after_wait, after_offer, at_moment, is_idle, said_to}
+use Rattle.session_core.specs.Steps.{with_next, acted}
 use Rattle.session_core.specs.Steps.{pulse_of, is_dead, is_due, timed, after_step}
 use Rattle.session_core.specs.Steps.{may_speak, course_at_end, round_ended}
 use Rattle.session_core.specs.Session.{Told, offer_calls, poll_calls, standing_waited}
@@ -177,6 +178,7 @@ keeps_passing site s beat reply = keeps_self s
 keeps_passing site s (bind b) reply = record { plain = λ h. h; arrival = refl }
 keeps_passing site s (unbind u) reply = record { plain = λ h. refl; arrival = refl }
 keeps_passing site s (peer_abort diagnostic) reply = keeps_end s (PeerAborted diagnostic)
+keeps_passing site s (invocation i) reply = elim i [ ]
 keeps_passing site s undecoded reply = keeps_self s
 keeps_passing site s out_of_place reply = keeps_self s
 
@@ -199,7 +201,7 @@ keeps_next site s (Ok None) reply =
     keeps_either (has_closed s.arrival) s (ended_by s PeerClosed) s (keeps_end s PeerClosed)
     (keeps_self s)
 keeps_next site s (Ok (Some message)) reply =
-    let said = said_in s.association message in
+    let said = said_to site s message in
     let step = judged site s.association said s.moment in
     let h = keeps_judged site (invoked s said step) said step reply in
     record { plain = h.plain; arrival = h.arrival }

@@ -1,6 +1,6 @@
 -- What a message asks the book, and what it leads to once the book has replied.
 use Rattle.std.specs.Prelude.{ℕ, ℤ, pos, Bool, true, false, ◌&&◌, ◌||◌, ◌==◌, nat_le}
-use Rattle.std.specs.Prelude.{if◌then◌else◌, Option, None, unwrap_or, [], slice_get}
+use Rattle.std.specs.Prelude.{if◌then◌else◌, Option, Some, None, unwrap_or, [], slice_get}
 use Rattle.std.specs.Prelude.{Result, Ok, Err}
 use Rattle.std.specs.Option.{option_map_or}
 use Rattle.bind_pdu.specs.Binding.{BindContent}
@@ -28,7 +28,9 @@ use Rattle.session_core.specs.declared.ended.Ended.{Ended}
 use Rattle.session_core.specs.declared.ended.Ended.TheVariants as ended
 use Rattle.session_core.specs.declared.standing.Standing.{Standing}
 use Rattle.session_core.specs.Numbers.{other_reason, access_denied, already_bound}
-use Rattle.session_core.specs.Message.{Said, context, bind, unbind, peer_abort, kind_of}
+use Rattle.session_core.specs.Message.{Said, context, bind, unbind, peer_abort, invocation}
+use Rattle.session_core.specs.Message.{kind_of}
+use Rattle.session_core.specs.Service.{invocation_ask, with_invocation}
 use Rattle.session_core.specs.Returns.{own_credentials, number_after, bind_return_message}
 use Rattle.session_core.specs.Returns.{unbind_return_message}
 
@@ -62,6 +64,7 @@ bind_ask (Err fault) = ask.Nothing
 abbrev pub passed_ask : Site → Said → Ask
 passed_ask site (bind b) = bind_ask (bind_judged site b)
 passed_ask site (unbind u) = ask.Unbind
+passed_ask site (invocation i) = invocation_ask i
 passed_ask site _ = ask.Nothing
 
 abbrev pub said_ask : Site → Said → Step → Ask
@@ -108,6 +111,11 @@ bind_outcome site peer (Ok place) Bound =
     outcome.Bound (unwrap_or peer 0) (is_forward_at site place)
 bind_outcome site peer _ _ = outcome.Kept
 
+-- the place of the instance that a BIND bound
+abbrev pub place_bound : Result ℕ BindFault → BookReply → Option ℕ
+place_bound (Ok place) Bound = Some place
+place_bound _ _ = None
+
 -- the return of a BIND that passed is the round's block
 abbrev pub with_bind : Site → Standing → BindContent → BookReply → Standing
 with_bind site s b reply =
@@ -117,6 +125,7 @@ with_bind site s b reply =
       association =
           moved s.association
           (bind_outcome site (place_of b.initiator site.peers) judged reply);
+      bound = place_bound judged reply;
       numbers = number_after peer kind.bind s.numbers;
       block =
           bind_return_message site (own_credentials site peer kind.bind s.numbers s.moment)
@@ -151,6 +160,7 @@ after_passing site s (context interval factor) reply = with_context site s inter
 after_passing site s (bind b) reply = with_bind site s b reply
 after_passing site s (unbind u) reply = with_unbind site s
 after_passing site s (peer_abort diagnostic) reply = ended_by s (ended.PeerAborted diagnostic)
+after_passing site s (invocation i) reply = with_invocation site s i reply
 after_passing site s _ reply = s
 
 abbrev pub concluded : Site → Standing → Said → Step → BookReply → Standing

@@ -1,5 +1,5 @@
 -- What a user's message says, in a state of the association, and whether it passes.
-use Rattle.std.specs.Prelude.{ℕ, List, [], Option, None, Result, Ok, Err}
+use Rattle.std.specs.Prelude.{ℕ, List, [], Option, Some, None, option_and_then, Result, Ok, Err}
 use Rattle.ber_core.specs.declared.fault.BerFault.{BerFault}
 use Rattle.ber_shape.specs.Exact.{whole}
 use Rattle.isp1_tml.specs.Message.{Content, pdu}
@@ -7,6 +7,7 @@ use Rattle.isp1_tml.specs.Message as tml
 use Rattle.bind_pdu.specs.Aborting.{peer_abort as peer_abort_pdu}
 use Rattle.bind_pdu.specs.Binding.{BindContent, bind as bind_pdu}
 use Rattle.bind_pdu.specs.Unbinding.{UnbindContent, unbind as unbind_pdu}
+use Rattle.station_config.specs.declared.service.Service.{Service}
 use Rattle.station_config.specs.declared.site.Site.{Site}
 use Rattle.assoc_core.specs.declared.outer_tag.OuterTag.{OuterTag}
 use Rattle.assoc_core.specs.declared.outer_tag.OuterTag.TheVariants as tag
@@ -18,15 +19,19 @@ use Rattle.assoc_core.specs.Association.{step}
 use Rattle.assoc_core.specs.Kind.{Kind, Message}
 use Rattle.assoc_core.specs.Kind as kind
 use Rattle.assoc_core.specs.OuterTag.{outer_tag}
+use Rattle.session_core.specs.declared.service.Invocation.{Invocation}
+use Rattle.session_core.specs.Service.{invocation_in, invocation_kind, invocation_credentials}
 
 -- a context with its interval and its dead factor; a heartbeat; a BIND, an UNBIND and a PEER-ABORT
--- with their fields; a PDU that isn't decoded where it stands; octets that don't decode
+-- with their fields; what is said to the bound service; octets that don't decode; a PDU that isn't
+-- decoded where it stands
 pub data Said : Type 0 where
   context : ℕ → ℕ → Said
   heartbeat : Said
   bind : BindContent → Said
   unbind : UnbindContent → Said
   peer_abort : ℕ → Said
+  invocation : Invocation → Said
   undecoded : Said
   out_of_place : Said
 
@@ -36,9 +41,15 @@ abbrev pub bind_read : Result BindContent BerFault → Said
 bind_read (Ok b) = bind b
 bind_read (Err _) = undecoded
 
-abbrev pub unbind_read : Result UnbindContent BerFault → Said
-unbind_read (Ok u) = unbind u
-unbind_read (Err _) = undecoded
+-- what the service decodes, if it does
+abbrev pub service_read : Option Invocation → Said
+service_read (Some i) = invocation i
+service_read None = undecoded
+
+-- an UNBIND, or else what is said to the service
+abbrev pub unbind_read : Result UnbindContent BerFault → Option Invocation → Said
+unbind_read (Ok u) i = unbind u
+unbind_read (Err _) i = service_read i
 
 abbrev pub peer_abort_read : Result ℕ BerFault → Said
 peer_abort_read (Ok diagnostic) = peer_abort diagnostic
@@ -51,25 +62,27 @@ said_unbound tag.PeerAbort octets = peer_abort_read (whole peer_abort_pdu.read o
 said_unbound tag.Other octets = out_of_place
 said_unbound tag.Missing octets = undecoded
 
--- what a bound user may say: of the services' own PDUs none is decoded yet
-abbrev pub said_bound : OuterTag → List ℕ → Said
-said_bound tag.Bind octets = bind_read (whole bind_pdu.read octets)
-said_bound tag.PeerAbort octets = peer_abort_read (whole peer_abort_pdu.read octets)
-said_bound tag.Other octets = unbind_read (whole unbind_pdu.read octets)
-said_bound tag.Missing octets = undecoded
+-- what a user says that is bound to a service
+abbrev pub said_bound : Option Service → OuterTag → List ℕ → Said
+said_bound service tag.Bind octets = bind_read (whole bind_pdu.read octets)
+said_bound service tag.PeerAbort octets = peer_abort_read (whole peer_abort_pdu.read octets)
+said_bound service tag.Other octets =
+    unbind_read (whole unbind_pdu.read octets)
+    (option_and_then (λ bound. invocation_in bound octets) service)
+said_bound service tag.Missing octets = undecoded
 
 -- a PDU in each state; in opening and in closing none is decoded
-abbrev pub pdu_said : State → List ℕ → Said
-pdu_said Unbound octets = said_unbound (outer_tag octets) octets
-pdu_said (Ready _) octets = said_bound (outer_tag octets) octets
-pdu_said (Active _) octets = said_bound (outer_tag octets) octets
-pdu_said Opening octets = out_of_place
-pdu_said Closing octets = out_of_place
+abbrev pub pdu_said : Option Service → State → List ℕ → Said
+pdu_said service Unbound octets = said_unbound (outer_tag octets) octets
+pdu_said service (Ready _) octets = said_bound service (outer_tag octets) octets
+pdu_said service (Active _) octets = said_bound service (outer_tag octets) octets
+pdu_said service Opening octets = out_of_place
+pdu_said service Closing octets = out_of_place
 
-abbrev pub said_in : State → Content → Said
-said_in state (tml.context interval factor) = context interval factor
-said_in state tml.heartbeat = heartbeat
-said_in state (pdu octets) = pdu_said state octets
+abbrev pub said_in : Option Service → State → Content → Said
+said_in service state (tml.context interval factor) = context interval factor
+said_in service state tml.heartbeat = heartbeat
+said_in service state (pdu octets) = pdu_said service state octets
 
 -- ---- whether it passes
 
@@ -79,6 +92,7 @@ kind_of heartbeat = kind.heartbeat
 kind_of (bind _) = kind.bind
 kind_of (unbind _) = kind.unbind
 kind_of (peer_abort _) = kind.peer_abort
+kind_of (invocation i) = invocation_kind i
 kind_of undecoded = kind.undecoded
 kind_of out_of_place = kind.other
 
@@ -89,6 +103,7 @@ initiator_of _ = []
 abbrev pub credentials_of : Said → Option (List ℕ)
 credentials_of (bind b) = b.credentials
 credentials_of (unbind u) = u.credentials
+credentials_of (invocation i) = invocation_credentials i
 credentials_of _ = None
 
 abbrev pub message_of : Said → ℕ → Message

@@ -22,8 +22,8 @@ use Rattle.session_core.specs.declared.signature.Answered.TheVariants as answere
 use Rattle.session_core.specs.declared.user_message.UserMessage.{UserMessage}
 use Rattle.session_core.specs.declared.user_message.UserMessage.TheVariants as variant
 use Rattle.session_core.specs.Message.{Said, context, heartbeat, bind, unbind, peer_abort}
-use Rattle.session_core.specs.Message.{undecoded}
-use Rattle.session_core.specs.Message.{out_of_place}
+use Rattle.session_core.specs.Message.{invocation, undecoded, out_of_place}
+use Rattle.session_core.specs.Service.{invocation_ask}
 use Rattle.session_core.specs.Handling.{bind_judged, bind_ask}
 
 abbrev pub said_of : UserMessage → Said
@@ -32,6 +32,7 @@ said_of variant.Heartbeat = heartbeat
 said_of (variant.Bind b) = bind (bind_of b)
 said_of (variant.Unbind u) = unbind (unbind_of u)
 said_of (variant.PeerAbort abort) = peer_abort (diagnostic_of abort)
+said_of (variant.Service i) = invocation i
 said_of variant.Undecoded = undecoded
 said_of variant.OutOfPlace = out_of_place
 
@@ -55,10 +56,15 @@ places_of site (bind b) Pass = places_of_bind site b
 places_of site _ _ = record { peer = None; instance = Err AccessDenied }
 
 -- what a message that was judged so asks, where a BIND's instance was judged so
+abbrev pub passed_ask_by : Said → Result ℕ BindFault → Ask
+passed_ask_by (bind b) judged = bind_ask judged
+passed_ask_by (unbind u) judged = ask.Unbind
+passed_ask_by (invocation i) judged = invocation_ask i
+passed_ask_by _ judged = ask.Nothing
+
 abbrev pub ask_by : Said → Step → Result ℕ BindFault → Ask
-ask_by (bind b) Pass judged = bind_ask judged
-ask_by (unbind u) Pass judged = ask.Unbind
-ask_by _ _ judged = ask.Nothing
+ask_by said Pass judged = passed_ask_by said judged
+ask_by said _ judged = ask.Nothing
 
 -- the peer at a place, and the place of the peer that is bound
 abbrev pub peer_at : List Peer → Option ℕ → Option Peer

@@ -42,6 +42,7 @@ abbrev pub begun : ℕ → ℕ → ℕ → Standing
 begun door draw entered =
     record {
       association = Opening;
+      bound = None;
       course = Going;
       interval = 0;
       factor = 0;

@@ -1,7 +1,7 @@
 -- The steps of a round, one after the other. Their order is this product's own.
 use Rattle.std.specs.Prelude.{ℕ, ◌-◌, ◌*◌, ◌==◌, nat_le, Bool, true, false, not, ◌&&◌, ◌||◌}
 use Rattle.std.specs.Prelude.{if◌then◌else◌, Option, Some, None, Result, Ok, Err, []}
-use Rattle.std.specs.Prelude.{length}
+use Rattle.std.specs.Prelude.{length, option_map, option_and_then, slice_get}
 use Rattle.octet_core.specs.declared.offer.Offer.{Offer}
 use Rattle.octet_core.specs.declared.offer.Offer.TheVariants.{Whole, Stalled, Failed as Refused}
 use Rattle.isp1_tml.specs.declared.tml_fault.TmlFault.{TmlFault}
@@ -9,6 +9,7 @@ use Rattle.isp1_tml.specs.Beat.{Pulse, picos}
 use Rattle.isp1_tml.specs.Message.{Content, heartbeat, spelling}
 use Rattle.link_model.specs.declared.call.Heard.{Heard}
 use Rattle.link_model.specs.declared.call.Heard.TheVariants.{Arrived, Nothing, Closed, Failed}
+use Rattle.station_config.specs.declared.service.Service.{Service}
 use Rattle.station_config.specs.declared.site.Site.{Site}
 use Rattle.cltu_queue.specs.declared.ask.Ask.{Ask}
 use Rattle.cltu_queue.specs.declared.ask.Ask.TheVariants as ask
@@ -22,7 +23,7 @@ use Rattle.session_core.specs.declared.standing.Standing.{Standing}
 use Rattle.session_core.specs.Numbers.{communications_failure}
 use Rattle.session_core.specs.Course.{is_going, is_live, is_blocked, has_arrived}
 use Rattle.session_core.specs.Course.{has_closed}
-use Rattle.session_core.specs.Message.{said_in, judged}
+use Rattle.session_core.specs.Message.{Said, said_in, judged}
 use Rattle.session_core.specs.Handling.{ended_by, aborted, said_ask, after_message}
 
 -- what comes next of the stream: its next message, none yet, or its fault
@@ -92,9 +93,19 @@ handles s next = not (is_idle s) && has_message next
 abbrev pub idle_ask : Standing → Ask
 idle_ask s = if is_blocked s.arrival then ask.Quiet else ask.Nothing
 
+-- the service of the instance that is bound
+abbrev pub service_of : Site → Standing → Option Service
+service_of site s =
+    option_map (λ instance. instance.service)
+    (option_and_then (λ place. slice_get site.instances place) s.bound)
+
+-- what a message says to the session
+abbrev pub said_to : Site → Standing → Content → Said
+said_to site s message = said_in (service_of site s) s.association message
+
 abbrev pub message_ask : Site → Standing → Content → ℕ → Ask
 message_ask site s message now =
-    let said = said_in s.association message in
+    let said = said_to site s message in
     said_ask site said (judged site s.association said now)
 
 abbrev pub next_ask : Site → Standing → Next → ℕ → Ask
@@ -107,7 +118,7 @@ ask_of site s next now = if is_idle s then idle_ask s else next_ask site s next 
 
 abbrev pub with_message : Site → Standing → Content → BookReply → Standing
 with_message site s message reply =
-    let said = said_in s.association message in
+    let said = said_to site s message in
     after_message site s said (judged site s.association said s.moment) reply
 
 -- the stream's fault ends the session; a close ends it once no whole message is held; else at most

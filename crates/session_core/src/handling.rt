@@ -9,20 +9,21 @@ ghost use Rattle.session_core.specs.Handling.{is_from, is_agreed, with_context, 
 ghost use Rattle.session_core.specs.Handling.{with_denial, with_unbind, after_passing};
 ghost use Rattle.session_core.specs.Handling.{invoked, after_judged};
 ghost use Rattle.session_core.specs.Message.{judged};
+ghost use Rattle.session_core.specs.Steps.{service_of};
 ghost use Rattle.session_core.specs.Seen.{said_of, kind_answered, places_of_bind, places_of};
 ghost use Rattle.session_core.specs.Seen.{ask_by, peer_at, bound_place};
 
 use crate::bind_places::BindPlaces;
 use crate::course::Course;
 use crate::ended::Ended;
-use crate::returns::{bind_outcome, bind_result, bind_return, unbind_return};
+use crate::returns::{bind_outcome, bind_result, bind_return, place_bound, unbind_return};
 use crate::signature::{Answered, Signature};
 use crate::standing::Standing;
 use crate::user_message::UserMessage;
 use assoc_core::{Outcome, Step};
 use bind_pdu::Bind;
 use station_book::{Ask, BookReply};
-use station_config::{Peer, Site};
+use station_config::{Peer, Service, Site};
 
 // The diagnostic of PEER-ABORT where the book has lost what a session bound (CCSDS 911.1-B, annex
 // A).
@@ -41,6 +42,7 @@ pub(crate) fn said_ask(said: &UserMessage<'_>, step: Step, places: BindPlaces) -
     match (said, places.instance) {
         (UserMessage::Bind(_), Ok(instance)) => Ask::Bind { instance },
         (UserMessage::Unbind(_), _) => Ask::Unbind,
+        (UserMessage::Service(invocation), _) => invocation.ask(),
         _ => Ask::Nothing,
     }
 }
@@ -68,6 +70,14 @@ fn peer_at(site: &Site, place: Option<u32>) -> Option<&Peer>
 }
 
 impl Standing {
+    // The service of the instance that is bound.
+    pub(crate) fn service<'a>(&self, site: &'a Site) -> Option<&'a Service>
+        ensures { option_copied result ≡ service_of site.now self.now }
+    {
+        let instance = site.instances.as_slice().get(self.bound? as usize)?;
+        Some(&instance.service)
+    }
+
     // Judges a message at the round's moment, by the association.
     pub(crate) fn judge(&mut self, site: &Site, said: &UserMessage<'_>) -> Step
         ensures step { result ≡ judged site.now self.old.association (said_of said.now)
@@ -120,6 +130,7 @@ impl Standing {
         let signature = self.sign(site, peer_at(site, places.peer), Answered::Bind);
         let bound = bind_result(bind, places, reply);
         self.association.moved(bind_outcome(site, places, reply));
+        self.bound = place_bound(places, reply);
         self.block
             .put_bind_return(&bind_return(site, &signature, bound));
     }
@@ -170,6 +181,7 @@ impl Standing {
                 let diagnostic = abort.diagnostic;
                 self.end(Ended::PeerAborted { diagnostic });
             }
+            UserMessage::Service(invocation) => self.answer_invocation(site, invocation, reply),
             UserMessage::Heartbeat | UserMessage::Undecoded | UserMessage::OutOfPlace => {}
         }
     }

@@ -21,6 +21,7 @@ mod handling;
 pub mod laws;
 mod returns;
 mod run;
+mod service;
 mod session;
 mod signature;
 mod spoken;

@@ -5,6 +5,7 @@ ghost use Rattle.bind_pdu.specs.Unbinding.{unbind_return};
 ghost use Rattle.bind_pdu.specs.Seen.{bind_of, bind_return_of, unbind_return_of};
 ghost use Rattle.station_config.specs.Validity.{IsSite};
 ghost use Rattle.session_core.specs.Handling.{bind_result, is_forward_at, bind_outcome};
+ghost use Rattle.session_core.specs.Handling.{place_bound};
 ghost use Rattle.session_core.specs.Seen.{as_integers};
 
 use crate::bind_places::BindPlaces;
@@ -51,6 +52,16 @@ pub(crate) fn bind_outcome(site: &Site, places: BindPlaces, reply: BookReply) ->
             forward: is_forward_at(site, place),
         },
         _ => Outcome::Kept,
+    }
+}
+
+// The place of the instance that a BIND bound, where the book replied so.
+pub(crate) fn place_bound(places: BindPlaces, reply: BookReply) -> Option<u32>
+    ensures { result ≡ place_bound places.instance reply }
+{
+    match (places.instance, reply) {
+        (Ok(place), BookReply::Bound) => Some(place),
+        _ => None,
     }
 }
 

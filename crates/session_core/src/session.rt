@@ -252,7 +252,8 @@ fn handle(
         door,
         reading,
     } = asking;
-    let said = UserMessage::of(standing.association.state(), message);
+    let service = standing.service(site);
+    let said = UserMessage::of(service, standing.association.state(), message);
     let step = standing.judge(site, &said);
     let places = places_of(site, &said, step);
     let reply = ask_book(book, door, reading, &said_ask(&said, step, places))?;

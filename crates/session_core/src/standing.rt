@@ -26,6 +26,8 @@ use std::alloc::Global;
 #[derive(Drop)]
 pub struct Standing {
     pub association: Association,
+    /// The place of the instance that is bound, once one is.
+    pub bound: Option<u32>,
     pub course: Course,
     /// The heartbeat interval in seconds, or 0 where there are neither heartbeats nor dead timer.
     pub interval: u16,
@@ -63,6 +65,7 @@ impl Standing {
         let block = Block::new(alloc)?;
         Ok(Standing {
             association: Association::new(),
+            bound: None,
             course: Course::Going,
             interval: 0,
             factor: 0,

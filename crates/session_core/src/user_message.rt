@@ -1,5 +1,5 @@
 // What a user's message says.
-ghost use Rattle.std.specs.Prelude.{◌≡◌};
+ghost use Rattle.std.specs.Prelude.{◌≡◌, option_copied, option_and_then};
 ghost use Rattle.ber_shape.specs.Exact.{whole};
 ghost use Rattle.bind_pdu.specs.Aborting.{peer_abort};
 ghost use Rattle.bind_pdu.specs.Binding.{bind};
@@ -8,16 +8,19 @@ ghost use Rattle.sle_common.specs.Credentials.{credentials_of as octets_of};
 ghost use Rattle.isp1_tml.specs.Given.{content_of};
 ghost use Rattle.assoc_core.specs.Kind.{kind_of as kind_told, initiator_of as initiator_told};
 ghost use Rattle.session_core.specs.Message.{said_in, pdu_said, said_unbound, said_bound};
-ghost use Rattle.session_core.specs.Message.{bind_read, unbind_read, peer_abort_read};
+ghost use Rattle.session_core.specs.Message.{bind_read, service_read, unbind_read, peer_abort_read};
+ghost use Rattle.session_core.specs.Service.{invocation_in};
 ghost use Rattle.session_core.specs.Message.{kind_of, initiator_of, credentials_of};
 ghost use Rattle.assoc_core.specs.OuterTag.{outer_tag};
 ghost use Rattle.session_core.specs.Seen.{said_of};
 
+use crate::service::Invocation;
 use assoc_core::{OuterTag, PduKind, State};
 use ber_shape::Pdu;
 use bind_pdu::{Bind, PeerAbort, Unbind};
 use isp1_tml::Message;
 use sle_common::Credentials;
+use station_config::Service;
 
 // What a user's message says, in a state of the association.
 #[derive(Drop)]
@@ -27,6 +30,8 @@ pub(crate) enum UserMessage<'a> {
     Bind(Bind<'a>),
     Unbind(Unbind<'a>),
     PeerAbort(PeerAbort),
+    // What is said to the bound service.
+    Service(Invocation),
     // Octets that don't decode.
     Undecoded,
     // A PDU that isn't decoded where it stands.
@@ -34,14 +39,19 @@ pub(crate) enum UserMessage<'a> {
 }
 
 impl<'a> UserMessage<'a> {
-    // What a message says in a state.
-    pub(crate) fn of(state: State, message: Message<'a>) -> UserMessage<'a>
-        ensures { said_of result ≡ said_in state (content_of message.entry) }
+    // What a message says in a state, to a session whose user is bound to a service or to none.
+    pub(crate) fn of(
+        service: Option<&Service>,
+        state: State,
+        message: Message<'a>,
+    ) -> UserMessage<'a>
+        ensures { said_of result
+            ≡ said_in (option_copied service.entry) state (content_of message.entry) }
     {
         match message {
             Message::Context { interval, factor } => UserMessage::Context { interval, factor },
             Message::Heartbeat => UserMessage::Heartbeat,
-            Message::Pdu(octets) => pdu_said(state, octets),
+            Message::Pdu(octets) => pdu_said(service, state, octets),
         }
     }
 
@@ -58,6 +68,7 @@ impl<'a> UserMessage<'a> {
             },
             UserMessage::Unbind(_) => PduKind::Unbind,
             UserMessage::PeerAbort(_) => PduKind::PeerAbort,
+            UserMessage::Service(invocation) => invocation.kind(),
             UserMessage::Undecoded => PduKind::Undecoded,
             UserMessage::OutOfPlace => PduKind::Other,
         }
@@ -70,18 +81,19 @@ impl<'a> UserMessage<'a> {
         match self {
             UserMessage::Bind(bind) => bind.credentials,
             UserMessage::Unbind(unbind) => unbind.credentials,
+            UserMessage::Service(invocation) => invocation.credentials(),
             _ => Credentials::Unused,
         }
     }
 }
 
 // What a PDU says in a state.
-fn pdu_said(state: State, octets: &[u8]) -> UserMessage<'_>
-    ensures { said_of result ≡ pdu_said state octets.now }
+fn pdu_said<'a>(service: Option<&Service>, state: State, octets: &'a [u8]) -> UserMessage<'a>
+    ensures { said_of result ≡ pdu_said (option_copied service.entry) state octets.now }
 {
     match state {
         State::Unbound => said_unbound(octets),
-        State::Ready(_) | State::Active(_) => said_bound(octets),
+        State::Ready(_) | State::Active(_) => said_bound(service, octets),
         State::Opening | State::Closing => UserMessage::OutOfPlace,
     }
 }
@@ -99,13 +111,14 @@ fn said_unbound(octets: &[u8]) -> UserMessage<'_>
 }
 
 // What a bound user's PDU says.
-fn said_bound(octets: &[u8]) -> UserMessage<'_>
-    ensures { said_of result ≡ said_bound (outer_tag octets.now) octets.now }
+fn said_bound<'a>(service: Option<&Service>, octets: &'a [u8]) -> UserMessage<'a>
+    ensures { said_of result
+        ≡ said_bound (option_copied service.entry) (outer_tag octets.now) octets.now }
 {
     match OuterTag::of(octets) {
         OuterTag::Bind => bind_read(octets),
         OuterTag::PeerAbort => peer_abort_read(octets),
-        OuterTag::Other => unbind_read(octets),
+        OuterTag::Other => unbind_read(service, octets),
         OuterTag::Missing => UserMessage::Undecoded,
     }
 }
@@ -119,12 +132,27 @@ fn bind_read(octets: &[u8]) -> UserMessage<'_>
     }
 }
 
-fn unbind_read(octets: &[u8]) -> UserMessage<'_>
-    ensures { said_of result ≡ unbind_read (whole unbind.read octets.now) }
+// What is said to a service.
+fn service_read<'a>(service: Option<&Service>, octets: &[u8]) -> UserMessage<'a>
+    ensures { said_of result ≡ service_read
+        (option_and_then (λ bound. invocation_in bound octets.now) (option_copied service.entry)) }
+{
+    let Some(service) = service else {
+        return UserMessage::Undecoded;
+    };
+    match Invocation::read(service, octets) {
+        Some(invocation) => UserMessage::Service(invocation),
+        None => UserMessage::Undecoded,
+    }
+}
+
+fn unbind_read<'a>(service: Option<&Service>, octets: &'a [u8]) -> UserMessage<'a>
+    ensures { said_of result ≡ unbind_read (whole unbind.read octets.now)
+        (option_and_then (λ bound. invocation_in bound octets.now) (option_copied service.entry)) }
 {
     match Unbind::decode(octets) {
         Ok(unbind) => UserMessage::Unbind(unbind),
-        Err(_) => UserMessage::Undecoded,
+        Err(_) => service_read(service, octets),
     }
 }
 

@@ -1,6 +1,7 @@
-use Rattle.std.proofs.Common.{◌≡◌, ap, ◌∙◌}
+use Rattle.std.proofs.Common.{◌≡◌, Option, ap, ◌∙◌}
 use Rattle.isp1_tml.specs.Given.{content_of}
 use Rattle.archive_terms.specs.Glimpse.{wants_nothing}
+use Rattle.station_config.specs.declared.service.Service.{Service}
 use Rattle.assoc_core.specs.declared.state.State.{State}
 use Rattle.cltu_queue.specs.declared.ask.Ask.{Ask}
 use Rattle.station_book.specs.State.{answer}
@@ -8,6 +9,7 @@ use Rattle.station_book.specs.History.{after}
 use Rattle.session_core.specs.declared.standing.Standing.{Standing}
 use Rattle.session_core.specs.Handling.{after_judged}
 use Rattle.session_core.specs.Message.{said_in}
+use Rattle.session_core.specs.Steps.{service_of, said_to}
 use Rattle.session_core.specs.Seen.{said_of}
 use Rattle.session_core.proofs.Asks.{asked_by_message, led_by_message}
 use Rattle.session_core.proofs.session.handle.Goals as goal
@@ -17,8 +19,10 @@ returns-clause-acts c =
     let site = c.args.asking.site.now in
     let s = c.args.standing.now in
     let content = content_of c.args.message in
-    let said_so : said_of c.of-said.result ≡ said_in s.association content =
-    c.of-said.ensures ∙ ap (λ (st : State). said_in st content) c.state.ensures in
+    let said_so : said_of c.of-said.result ≡ said_to site s content =
+    c.of-said.ensures
+    ∙ ap (λ (o : Option Service). said_in o c.state.result content) c.service-service.ensures
+    ∙ ap (λ (st : State). said_in (service_of site s) st content) c.state.ensures in
     let asked =
     asked_by_message site s content (said_of c.of-said.result) c.judge-step.result
     c.places_of-places.result c.said_ask.result said_so c.judge-step.ensures.step
