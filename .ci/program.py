@@ -3,7 +3,8 @@
 
 usage: program.py PROGRAM LAUNCHER
 
-Each expected output stands here as docs/PROFILE.md has it. The last line says how many checks passed.
+Each expected output stands here as docs/PROFILE.md has it. The last line says how many checks
+passed.
 """
 import fcntl
 import os
@@ -15,7 +16,8 @@ import tempfile
 PROGRAM, LAUNCHER = sys.argv[1:3]
 MOST_OCTETS = 16_777_216
 
-FRAMES = b"frame 20000/1000/0 0 41 0 0010a1\nframe 20000/2000/0 0 41 0 0010a2\nframe 20000/3000/0 0 41 0 0010a3\n"
+FRAMES = (b"frame 20000/1000/0 0 41 0 0010a1\nframe 20000/2000/0 0 41 0 0010a2\n"
+          b"frame 20000/3000/0 0 41 0 0010a3\n")
 SEAL = b"mark 20000/3000/0\n"
 START = b"start 20000/0/0 20000/3000/0 0\n"
 TWO = (b"sent 0 010000000000003ea83ca01c800080084e20000003e800008101410201ff020100800004030010a1"
@@ -40,8 +42,16 @@ def run(words, script=b"", **more):
     """The exit code, and what was written to the two streams."""
     if "stdin" not in more:
         more["input"] = script
-    done = subprocess.run([PROGRAM, *words], stdout=subprocess.PIPE, stderr=subprocess.PIPE, timeout=120, **more)
+    done = subprocess.run([PROGRAM, *words], stdout=subprocess.PIPE, stderr=subprocess.PIPE,
+                          timeout=120, **more)
     return done.returncode, done.stdout, done.stderr
+
+
+def told(words, script, output):
+    """The exit code of a run whose output goes there, and what it says on standard error."""
+    done = subprocess.run([PROGRAM, *words], input=script, stdout=output, stderr=subprocess.PIPE,
+                          timeout=60)
+    return done.returncode, done.stderr
 
 
 # ---- words: `drill` alone, `init` and `list` with a path
@@ -49,10 +59,12 @@ def run(words, script=b"", **more):
 def words():
     check("drill, an empty script", run([b"drill"]), (0, b"", b""))
     outside = [
-        [], [b""], [b"drill", b""], [b"", b"drill"], [b"drill", b"drill"], [b"drill", b"x"], [b"drills"], [b"dril"],
-        [b"Drill"], [b"DRILL"], [b" drill"], [b"drill "], [b"drill\n"], [b"-drill"], [b"--", b"drill"], [b"help"],
-        [b"--help"], [b"-h"], [b"run"], [b"init"], [b"list"], [b"init", b"x", b"y"], [b"list", b"x", b""], [b"x", b"init"],
-        [b"Init", b"x"], [b"inits", b"x"], [b"list ", b"x"], [b"-list", b"x"], [b"list\n", b"x"], [b"rehearse", b"7"],
+        [], [b""], [b"drill", b""], [b"", b"drill"], [b"drill", b"drill"], [b"drill", b"x"],
+        [b"drills"], [b"dril"], [b"Drill"], [b"DRILL"], [b" drill"], [b"drill "], [b"drill\n"],
+        [b"-drill"], [b"--", b"drill"], [b"help"], [b"--help"], [b"-h"], [b"run"],
+        [b"init"], [b"list"], [b"init", b"x", b"y"], [b"list", b"x", b""], [b"x", b"init"],
+        [b"Init", b"x"], [b"inits", b"x"], [b"list ", b"x"], [b"-list", b"x"], [b"list\n", b"x"],
+        [b"rehearse", b"7"],
         # words that aren't UTF-8
         [b"\xff"], [b"drill\xff"], [b"drill", b"\xff"], [b"\xff", b"drill"], [b"\xc3\x28"],
     ]
@@ -76,19 +88,27 @@ def statuses():
         ("done, an entry that goes back", FRAMES + FRAMES[:33], 0, b"backward\n"),
         ("done, a refused START", b"start 20000/2/0 20000/1/0 0\n", 0, b"refused 3\n"),
         ("bad line 1", b"fly\n", 3, b"bad line 1\n"),
-        ("done, empty lines and comments", b"\n# fly\n" + FRAMES + b"\n#" + SEAL + SEAL + START, 0, TWO + ONE + END),
-        ("done, entries of other kinds", b"loss 0/0/0 3 2 1\nproduction 2\nclock 65535/86399999/999999999p\n", 0, b""),
+        ("done, empty lines and comments",
+         b"\n# fly\n" + FRAMES + b"\n#" + SEAL + SEAL + START, 0, TWO + ONE + END),
+        ("done, entries of other kinds",
+         b"loss 0/0/0 3 2 1\nproduction 2\nclock 65535/86399999/999999999p\n", 0, b""),
         ("done, a head with no line", b"site\nend\n", 0, b""),
-        ("done, a time in picoseconds", b"frame 20000/1000/5p 0 41 0 0010a1\nmark 20000/1000/5p\n"
-         b"start 20000/1000/0 20000/1000/5p 0\n", 0, b"sent 0 0100000000000022a820a01e8000810a4e20000003e800000005"
+        ("done, a time in picoseconds",
+         b"frame 20000/1000/5p 0 41 0 0010a1\nmark 20000/1000/5p\n"
+         b"start 20000/1000/0 20000/1000/5p 0\n", 0,
+         b"sent 0 0100000000000022a820a01e8000810a4e20000003e800000005"
          b"8101410201ff020100800004030010a1\n" + END),
-        ("done, a frame that is too long", b"frame 0/0/0 0 41 0 " + b"00" * 65_537 + b"\n", 0, b"too long\n"),
-        ("archive full", b"site\ncapacity 71\nend\n" + FRAMES[:66] + b"mark 20000/2000/0\nstart 20000/0/0 20000/1000/0 0\n",
-         9, b"full 17 0\n" + FIRST + END),
-        ("archive full, then a bad line", b"site\ncapacity 64\nend\n" + FRAMES[:66] + b"fly\n", 3, b"full 31 24\nbad line 6\n"),
+        ("done, a frame that is too long",
+         b"frame 0/0/0 0 41 0 " + b"00" * 65_537 + b"\n", 0, b"too long\n"),
+        ("archive full",
+         b"site\ncapacity 71\nend\n" + FRAMES[:66]
+         + b"mark 20000/2000/0\nstart 20000/0/0 20000/1000/0 0\n", 9, b"full 17 0\n" + FIRST + END),
+        ("archive full, then a bad line",
+         b"site\ncapacity 64\nend\n" + FRAMES[:66] + b"fly\n", 3, b"full 31 24\nbad line 6\n"),
         ("bad site", b"site\ncapacity 63\nend\n", 4, b"bad site 2 3\n"),
         ("bad site, an unknown word", b"site\n\n# end\nfly\nend\nfly\n", 4, b"bad site 4 1\n"),
-        ("bad site, in a head that isn't ended", b"site\ncapacity 64\ncapacity 64", 4, b"bad site 3 4\n"),
+        ("bad site, in a head that isn't ended",
+         b"site\ncapacity 64\ncapacity 64", 4, b"bad site 3 4\n"),
         ("bad line, a head that isn't ended", b"site\ncapacity 64\n", 3, b"bad line 3\n"),
         ("bad line, a head of one word", b"site", 3, b"bad line 2\n"),
         ("bad line, a head that isn't first", b"\nsite\nend\n", 3, b"bad line 2\n"),
@@ -107,11 +127,14 @@ def lengths():
     script = frame * (MOST_OCTETS // len(frame))
     # the last line fills the script
     left = MOST_OCTETS - len(script) - 1
-    head = next(head for head in (b"frame 0/0/0 0 41 0 ", b"frame 0/0/0 0 41 10 ") if (left - len(head)) % 2 == 0)
+    heads = (b"frame 0/0/0 0 41 0 ", b"frame 0/0/0 0 41 10 ")
+    head = next(head for head in heads if (left - len(head)) % 2 == 0)
     script += head + b"00" * ((left - len(head)) // 2) + b"\n"
-    check("the longest script", (len(script), run([b"drill"], script)), (MOST_OCTETS, (0, b"", b"")))
-    check("one octet more", run([b"drill"], script + b"x"), (11, b"input too long\n", b""))
-    check("a bad line, and one octet more", run([b"drill"], b"x" + script), (11, b"input too long\n", b""))
+    check("the longest script, length", len(script), MOST_OCTETS)
+    check("the longest script", run([b"drill"], script), (0, b"", b""))
+    too_long = (11, b"input too long\n", b"")
+    check("one octet more", run([b"drill"], script + b"x"), too_long)
+    check("a bad line, and one octet more", run([b"drill"], b"x" + script), too_long)
 
 
 # ---- streams and memory that fail
@@ -126,20 +149,18 @@ def faults():
             ("write fault of usage", [], b"", 7),
             ("nothing to write", [b"drill"], FRAMES, 0),
         ]:
-            done = subprocess.run([PROGRAM, *words], input=script, stdout=full, stderr=subprocess.PIPE, timeout=60)
-            check(name, (done.returncode, done.stderr), (status, b""))
+            check(name, told(words, script, full), (status, b""))
         # a failed write leaves the statuses 6 and 11
         done = subprocess.run([PROGRAM, b"drill"], stdin=folder, stdout=full, timeout=60)
         check("read fault that can't be told", done.returncode, 6)
-        done = subprocess.run([PROGRAM, b"drill"], input=b"x" * (MOST_OCTETS + 1), stdout=full, timeout=60)
-        check("a long input that can't be told", done.returncode, 11)
+        check("a long input that can't be told",
+              told([b"drill"], b"x" * (MOST_OCTETS + 1), full), (11, b""))
     os.close(folder)
     # a reader of the output that is gone
     read, write = os.pipe()
     os.close(read)
-    done = subprocess.run([PROGRAM, b"drill"], input=FRAMES + SEAL + START, stdout=write, timeout=60)
+    check("nobody reads the output", told([b"drill"], FRAMES + SEAL + START, write), (7, b""))
     os.close(write)
-    check("nobody reads the output", done.returncode, 7)
     # no room for a script
     limit = lambda: resource.setrlimit(resource.RLIMIT_AS, (16 << 20, 16 << 20))
     check("want of memory", run([b"drill"], FRAMES, preexec_fn=limit), (70, b"", b""))
@@ -149,9 +170,10 @@ def faults():
 
 HEADER = bytes.fromhex("534c454100000001")
 # an entry of each kind: a frame in a batch of its own, and the others in one
-FRAME_BATCH = bytes.fromhex("a5 00000018 0001 01 00 4e20000003e80000 00 01 41 00000000 00000003 0010a1")
-OTHERS = [("02 01 4e20000003e80000000c 03 00 02", b"loss 20000/1000/12p 3 0 2\n"), ("03 02", b"production 2\n"),
-          ("04 00 4e20000003e80007", b"mark 20000/1000/7\n")]
+FRAME_BATCH = bytes.fromhex(
+    "a5 00000018 0001 01 00 4e20000003e80000 00 01 41 00000000 00000003 0010a1")
+OTHERS = [("02 01 4e20000003e80000000c 03 00 02", b"loss 20000/1000/12p 3 0 2\n"),
+          ("03 02", b"production 2\n"), ("04 00 4e20000003e80007", b"mark 20000/1000/7\n")]
 BATCH = bytes.fromhex("".join(octets for octets, _ in OTHERS))
 FILE = HEADER + FRAME_BATCH + b"\xa5" + len(BATCH).to_bytes(4, "big") + b"\0\3" + BATCH + b"\0"
 LINES = FRAMES[:33] + b"".join(line for _, line in OTHERS)
@@ -169,15 +191,22 @@ def files():
             with open(path, "wb") as file:
                 file.write(octets)
 
-        check("list of no file", (run([b"list", path.encode()]), os.path.exists(path)), ((8, b"disk fault\n", b""), False))
-        check("init", (run([b"init", path.encode()]), written()), ((0, b"made\n", b""), HEADER + b"\0"))
-        check("init of a file that is one", (run([b"init", path.encode()]), written()),
-              ((5, b"archive refused 0\n", b""), HEADER + b"\0"))
-        check("list of a new file", (run([b"list", path.encode()]), written()), ((0, b"", b""), HEADER + b"\0"))
+        def by(word):
+            """The exit code and the output of a command on the file, and the file behind it."""
+            status, output, errors = run([word, path.encode()])
+            check(f"{word} says nothing else", errors, b"")
+            return status, output, written()
+
+        new = HEADER + b"\0"
+        check("list of no file", run([b"list", path.encode()]), (8, b"disk fault\n", b""))
+        check("list makes no file", os.path.exists(path), False)
+        check("init", by(b"init"), (0, b"made\n", new))
+        check("init of a file that is one", by(b"init"), (5, b"archive refused 0\n", new))
+        check("list of a new file", by(b"list"), (0, b"", new))
         holding(b"x")
-        check("init of another file", (run([b"init", path.encode()]), written()), ((5, b"archive refused 0\n", b""), b"x"))
+        check("init of another file", by(b"init"), (5, b"archive refused 0\n", b"x"))
         holding(b"")
-        check("init of an empty file", (run([b"init", path.encode()]), written()), ((0, b"made\n", b""), HEADER + b"\0"))
+        check("init of an empty file", by(b"init"), (0, b"made\n", new))
         for octets, status, output in [
             (FILE, 0, LINES),
             # what stands behind the closed gate isn't read
@@ -189,27 +218,29 @@ def files():
             (HEADER + b"\xa5", 5, b"archive refused 9\n"),
             (FILE[:-1], 5, b"archive refused %d\n" % (len(FILE) - 1)),
             # the entry's kind, a frame's quality, and a time that goes back
-            (HEADER + FRAME_BATCH[:7] + b"\5" + FRAME_BATCH[8:] + b"\0", 5, b"archive refused 15\n"),
-            (HEADER + FRAME_BATCH[:17] + b"\3" + FRAME_BATCH[18:] + b"\0", 5, b"archive refused 25\n"),
+            (HEADER + FRAME_BATCH[:7] + b"\5" + FRAME_BATCH[8:] + b"\0", 5,
+             b"archive refused 15\n"),
+            (HEADER + FRAME_BATCH[:17] + b"\3" + FRAME_BATCH[18:] + b"\0", 5,
+             b"archive refused 25\n"),
             (FILE[:-1] + FRAME_BATCH + b"\0", 5, b"archive refused %d\n" % (len(FILE) - 1 + 8)),
         ]:
             holding(octets)
-            check(f"list of {octets[:48].hex()}", (run([b"list", path.encode()]), written()), ((status, output, b""), octets))
+            check(f"list of {octets[:48].hex()}", by(b"list"), (status, output, octets))
         # a file that can't be opened, made, locked or written
         for word in [b"init", b"list"]:
-            check(f"{word}, a folder", run([word, folder.encode()]), (8, b"disk fault\n", b""))
-            check(f"{word}, in no folder", run([word, (folder + "/none/archive").encode()]), (8, b"disk fault\n", b""))
-            check(f"{word}, an empty path", run([word, b""]), (8, b"disk fault\n", b""))
+            for what, place in [("a folder", folder), ("in no folder", folder + "/none/archive"),
+                                ("an empty path", "")]:
+                check(f"{word}, {what}", run([word, place.encode()]), (8, b"disk fault\n", b""))
         holding(FILE)
         with open(path, "rb+") as file:
             fcntl.flock(file, fcntl.LOCK_EX)
             for word in [b"init", b"list"]:
-                check(f"{word}, another's file", (run([word, path.encode()]), written()), ((8, b"disk fault\n", b""), FILE))
+                check(f"{word}, another's file", by(word), (8, b"disk fault\n", FILE))
         with open("/dev/full", "wb") as full:
-            for name, words in [("list", [b"list", path.encode()]), ("init", [b"init", path.encode()]),
+            for name, words in [("list", [b"list", path.encode()]),
+                                ("init", [b"init", path.encode()]),
                                 ("list of no file", [b"list", (path + "2").encode()])]:
-                done = subprocess.run([PROGRAM, *words], stdout=full, stderr=subprocess.PIPE, timeout=60)
-                check(f"write fault of {name}", (done.returncode, done.stderr), (7, b""))
+                check(f"write fault of {name}", told(words, b"", full), (7, b""))
         check("a failed write leaves the file", written(), FILE)
         # the input is left as it was, and a path may be any word that is text
         odd = os.path.join(folder, "--help \u00e4")
@@ -218,15 +249,18 @@ def files():
             script.seek(0)
             check("an odd path", run([b"init", odd.encode()], stdin=script), (0, b"made\n", b""))
             check("an odd path, input", os.lseek(script.fileno(), 0, os.SEEK_CUR), 0)
-        check("a list is a script", run([b"drill"], LINES + b"start 20000/0/0 20000/1000/0 0\n"), (0, FIRST + END, b""))
+        check("a list is a script", run([b"drill"], LINES + b"start 20000/0/0 20000/1000/0 0\n"),
+              (0, FIRST + END, b""))
 
 
 # ---- the launcher
 
 def launcher():
     for word in ["-h", "--help", "help"]:
-        done = subprocess.run([LAUNCHER, word], stdin=subprocess.DEVNULL, capture_output=True, timeout=60)
-        check(f"launcher {word}", (done.returncode, done.stdout.startswith(b"usage: bin/provider "), done.stderr), (0, True, b""))
+        done = subprocess.run([LAUNCHER, word], stdin=subprocess.DEVNULL, capture_output=True,
+                              timeout=60)
+        says = done.stdout.startswith(b"usage: bin/provider ")
+        check(f"launcher {word}", (done.returncode, says, done.stderr), (0, True, b""))
 
 
 words()
