@@ -2,11 +2,8 @@ pub mod Parts
 pub mod FirstLines
 pub mod Settings
 pub mod Heads
-pub mod Steps
 pub mod Running
 pub mod Read
 pub mod Outcomes
-pub mod Each
-pub mod Readable
 pub mod Promises
 pub mod Lists

@@ -37,7 +37,6 @@ use Rattle.provider_cli.specs.Outside.{Outside}
 use Rattle.provider_cli.specs.Script.{most_octets, script_of, script_text}
 use Rattle.provider_cli.specs.Start.{Start, IsStartOf, EachStart, world_at, archive_at}
 use Rattle.provider_cli.specs.Start.{archive_then, buffers_of, told_by, messages_of}
-use Rattle.provider_cli.proofs.Readable.{start_readable, are_messages}
 
 -- ---- beginnings
 
@@ -137,15 +136,11 @@ module _ (laws : Laws) (script : List ℕ) (s : Start) (is : IsStartOf script s)
       ∙ (right_later some).told [])
 
   pub read_of : IsReadOf s
-  read_of =
-      start_readable laws.short laws.plain laws.ended laws.exact laws.spells laws.cuts s.start
-      s.stop s.quality (archive_at s) (is_closed (archive_at s) (moment s.stop)) (archive_later 0)
-      (laws.holds 2 (picked (archive_at s) (selection s.start s.stop s.quality))
-      (is_closed (archive_at s) (moment s.stop)))
+  read_of = laws.readable (archive_at s) s.start s.stop s.quality (archive_later 0)
 
   pub streamed : IsStreamed s
   streamed = λ place. laws.streams place (messages_of s)
-      (are_messages (told_by (archive_at s) s) read_of)
+      (laws.messages (told_by (archive_at s) s) read_of)
 
   pub delivered : IsDelivered s
   delivered = λ latency moments.

@@ -19,7 +19,7 @@ use Rattle.provider_cli.specs.Head.{empty_lines, site_of, running}
 use Rattle.provider_cli.specs.Script.{script_of, bad_site_line, script_text, status_by, status_of}
 use Rattle.provider_cli.specs.Script.{text_at}
 use Rattle.provider_cli.proofs.FirstLines.{line_in, behind_in, lines_first}
-use Rattle.provider_cli.proofs.Steps.{Behind, behind_as, step_on}
+use Rattle.station_law.specs.Steps.{Behind, behind_as, step_on}
 
 abbrev pub text_from : ℕ → State → List ℕ → List ℕ
 text_from number state text = transcript_from step_text number state (lines_of text)

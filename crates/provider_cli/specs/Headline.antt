@@ -21,7 +21,7 @@ use Rattle.provider_cli.specs.Script.{script_of, runs}
 use Rattle.provider_cli.specs.Outside.{Outside}
 use Rattle.provider_cli.specs.Start.{Start, world_at, archive_at, archive_then, buffers_of}
 use Rattle.provider_cli.specs.Start.{told_by, messages_by, messages_of}
-use Rattle.provider_cli.specs.Readable.{AreReadable}
+use Rattle.station_law.specs.Readable.{AreReadable}
 use Rattle.provider_cli.specs.Drilled.{GainsAll, GainsSome, Ended, ran, cut_off, given_up, ended}
 
 -- What station_law promises of any lines holds of those that run: at each line behind others in

@@ -1,34 +1,26 @@
--- The laws that the headline rests on: of scripts, of deliveries, of buffers, of the octets that
--- spell them, and of streams.
+-- The laws that the headline rests on: of scripts, of deliveries, of buffers and what a user reads
+-- of them, and of streams.
 use Rattle.std.specs.Prelude.{◌≡◌, ℕ, ◌<◌, ◌≤◌, Bool, IsTrue, IsFalse, List, [], ◌∷◌, ◌++◌}
 use Rattle.std.specs.Prelude.{length, map, take, None}
-use Rattle.std.specs.List.{All, AllByRecursion, list_any, flat_map}
+use Rattle.std.specs.List.{AllByRecursion, list_any}
 use Rattle.cds_time.specs.declared.cds.Cds.{Cds}
-use Rattle.ber_core.specs.Spelling.{CanonicalSpells}
 use Rattle.isp1_tml.specs.Message.{Content, IsMessage, spellings}
 use Rattle.isp1_tml.specs.Stream.{IsStream}
-use Rattle.return_pdu.specs.TransferItem.{BuffersAreExact}
-use Rattle.return_pdu.specs.Plain.{FramesArePlain, EndIsPlain, FramesAreShort}
-use Rattle.archive_terms.specs.Archive.{Entry}
+use Rattle.archive_terms.specs.Archive.{Entry, IsArchive}
 use Rattle.archive_terms.specs.Selection.{is_stop_closed}
 use Rattle.archive_terms.specs.Delivery.{Item, Terms, is_online, started, entries_of}
 use Rattle.archive_terms.specs.Delivery.{archived_items, all_items, end_of_data, is_end_of_data}
-use Rattle.archive_terms.specs.Delivery.{IsBuffer, cut, offline_buffers}
+use Rattle.archive_terms.specs.Delivery.{offline_buffers}
 use Rattle.archive_terms.specs.Rounds.{free_round, picked_at, outcomes, handed_buffers}
 use Rattle.station_law.specs.State.{State, moment, start as new_world}
-use Rattle.station_law.specs.Said.{Handed, handed_by}
+use Rattle.station_law.specs.Said.{Told, Handed, handed_by, buffer_message}
+use Rattle.station_law.specs.Readable.{AreReadable}
 use Rattle.station_law.specs.Sound.{items_of}
-use Rattle.station_law.specs.Desk.{desk, desk_buffers, handed_at_start}
+use Rattle.station_law.specs.Desk.{desk, desk_buffers, told_desk, handed_at_start}
 use Rattle.station_law.specs.Lines.{step_text}
 use Rattle.station_law.specs.Runs.{Headline}
 
-abbrev pub CutsAreBuffers : Type 0
-CutsAreBuffers = (size : ℕ) (items : List Item) → 0 < size → All (IsBuffer size) (cut size items)
-
 pub record Laws : Type 0 where
-  pub holds : (size : ℕ) (entries : List (ℕ × Entry)) (closed : Bool)
-      → let items = flat_map (λ b. b) (offline_buffers size entries closed) in
-      take (length items) (all_items entries closed) ≡ items
   pub begins : (entries : List (ℕ × Entry)) (closed : Bool) (items : List Item)
       → take (length items) (all_items entries closed) ≡ items
       → take (length (entries_of items)) entries ≡ entries_of items
@@ -50,11 +42,9 @@ pub record Laws : Type 0 where
   pub items : (entries : List Entry) (start stop : Cds) (quality : ℕ)
       → items_of (handed_at_start entries start stop quality).buffers
       ≡ desk_buffers entries start stop quality
-  pub cuts : CutsAreBuffers
-  pub short : FramesAreShort
-  pub plain : FramesArePlain
-  pub ended : EndIsPlain
-  pub exact : BuffersAreExact
-  pub spells : CanonicalSpells
+  pub readable : (entries : List Entry) (start stop : Cds) (quality : ℕ) → IsArchive entries
+      → AreReadable (told_desk entries start stop quality)
+  pub messages : (told : List Told) → AreReadable told
+      → AllByRecursion IsMessage (map buffer_message told)
   pub streams : (place : ℕ) (messages : List Content) → AllByRecursion IsMessage messages
       → IsStream place (spellings messages) messages [] None

@@ -6,7 +6,6 @@ pub mod Outside
 pub mod Drilled
 pub mod Start
 pub mod Headline
-pub mod Readable
 pub mod Laws
 pub mod Promise
 pub mod Archives

@@ -12,15 +12,11 @@ ghost use Rattle.provider_cli.specs.Laws.{Laws};
 use crate::put::put_line;
 use crate::run::run_script;
 use crate::status::Status;
-use archive_terms::laws::{
-    cut_into_buffers, offline_buffers_hold_a_prefix, offline_rounds, prefix_of_all_items,
-};
-use ber_core::laws::canonical_spells;
+use archive_terms::laws::{offline_rounds, prefix_of_all_items};
 use isp1_tml::laws::spelled_is_read;
 use octet_core::{Sink, Source};
-use return_pdu::laws::{buffers_are_exact, end_is_plain, frames_are_plain, frames_are_short};
 use station_law::Stop;
-use station_law::laws::{a_start_hands_over, headline_law};
+use station_law::laws::{a_start_hands_over, a_start_is_read, headline_law};
 use std::alloc::{AllocError, Global};
 
 /// The most octets that a script may have.
@@ -49,15 +45,9 @@ fn laws()
 {
     headline_law();
     a_start_hands_over();
+    a_start_is_read();
     offline_rounds();
-    offline_buffers_hold_a_prefix();
     prefix_of_all_items();
-    cut_into_buffers();
-    frames_are_short();
-    frames_are_plain();
-    end_is_plain();
-    buffers_are_exact();
-    canonical_spells();
     spelled_is_read();
 }
 

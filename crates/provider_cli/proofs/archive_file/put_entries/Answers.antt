@@ -1,5 +1,5 @@
 use Rattle.provider_cli.proofs.Lists.{next_line, no_lines}
-use Rattle.provider_cli.proofs.Steps.{at_start, behind_as, step_on, at_end, stopped_by}
+use Rattle.station_law.specs.Steps.{at_start, behind_as, step_on, at_end, stopped_by}
 use Rattle.provider_cli.proofs.archive_file.put_entries.Goals as goal
 
 pub loop-entry-init : goal.loop-entry-init

@@ -1,7 +1,7 @@
 use Rattle.std.proofs.Common.{drop}
 use Rattle.record_form.specs.Entry.{entries_of}
 use Rattle.provider_cli.proofs.Lists.{lines_of_storable}
-use Rattle.provider_cli.proofs.Steps.{Behind}
+use Rattle.station_law.specs.Steps.{Behind}
 use Rattle.provider_cli.proofs.archive_file.put_entries.Given as goal
 
 -- the lines of the entries to come are what is still to be written

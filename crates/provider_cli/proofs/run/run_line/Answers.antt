@@ -1,7 +1,7 @@
 use Rattle.std.proofs.Common.{◌∙◌, [], sym, ap, append-nil}
 use Rattle.station_law.specs.declared.step_done.StepDone.{StepDone}
 use Rattle.station_law.specs.Runs.{bad_line, text_behind}
-use Rattle.provider_cli.proofs.Steps.{at_start, behind_as, step_on, stopped_by}
+use Rattle.station_law.specs.Steps.{at_start, behind_as, step_on, stopped_by}
 use Rattle.provider_cli.proofs.run.run_line.Goals as goal
 
 pub returns-in_err-do_line-clause-written : goal.returns-in_err-do_line-clause-written

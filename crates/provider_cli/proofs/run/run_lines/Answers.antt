@@ -3,7 +3,7 @@ use Rattle.std.proofs.lemmas.Grind.{common_steps}
 use Rattle.station_law.specs.declared.step_done.StepDone.TheVariants.{Fine, Full, WrongState}
 use Rattle.provider_cli.proofs.Running.{on_line, on_status, line_run, status_from}
 use Rattle.provider_cli.proofs.Running.{text_end, status_end}
-use Rattle.provider_cli.proofs.Steps.{at_start, behind_as, at_end, stopped_by}
+use Rattle.station_law.specs.Steps.{at_start, behind_as, at_end, stopped_by}
 use Rattle.provider_cli.proofs.run.run_lines.Goals.{in-Fine, in-Full}
 use Rattle.provider_cli.proofs.run.run_lines.Goals as goal
 

@@ -1,6 +1,6 @@
 use Rattle.std.proofs.Common.{◌≡◌, ◌+◌, ◌≤◌, true, length}
 use Rattle.provider_cli.proofs.Running.{text_from, status_from}
-use Rattle.provider_cli.proofs.Steps.{Behind}
+use Rattle.station_law.specs.Steps.{Behind}
 use Rattle.provider_cli.proofs.run.run_lines.Given as goal
 
 -- the text of the lines to come is what is still to be written
