@@ -1,6 +1,6 @@
 -- The entries of a file, as lines.
-use Rattle.std.proofs.Common.{◌≡◌, ◌∙◌, ◌⊎◌, inl, ℕ, suc, ◌+◌, ◌<◌, ◌≤◌, Bool, true, false, List, [], ◌∷◌, ◌++◌}
-use Rattle.std.proofs.Common.{length, drop, get_or, Option, Some, None, refl, sym, ap, subst}
+use Rattle.std.proofs.Common.{◌≡◌, ◌∙◌, ◌⊎◌, inl, ℕ, suc, ◌+◌, ◌<◌, ◌≤◌, Bool, true, false}
+use Rattle.std.proofs.Common.{List, [], ◌∷◌, ◌++◌, length, drop, get_or, Option, Some, None, refl, sym, ap, subst}
 use Rattle.std.proofs.Common.{drop-cons, add-one, append-nil, append_assoc, cond}
 use Rattle.std.proofs.lemmas.Bool.{and_parts}
 use Rattle.std.proofs.lemmas.List.{drop_all}
@@ -93,7 +93,8 @@ module _ (old new : Option Pending) (entries : List terms.Entry) (gate : ℕ)
       → (others : List terms.Entry)
       → IsSomeAnd old (λ told. StandsFor others told.content)
       → (listed (filter is_storable entries) ≡ listed others)
-      ⊎ (listed (filter is_storable entries) ≡ failed) ⊎ (listed (filter is_storable entries) ≡ unread)
+      ⊎ (listed (filter is_storable entries) ≡ failed)
+      ⊎ (listed (filter is_storable entries) ≡ unread)
   complete_listed one_list others is = by_told old is stands
     where
       by_told : (told : Option Pending) → IsSomeAnd told (λ told. StandsFor others told.content)

@@ -67,7 +67,8 @@ module _ (state next : State) (text line behind : List ℕ) (done : StepDone)
     (goes : next ≡ (step_text state line).next) (ends : done ≡ (step_text state line).done) where
   pub on_line : (number : ℕ)
       → text_from number state text
-      ≡ text_at number (step_text state line) ++ text_later done (text_from (number + 1) next behind)
+      ≡ text_at number (step_text state line)
+      ++ text_later done (text_from (number + 1) next behind)
   on_line number =
       rw (goes, ends, first, later, lines_first text some)
       (split_text (step_text state (line_in text)).done number

@@ -1,5 +1,6 @@
 -- What `init` and `list` do with the file of a disk. This product's own rules.
-use Rattle.std.specs.Prelude.{◌≡◌, ◌⊎◌, ℕ, ◌<◌, Option, IfSome, IsSomeAnd, List, [], ◌∷◌, ◌++◌, codes}
+use Rattle.std.specs.Prelude.{◌≡◌, ◌⊎◌, ℕ, ◌<◌, Option, IfSome, IsSomeAnd, List, [], ◌∷◌, ◌++◌}
+use Rattle.std.specs.Prelude.{codes}
 use Rattle.std.specs.Fmt.{decimal}
 use Rattle.std.specs.List.{flat_map}
 use Rattle.octet_core.specs.Fault.{Rose}
@@ -106,8 +107,8 @@ listed_status (refused place) = ends.ArchiveRefused
 listed_status failed = ends.DiskFault
 listed_status unread = ends.Memory
 
--- The entries are those that the file stands for, and its one image stands for them then; a place is
--- that of the file's first fault; and a disk failed only where its count of faults rose.
+-- The entries are those that the file stands for, and its one image stands for them then; a place
+-- is that of the file's first fault; and a disk failed only where its count of faults rose.
 abbrev pub LeavesListed : {D : Type 0} → (D → Option Pending) → (D → ℕ) → D → D → Listed → Type 0
 LeavesListed pending faults old new (listed entries) =
     IfSome (pending old) (λ told. StandsFor entries told.content × Keeps (pending new) entries)

@@ -57,8 +57,8 @@ pub record EndsAs (exit : ℕ) (IsSo : Status → Type 0) : Type 0 where
   pub exit_is : exit ≡ code status
   pub is_so : IsSo status
 
--- A command that writes a text, and then ends with a status of its own: all of the text was written;
--- the output failed, once; or memory was refused.
+-- A command that writes a text, and then ends with a status of its own: all of the text was
+-- written; the output failed, once; or memory was refused.
 abbrev pub Closes : Option (List ℕ) → Option (List ℕ) → ℕ → ℕ → List ℕ → Status → ℕ → Type 0
 Closes before after faults_before faults_after text own exit =
     ((exit ≡ code own) × Gains before after text × (faults_after ≡ faults_before))

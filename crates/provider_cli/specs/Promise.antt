@@ -8,10 +8,11 @@ use Rattle.provider_cli.specs.Start.{EachStart}
 use Rattle.provider_cli.specs.Headline.{HasHeadline, IsDelivered, IsSent, IsStreamed, IsReadOf}
 use Rattle.provider_cli.specs.Headline.{StaysRight, StaysTold}
 
--- By the status that the exit code is: what was written, which calls failed, what the script is, and
--- that it ends with its own status. Then what holds of each line that was run, and of each START:
--- what delivers its buffers, where its messages stand in the output, that they are a stream, what a
--- user reads of them, and that they stay right and as told for the archive after each later line.
+-- By the status that the exit code is: what was written, which calls failed, what the script is,
+-- and that it ends with its own status. Then what holds of each line that was run, and of each
+-- START: what delivers its buffers, where its messages stand in the output, that they are a stream,
+-- what a user reads of them, and that they stay right and as told for the archive after each later
+-- line.
 pub record IsDrill (before after : Outside) (exit : ℕ) : Type 0 where
   pub status : Status
   pub exit_is : exit ≡ code status

@@ -39,7 +39,8 @@ abbrev pub bad_site_line : ℕ → ℕ → List ℕ
 bad_site_line number cause =
     codes "bad site " ++ decimal number ++ 32 ∷ (decimal cause ++ 10 ∷ [])
 
--- the text of the line of a number, by its answer: what it says, and that it is a bad one where it is
+-- the text of the line of a number, by its answer: what it says, and that it is a bad one where it
+-- is
 abbrev pub text_at : ℕ → Answer → List ℕ
 text_at number answer = texts answer.said ++ text_behind answer.done number []
 

@@ -4,8 +4,8 @@ use Rattle.provider_cli.proofs.drill.read_script.Goals as goal
 
 pub returns-then-count-eq0-clause-octets : goal.returns-then-count-eq0-clause-octets
 returns-then-count-eq0-clause-octets g c =
-    whole_read _ _ _ _ _ _ c.in_ok-count.count _ c.loop-piece.invariant.left c.loop-piece.invariant.octets
-    c.in_ok-count.ensures.taken (search rules) (search rules)
+    whole_read _ _ _ _ _ _ c.in_ok-count.count _ c.loop-piece.invariant.left
+    c.loop-piece.invariant.octets c.in_ok-count.ensures.taken (search rules) (search rules)
 
 pub loop-piece-preserved : goal.loop-piece-preserved
 loop-piece-preserved g c =

@@ -52,14 +52,15 @@ loop-rest-preserved g c =
     let some : 0 < length c.loop-rest.rest.now = grind (arith, common_steps) in
     let status = on_status c.loop-rest.world.state c.run_line.new.world.state
     c.loop-rest.rest.now c.split_line.result.0.now c.split_line.result.1.now in
-    let next = λ (fine : Bool). status_from fine c.run_line.new.world.state c.split_line.result.1.now in
+    let next = λ (fine : Bool).
+    status_from fine c.run_line.new.world.state c.split_line.result.1.now in
     elim c.match-branch-2.branch [
       | in-Fine w ↦ record {
         behind = line_run c.loop-rest.world.state c.run_line.new.world.state
             c.loop-rest.rest.now c.split_line.result.0.now c.split_line.result.1.now Fine some
             c.split_line.ensures.line c.split_line.ensures.rest c.in_ok-run_line.ensures.next
-            (sym w.in-Fine.is ∙ c.in_ok-run_line.ensures.done) c.loop-rest.number _ _ _ _ _ _ _ _ c.loop-rest.invariant.behind
-            c.in_ok-run_line.ensures.written;
+            (sym w.in-Fine.is ∙ c.in_ok-run_line.ensures.done) c.loop-rest.number _ _ _ _ _ _ _ _
+            c.loop-rest.invariant.behind c.in_ok-run_line.ensures.written;
         ends = c.loop-rest.invariant.ends
             ∙ status Fine some c.split_line.ensures.line c.split_line.ensures.rest
             c.in_ok-run_line.ensures.next (sym w.in-Fine.is ∙ c.in_ok-run_line.ensures.done)
@@ -72,8 +73,8 @@ loop-rest-preserved g c =
         behind = line_run c.loop-rest.world.state c.run_line.new.world.state
             c.loop-rest.rest.now c.split_line.result.0.now c.split_line.result.1.now Full some
             c.split_line.ensures.line c.split_line.ensures.rest c.in_ok-run_line.ensures.next
-            (sym w.in-Full.is ∙ c.in_ok-run_line.ensures.done) c.loop-rest.number _ _ _ _ _ _ _ _ c.loop-rest.invariant.behind
-            c.in_ok-run_line.ensures.written;
+            (sym w.in-Full.is ∙ c.in_ok-run_line.ensures.done) c.loop-rest.number _ _ _ _ _ _ _ _
+            c.loop-rest.invariant.behind c.in_ok-run_line.ensures.written;
         ends = c.loop-rest.invariant.ends
             ∙ status Full some c.split_line.ensures.line c.split_line.ensures.rest
             c.in_ok-run_line.ensures.next (sym w.in-Full.is ∙ c.in_ok-run_line.ensures.done)
