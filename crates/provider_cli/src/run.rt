@@ -1,8 +1,8 @@
 // A script is run line by line.
-ghost use Rattle.std.specs.Prelude.{◌≡◌, ◌+◌, ◌≤◌, IfOk, OnOk, length};
+ghost use Rattle.std.specs.Prelude.{◌≡◌, ◌+◌, ◌≤◌, [], IfOk, OnOk, length};
 ghost use Rattle.station_law.specs.Lines.{step_text};
 ghost use Rattle.station_law.specs.Output.{Wrote};
-ghost use Rattle.station_law.specs.Runs.{transcript_from, in_order, all_fine};
+ghost use Rattle.station_law.specs.Runs.{transcript_from, text_behind, in_order, all_fine};
 ghost use Rattle.station_law.specs.Said.{texts};
 ghost use Rattle.provider_cli.specs.Lines.{lines_of};
 ghost use Rattle.provider_cli.specs.Script.{most_octets, script_of, script_text, status_of};
@@ -104,13 +104,25 @@ fn run_line<O: Sink>(
     ensures next { OnOk result (world.new.state ≡ (step_text world.old.state line.now).next) }
     ensures done { IfOk result (λ done. done ≡ (step_text world.old.state line.now).done) }
 {
-    match do_line(alloc, world, line, output)? {
-        StepDone::Fine => Ok(StepDone::Fine),
-        StepDone::Full => Ok(StepDone::Full),
-        StepDone::WrongState => {
-            put_bad_line(alloc, number, output)?;
-            Ok(StepDone::WrongState)
-        }
+    let done = do_line(alloc, world, line, output)?;
+    tell_bad_line(alloc, number, done, output)?;
+    Ok(done)
+}
+
+// Says that the line of this number is a bad one, where it ended as one.
+fn tell_bad_line<O: Sink>(
+    alloc: Global,
+    number: u32,
+    done: StepDone,
+    output: &mut O,
+) -> Result<(), Stop>
+    ensures { Wrote (O.written output.old) (O.written output.new)
+        (O.faults output.old) (O.faults output.new)
+        (text_behind done number []) result }
+{
+    match done {
+        StepDone::WrongState => put_bad_line(alloc, number, output),
+        StepDone::Fine | StepDone::Full => Ok(()),
     }
 }
 
