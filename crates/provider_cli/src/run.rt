@@ -17,6 +17,7 @@ use octet_core::Sink;
 use station_config::{Site, SiteFault};
 use station_law::{StepDone, Stop, World};
 use std::alloc::Global;
+use std::mem;
 
 /// Runs a script line by line, up to the first bad line.
 pub fn run_script<O: Sink>(alloc: Global, script: &[u8], output: &mut O) -> Result<Status, Stop>
@@ -73,6 +74,8 @@ fn run_lines<O: Sink>(
         rest = behind;
         number += 1;
     }
+    // The program ends next, and the system takes what the world holds back at once.
+    mem::forget(world);
     Ok(status_at_end(true, fine))
 }
 
