@@ -1,5 +1,6 @@
 -- What holds of an archive on a disk in memory and of what is published, step by step.
-use Rattle.std.proofs.Common.{◌≡◌, ◌⊎◌, inl, inr, zero, suc, ℕ, ◌+◌, ◌-◌, Bool, true, false, not}
+use Rattle.std.proofs.Common.{◌≡◌, ◌⊎◌, inl, inr, zero, suc, ℕ, ◌+◌, ◌-◌, ◌≤◌, Bool, true, false}
+use Rattle.std.proofs.Common.{not}
 use Rattle.std.proofs.Common.{nat_le, nat_lt, if◌then◌else◌, IsTrue, Option, Some, None, option_map}
 use Rattle.std.proofs.Common.{List, [], ◌∷◌, ◌++◌, length, take, refl, sym, ap, subst, ◌∙◌, arith}
 use Rattle.std.proofs.Common.{Result, Ok, Err, OnErr}
@@ -9,14 +10,18 @@ use Rattle.std.proofs.lemmas.List.Sums.{sum_by_push}
 use Rattle.std.specs.List.{AllByRecursion, list_all}
 use Rattle.archive_terms.specs.Archive.{Entry, IsArchive, is_storable, is_ordered, is_short}
 use Rattle.archive_terms.specs.Archive.{keeps_order, is_in_order, last_time, frame_time, seal_time}
-use Rattle.record_form.specs.Entry.{entry_of, entries_of}
+use Rattle.record_form.specs.Entry.{entry_of}
 use Rattle.record_form.specs.Spelling.{entry_octets}
 use Rattle.record_form.specs.declared.entry.Entry as form
-use Rattle.disk_model.specs.Images.{Pending}
-use Rattle.disk_model.specs.MemoryDisk.{DiskState, pending_of}
+use Rattle.disk_model.specs.Images.{Pending, IsImage}
+use Rattle.disk_model.specs.Moments.{IsImageOf, HoldsThroughout}
+use Rattle.disk_model.specs.Calls.{AllMade}
+use Rattle.disk_model.specs.MemoryDisk.{DiskState, IsMadeCall, IsImageSince, pending_of, steered}
+use Rattle.disk_model.specs.declared.call.Call.{Call}
+use Rattle.disk_model.specs.declared.orders.Orders.{Orders}
 use Rattle.std.specs.Option.{IfSome}
-use Rattle.gate_journal.specs.File.{IsBatch, gated, joined, StandsAt, StandsFor}
-use Rattle.gate_journal.specs.Kept.{Keeps, IsOldOrNew}
+use Rattle.gate_journal.specs.File.{IsBatch, gated, joined, StandsAt, StandsFor, entries_octets}
+use Rattle.gate_journal.specs.Kept.{Keeps, IsOldOrNew, HasBatch}
 use Rattle.gate_journal.specs.declared.order.Times.{Times}
 use Rattle.frame_archive.specs.declared.fault.OfferFault.{OfferFault}
 use Rattle.frame_archive.specs.declared.fault.OfferFault.TheVariants as faults
@@ -28,26 +33,10 @@ use Rattle.frame_archive.specs.Faults.{IsRefusal}
 use Rattle.station_law.specs.declared.refusal.Refusal.{Refusal}
 use Rattle.station_law.specs.declared.refusal.Refusal.TheVariants as refusals
 use Rattle.station_law.specs.State.{State}
-use Rattle.station_law.specs.Entries.{need, used, free, refusal, stores, by_refusal, offer}
-use Rattle.station_law.specs.Held.{told_by, IsHeld, fault_of, IsOfOffer}
-use Rattle.station_law.specs.Stopped.{HoldsAlone, IsLeft}
-use Rattle.station_law.specs.State.{Seen}
-
--- nothing waits where none is counted
-pub none_waits : {X : Type 0} (xs : List X) → nat_lt 0 (length xs) ≡ false → xs ≡ []
-none_waits [] e = refl
-none_waits (x ∷ xs) e = absurd (grind (arith, e))
-
-pub none_taken : {X : Type 0} (n : ℕ) (xs : List X) → xs ≡ [] → take n xs ≡ []
-none_taken zero [] e = refl
-none_taken (suc n) [] e = refl
-none_taken n (x ∷ xs) e = absurd (let no : x ∷ xs ≡ [] = e in grind (arith, no))
-
--- the entries with one more
-pub entries-push : (entries : List form.Entry) (entry : form.Entry)
-    → entries_of (entries ++ entry ∷ []) ≡ entries_of entries ++ entry_of entry ∷ []
-entries-push [] entry = refl
-entries-push (e ∷ es) entry = ap (λ others. entry_of e ∷ others) (entries-push es entry)
+use Rattle.station_law.specs.Entries.{need, used, free, refusal}
+use Rattle.station_law.specs.Held.{told_by, IsAt, Rests, Takes, Waits, HoldsAllOrNone, fault_of}
+use Rattle.station_law.specs.Held.{IsOfOffer, IsUnsteered}
+use Rattle.station_law.proofs.Disks.{IsCalm, calm_after, at_end}
 
 -- ---- a file of no entries
 
@@ -65,34 +54,55 @@ empty_place place file stands =
     stands.leads.there ∙ ap (λ batches. 8 + length (gated batches)) none in
     omega (arith, there)
 
--- ---- an archive in which nothing waits
+-- ---- an archive that rests
 
-module _ (archive : ArchiveState DiskState) (published : List Entry) (times : Times)
-    (held : IsHeld archive published times) (rests : archive.waiting ≡ []) where
-  all_there : published ++ archive.waiting ≡ published
-  all_there = ap (λ xs. published ++ xs) rests ∙ append-nil published
+module _ (archive : ArchiveState DiskState) (entries : List Entry) (rests : Rests archive entries)
+  where
+    all_there : entries ++ archive.waiting ≡ entries
+    all_there = ap (λ xs. entries ++ xs) rests.waits ∙ append-nil entries
 
-  pub is_archive : IsArchive published
-  is_archive = subst IsArchive all_there held.acknowledges.agrees.archive
+    pub is_archive : IsArchive entries
+    is_archive = subst IsArchive all_there rests.acknowledges.agrees.archive
 
-  pub last_times : times ≡ times_of published
-  last_times = held.times_are ∙ held.acknowledges.agrees.last ∙ ap times_of all_there
+    pub last_times : archive.times ≡ times_of entries
+    last_times = rests.acknowledges.agrees.last ∙ ap times_of all_there
 
-  count_is : archive.count ≡ length published
-  count_is = sym held.acknowledges.agrees.counted
+    count_is : archive.count ≡ length entries
+    count_is = sym rests.acknowledges.agrees.counted
 
-stands_alone : (entries : List Entry) (image : List ℕ) → IsOldOrNew entries [] image
+    pub calm : IsCalm archive.disk
+    calm = record { runs = rests.runs; unsteered = rests.unsteered }
+
+-- where all is synced each image stands for what is kept
+abbrev pub AtRestStands : Type 0
+AtRestStands = (pending : Option Pending) (entries : List Entry) (image : List ℕ)
+    → Keeps pending entries → IsImageOf pending image → StandsFor entries image
+
+-- each image of its disk stands for its entries
+pub alone : AtRestStands → (archive : ArchiveState DiskState) (entries waiting : List Entry)
+    → IsAt archive entries waiting
+    → (image : List ℕ) → IsImage (pending_of archive.disk) image → StandsFor entries image
+alone law archive entries waiting at image is =
+    law (told_by archive.disk) entries image (at.acknowledges.kept at.fresh) is
+
+pub stands_alone : (entries : List Entry) (image : List ℕ) → IsOldOrNew entries [] image
     → StandsFor entries image
 stands_alone entries image (inl old) = old
 stands_alone entries image (inr new) =
     subst (λ (es : List Entry). StandsFor es image) (append-nil entries) new
 
--- each image of its disk stands for what is published
-pub holds_alone : (archive : ArchiveState DiskState) (published : List Entry) (times : Times)
-    → IsHeld archive published times → archive.waiting ≡ [] → HoldsAlone archive.disk published
-holds_alone archive published times held rests = λ image is.
-    stands_alone published image (subst (λ (batch : List Entry). IsOldOrNew published batch image)
-    (none_taken archive.failed archive.waiting rests) (held.acknowledges.images image is))
+pub none_stored : AtRestStands → (archive : ArchiveState DiskState) (entries waiting : List Entry)
+    → IsAt archive entries waiting → (batch : List Entry)
+    → HoldsAllOrNone archive.disk entries batch
+none_stored law archive entries waiting at batch image is =
+    inl (alone law archive entries waiting at image is)
+
+-- orders change nothing of what an archive has acknowledged
+pub steered_still : (archive : ArchiveState DiskState) (orders : Orders) (entries : List Entry)
+    → Acknowledges told_by archive entries
+    → Acknowledges told_by (record archive { disk = steered archive.disk orders }) entries
+steered_still archive orders entries old =
+    record { agrees = old.agrees; tells = old.tells; images = old.images; kept = old.kept }
 
 -- ---- refusals
 
@@ -137,36 +147,24 @@ room_of : (archive : ArchiveState DiskState) (count capacity octets : ℕ) → a
 room_of archive count capacity octets rests counted capacity_is used_is =
     rw (rests, counted, capacity_is, used_is, none_more, no_less) refl
 
-pub same_refusal : OrderIsSeen → (archive : ArchiveState DiskState) (published : List Entry)
-    (times : Times) → IsHeld archive published times → archive.waiting ≡ []
-    → (unsettled : List Entry) (clock : ℕ) (entry : Entry)
-    → archives.refusal archive entry ≡ option_map fault_of (refusal (record {
-      capacity = archive.capacity;
-      published = published;
-      unsettled = unsettled;
-      clock = clock;
-    }) entry)
-same_refusal seen archive published times held rests unsettled clock entry =
-    let state : State = record {
-      capacity = archive.capacity;
-      published = published;
-      unsettled = unsettled;
-      clock = clock;
-    } in
+pub same_refusal : OrderIsSeen → (archive : ArchiveState DiskState) (state : State)
+    → Rests archive state.published → archive.capacity ≡ state.capacity → (entry : Entry)
+    → archives.refusal archive entry ≡ option_map fault_of (refusal state entry)
+same_refusal seen archive state rests capacity entry =
+    let published = state.published in
     let parts = and_parts (list_all is_storable published) (is_ordered published)
-    (is_archive archive published times held rests) in
-    let last = sym held.times_are ∙ last_times archive published times held rests in
+    (is_archive archive published rests) in
     let ordered : is_in_order archive.times.frame archive.times.seal entry
     ≡ keeps_order published entry =
-    ap (λ (t : Times). is_in_order t.frame t.seal entry) last
+    ap (λ (t : Times). is_in_order t.frame t.seal entry) (last_times archive published rests)
     ∙ sym (seen published entry parts.1) in
     let few : nat_le 256 (length archive.waiting) ≡ false =
-    ap (λ (ws : List Entry). nat_le 256 (length ws)) rests in
+    ap (λ (ws : List Entry). nat_le 256 (length ws)) rests.waits in
     let wants : archives.need archive.waiting entry ≡ need entry =
-    ap (λ (ws : List Entry). archives.need ws entry) rests in
+    ap (λ (ws : List Entry). archives.need ws entry) rests.waits in
     let room : archives.free archive ≡ free state =
-    room_of archive (length published) archive.capacity (used published) rests
-    (sym held.acknowledges.agrees.counted) refl held.used_are in
+    room_of archive (length published) state.capacity (used published) rests.waits
+    (sym rests.acknowledges.agrees.counted) capacity rests.used_are in
     ap (λ o. chain_of o (is_short entry) (nat_le 256 (length archive.waiting))
     (archives.need archive.waiting entry) (archives.free archive)) ordered
     ∙ ap (λ m. chain_of (keeps_order published entry) (is_short entry) m
@@ -216,79 +214,136 @@ pub taken_so : (found : Option Refusal) → option_map fault_of found ≡ None �
 taken_so None e = refl
 taken_so (Some found) e = absurd cc
 
+-- why the archive refused an entry is why the world does
+pub cause_of : OrderIsSeen → (archive : ArchiveState DiskState) (state : State)
+    → Rests archive state.published → archive.capacity ≡ state.capacity
+    → (given entry : form.Entry) → given ≡ entry → (fault : OfferFault)
+    → IsRefusal (archives.refusal archive (entry_of given)) fault
+    → IsRefusal (option_map fault_of (refusal state (entry_of entry))) fault
+cause_of seen archive state rests capacity given entry same fault is =
+    subst (λ (r : Option OfferFault). IsRefusal r fault)
+    (same_refusal seen archive state rests capacity (entry_of entry))
+    (subst (λ (e : form.Entry). IsRefusal (archives.refusal archive (entry_of e)) fault) same is)
+
+pub none_of : OrderIsSeen → (archive : ArchiveState DiskState) (state : State)
+    → Rests archive state.published → archive.capacity ≡ state.capacity
+    → (given entry : form.Entry) → given ≡ entry
+    → archives.refusal archive (entry_of given) ≡ None → None ≡ refusal state (entry_of entry)
+none_of seen archive state rests capacity given entry same is =
+    sym (taken_so (refusal state (entry_of entry))
+    (sym (same_refusal seen archive state rests capacity (entry_of entry))
+    ∙ ap (λ (e : form.Entry). archives.refusal archive (entry_of e)) (sym same) ∙ is))
+
 -- ---- an entry more
 
-used_more : (entries : List Entry) (entry : Entry)
+pub used_more : (entries : List Entry) (entry : Entry)
     → used (entries ++ entry ∷ []) ≡ used entries + need entry
 used_more entries entry = let more = sum_by_push need entries entry in omega (arith, more)
 
+pub one_octets : (entry : Entry) → length (entries_octets (entry ∷ [])) ≡ length (entry_octets entry)
+one_octets entry = ap (λ (octets : List ℕ). length octets) (append-nil (entry_octets entry))
+
 wanted_one : (entry : Entry) → archives.wanted (entry ∷ []) ≡ need entry
-wanted_one entry = ap (λ octets. length octets + 7) (append-nil (entry_octets entry))
+wanted_one entry = ap (λ n. n + 7) (one_octets entry)
 
-pub held_more : (archive : ArchiveState DiskState) (published : List Entry) (times now : Times)
-    (entry : Entry) (offered stored : ArchiveState DiskState)
-    → IsHeld archive published times → archive.waiting ≡ []
-    → offered ≡ with_waiting archive entry → stored ≡ with_stored offered stored.disk
-    → now ≡ archives.times_after times entry
-    → Acknowledges told_by stored (published ++ offered.waiting)
-    → IsHeld stored (published ++ entry ∷ []) now
-held_more archive published times now entry offered stored held rests offered_is stored_is now_is
-    acknowledges =
-    let waits : offered.waiting ≡ entry ∷ [] =
-    ap (λ (a : ArchiveState DiskState). a.waiting) offered_is
-    ∙ ap (λ xs. xs ++ entry ∷ []) rests in
-    record {
-      acknowledges = subst (λ more. Acknowledges told_by stored (published ++ more)) waits
-          acknowledges;
-      used_are = ap (λ (a : ArchiveState DiskState). a.used) stored_is
-          ∙ ap (λ more. offered.used + archives.wanted more) waits
-          ∙ ap (λ n. offered.used + n) (wanted_one entry)
-          ∙ ap (λ (a : ArchiveState DiskState). a.used + need entry) offered_is
-          ∙ ap (λ n. n + need entry) held.used_are ∙ sym (used_more published entry);
-      times_are = now_is ∙ ap (λ t. archives.times_after t entry) held.times_are
-          ∙ sym (ap (λ (a : ArchiveState DiskState). a.times) offered_is)
-          ∙ sym (ap (λ (a : ArchiveState DiskState). a.times) stored_is);
-      rests = λ none. ap (λ (a : ArchiveState DiskState). a.is_stale) stored_is
-          ∙ ap (λ (a : ArchiveState DiskState). a.is_stale) offered_is ∙ held.rests rests;
-    }
-
-no_entry : (entry : Entry) → entry ∷ [] ≡ [] → ⊥
+pub no_entry : (entry : Entry) → entry ∷ [] ≡ [] → ⊥
 no_entry entry e = grind (arith, e)
 
--- an archive whose store failed, or was refused memory, still has acknowledged what it had
-pub held_failed : (archive : ArchiveState DiskState) (published : List Entry) (times now : Times)
-    (entry : Entry) (offered stored : ArchiveState DiskState)
-    → IsHeld archive published times → archive.waiting ≡ []
-    → offered ≡ with_waiting archive entry
-    → (stored ≡ offered) ⊎ (stored ≡ with_failed offered stored.disk)
-    → now ≡ archives.times_after times entry
-    → Acknowledges told_by stored published
-    → IsHeld stored published now
-held_failed archive published times now entry offered stored held rests offered_is stored_is now_is
-    acknowledges =
-    let waits : offered.waiting ≡ entry ∷ [] =
-    ap (λ (a : ArchiveState DiskState). a.waiting) offered_is
-    ∙ ap (λ xs. xs ++ entry ∷ []) rests in
-    let kept : (stored.used ≡ offered.used) × (stored.times ≡ offered.times)
-    × (stored.waiting ≡ offered.waiting) = elim stored_is [
-      | inl same ↦ (
-        ap (λ (a : ArchiveState DiskState). a.used) same,
-        ap (λ (a : ArchiveState DiskState). a.times) same,
-        ap (λ (a : ArchiveState DiskState). a.waiting) same,
-      )
-      | inr failed ↦ (
-        ap (λ (a : ArchiveState DiskState). a.used) failed,
-        ap (λ (a : ArchiveState DiskState). a.times) failed,
-        ap (λ (a : ArchiveState DiskState). a.waiting) failed,
-      )
-    ] in
+-- the same refusal by the same fields
+refuses_same : (one other : ArchiveState DiskState) (entry : Entry) → one.times ≡ other.times
+    → one.waiting ≡ other.waiting → one.count ≡ other.count → one.capacity ≡ other.capacity
+    → one.used ≡ other.used → archives.refusal one entry ≡ archives.refusal other entry
+refuses_same one other entry times waiting count capacity used_are =
+    let make : Times → List Entry → ℕ → ℕ → ℕ → ArchiveState DiskState = λ t w n c u. record one {
+      times = t;
+      waiting = w;
+      count = n;
+      capacity = c;
+      used = u;
+    } in
+    ap (λ t. archives.refusal (make t one.waiting one.count one.capacity one.used) entry) times
+    ∙ ap (λ w. archives.refusal (make other.times w one.count one.capacity one.used) entry) waiting
+    ∙ ap (λ n. archives.refusal (make other.times other.waiting n one.capacity one.used) entry)
+    count
+    ∙ ap (λ c. archives.refusal (make other.times other.waiting other.count c one.used) entry)
+    capacity
+    ∙ ap (λ u. archives.refusal (make other.times other.waiting other.count other.capacity u) entry)
+    used_are
+
+-- an archive that rests refuses what any other of its entries does
+pub takes_so : (archive : ArchiveState DiskState) (entries : List Entry) → Rests archive entries
+    → (entry : Entry)
+    → archives.refusal archive entry
+    ≡ archives.refusal (at_rest archive.disk archive.capacity (used entries) entries) entry
+takes_so archive entries rests entry = refuses_same archive
+    (at_rest archive.disk archive.capacity (used entries) entries) entry
+    (last_times archive entries rests) rests.waits (count_is archive entries rests) refl
+    rests.used_are
+
+-- an entry was offered, and taken
+pub waits_now : (archive offered : ArchiveState DiskState) (entries : List Entry) (entry : Entry)
+    → Rests archive entries → archives.refusal archive entry ≡ None
+    → offered ≡ with_waiting archive entry → Acknowledges told_by offered entries
+    → Waits offered entries entry
+waits_now archive offered entries entry rests taken is acknowledges =
+    subst (λ (a : ArchiveState DiskState). Waits a entries entry) (sym is) (record {
+      is_at = record {
+        acknowledges = subst (λ (a : ArchiveState DiskState). Acknowledges told_by a entries) is
+            acknowledges;
+        waits = ap (λ xs. xs ++ entry ∷ []) rests.waits;
+        fresh = rests.fresh;
+        used_are = rests.used_are;
+        runs = rests.runs;
+        unsteered = rests.unsteered;
+      };
+      taken = sym (takes_so archive entries rests entry) ∙ taken;
+    })
+
+-- during its store, and also where that fails, the file holds it or not
+pub store_images : (archive now : ArchiveState DiskState) (entries : List Entry) (entry : Entry)
+    → Waits archive entries entry
+    → HoldsThroughout (λ (d : DiskState). length d.log) IsImageSince archive.disk now.disk
+    (IsOldOrNew entries archive.waiting)
+    → HoldsAllOrNone now.disk entries (entry ∷ [])
+store_images archive now entries entry waits holds image is =
+    subst (λ (batch : List Entry). IsOldOrNew entries batch image) waits.is_at.waits
+    (at_end archive.disk now.disk (IsOldOrNew entries archive.waiting) holds image is)
+
+-- it was stored
+pub stored_now : (archive stored : ArchiveState DiskState) (entries : List Entry) (entry : Entry)
+    (calls : List Call) → Waits archive entries entry → stored ≡ with_stored archive stored.disk
+    → Acknowledges told_by stored (entries ++ archive.waiting)
+    → (1 ≤ length archive.waiting → AllMade IsMadeCall archive.disk calls stored.disk)
+    → Rests stored (entries ++ entry ∷ [])
+stored_now archive stored entries entry calls waits is acknowledges made =
+    let at = waits.is_at in
+    let some : 1 ≤ length archive.waiting =
+    subst (λ (ws : List Entry). 1 ≤ length ws) (sym at.waits) (omega arith) in
+    let calm = calm_after calls archive.disk stored.disk
+    (record { runs = at.runs; unsteered = at.unsteered }) (made some) in
     record {
-      acknowledges = acknowledges;
-      used_are = kept.0 ∙ ap (λ (a : ArchiveState DiskState). a.used) offered_is ∙ held.used_are;
-      times_are = now_is ∙ ap (λ t. archives.times_after t entry) held.times_are
-          ∙ sym (ap (λ (a : ArchiveState DiskState). a.times) offered_is) ∙ sym kept.1;
-      rests = λ none. absurd (no_entry entry (sym waits ∙ sym kept.2 ∙ none));
+      acknowledges = subst (λ more. Acknowledges told_by stored (entries ++ more)) at.waits
+          acknowledges;
+      waits = ap (λ (a : ArchiveState DiskState). a.waiting) is;
+      fresh = ap (λ (a : ArchiveState DiskState). a.is_stale) is ∙ at.fresh;
+      used_are = ap (λ (a : ArchiveState DiskState). a.used) is
+          ∙ ap (λ more. archive.used + archives.wanted more) at.waits
+          ∙ ap (λ n. archive.used + n) (wanted_one entry)
+          ∙ ap (λ n. n + need entry) at.used_are ∙ sym (used_more entries entry);
+      runs = calm.runs;
+      unsteered = calm.unsteered;
     }
+
+-- the file of an archive with an entry more, or without it
+pub stands_at : (has : Bool) (entries : List Entry) (entry : Entry) (file : List ℕ)
+    → HasBatch has entries (entry ∷ []) (used entries - 1) file
+    → StandsAt (if has then entries ++ entry ∷ [] else entries)
+    (used (if has then entries ++ entry ∷ [] else entries) - 1) file
+stands_at true entries entry file stands =
+    let more = used_more entries entry in
+    let octets = one_octets entry in
+    subst (λ (n : ℕ). StandsAt (entries ++ entry ∷ []) n file) (omega (arith, more, octets)) stands
+stands_at false entries entry file stands = stands
 
 -- last times by their fields
 pub times_by : (t : Times) (f s : Option ℕ) → t.frame ≡ f → t.seal ≡ s
@@ -299,149 +354,6 @@ times_by t f s is_frame is_seal =
     let two : record { frame = f; seal = t.seal } ≡ record { frame = f; seal = s } =
     ap (λ (x : Option ℕ). record { frame = f; seal = x }) is_seal in
     one ∙ two
-
--- ---- what an entry's line leaves
-
-pub cause_of : OrderIsSeen → (archive : ArchiveState DiskState) (published : List Entry)
-    (times : Times) → IsHeld archive published times → archive.waiting ≡ []
-    → (unsettled : List Entry) (clock : ℕ) (given entry : form.Entry) → given ≡ entry
-    → (fault : OfferFault) → IsRefusal (archives.refusal archive (entry_of given)) fault
-    → IsRefusal (option_map fault_of (refusal (record {
-      capacity = archive.capacity;
-      published = published;
-      unsettled = unsettled;
-      clock = clock;
-    }) (entry_of entry))) fault
-cause_of seen archive published times held rests unsettled clock given entry same fault is =
-    subst (λ found. IsRefusal found fault)
-    (same_refusal seen archive published times held rests unsettled clock (entry_of entry))
-    (subst (λ (e : form.Entry). IsRefusal (archives.refusal archive (entry_of e)) fault) same is)
-
-pub none_of : OrderIsSeen → (archive : ArchiveState DiskState) (published : List Entry)
-    (times : Times) → IsHeld archive published times → archive.waiting ≡ []
-    → (unsettled : List Entry) (clock : ℕ) (given entry : form.Entry) → given ≡ entry
-    → archives.refusal archive (entry_of given) ≡ None
-    → None ≡ refusal (record {
-      capacity = archive.capacity;
-      published = published;
-      unsettled = unsettled;
-      clock = clock;
-    }) (entry_of entry)
-none_of seen archive published times held rests unsettled clock given entry same is =
-    sym (taken_so _ (sym (same_refusal seen archive published times held rests unsettled clock
-    (entry_of entry)) ∙ ap (λ (e : form.Entry). archives.refusal archive (entry_of e)) (sym same)
-    ∙ is))
-
-pub refused_next : (state : State) (entry : Entry) (why : Refusal) → Some why ≡ refusal state entry
-    → state ≡ (offer state entry).next
-refused_next state entry why is = ap (λ found. (by_refusal state entry found).next) is
-
-pub stored_next : (state : State) (entry : Entry) → None ≡ refusal state entry
-    → (stores state entry).next ≡ (offer state entry).next
-stored_next state entry is = ap (λ found. (by_refusal state entry found).next) is
-
--- the state of what was stored
-pub stored_state : (archive offered stored : ArchiveState DiskState) (entry : Entry)
-    (published now : List Entry) (clock : ℕ) → archive.waiting ≡ []
-    → offered ≡ with_waiting archive entry → stored ≡ with_stored offered stored.disk
-    → now ≡ published ++ entry ∷ []
-    → record {
-      capacity = stored.capacity;
-      published = now;
-      unsettled = failed_batch stored;
-      clock = clock;
-    } ≡ (stores (record {
-      capacity = archive.capacity;
-      published = published;
-      unsettled = failed_batch archive;
-      clock = clock;
-    }) entry).next
-stored_state archive offered stored entry published now clock rests offered_is stored_is now_is =
-    let capacity : stored.capacity ≡ archive.capacity =
-    ap (λ (a : ArchiveState DiskState). a.capacity) stored_is
-    ∙ ap (λ (a : ArchiveState DiskState). a.capacity) offered_is in
-    let unsettled : failed_batch stored ≡ failed_batch archive =
-    none_taken stored.failed stored.waiting
-    (ap (λ (a : ArchiveState DiskState). a.waiting) stored_is)
-    ∙ sym (none_taken archive.failed archive.waiting rests) in
-    let make : ℕ → List Entry → List Entry → State = λ c p u. record {
-      capacity = c;
-      published = p;
-      unsettled = u;
-      clock = clock;
-    } in
-    ap (λ c. make c now (failed_batch stored)) capacity
-    ∙ ap (λ p. make archive.capacity p (failed_batch stored)) now_is
-    ∙ ap (λ u. make archive.capacity (published ++ entry ∷ []) u) unsettled
-
--- ---- a new archive
-
--- what is kept is what a recovery finds
-abbrev pub FindsKept : Type 0
-FindsKept = (pending : Option Pending) (entries found : List Entry) (gate : ℕ)
-    → Keeps pending entries → IfSome pending (λ told. StandsAt found gate told.content)
-    → found ≡ entries
-
--- an archive on a disk that was just made has acknowledged nothing
-pub held_new : FindsKept → (made opened : DiskState) → opened ≡ made → Keeps (told_by made) []
-    → (capacity : ℕ) (entries : List Entry) (archive : ArchiveState DiskState)
-    → archive ≡ at_rest archive.disk capacity archive.used entries
-    → Uses entries archive.used (pending_of opened).content
-    → Acknowledges told_by archive entries
-    → IsHeld archive [] (record { frame = None; seal = None })
-held_new finds made opened same keeps capacity entries archive rests uses acknowledges =
-    let there : Uses entries archive.used (pending_of made).content =
-    subst (λ (disk : DiskState). Uses entries archive.used (pending_of disk).content) same uses in
-    let none : entries ≡ [] = finds (told_by made) [] entries there.0 keeps there.2 in
-    let place : there.0 ≡ 8 = empty_place there.0 (pending_of made).content
-    (subst (λ found. StandsAt found there.0 (pending_of made).content) none there.2) in
-    record {
-      acknowledges = subst (λ found. Acknowledges told_by archive found) none acknowledges;
-      used_are = omega (arith, there.1, place);
-      times_are = sym (ap (λ (a : ArchiveState DiskState). a.times) rests ∙ ap times_of none);
-      rests = λ waits. ap (λ (a : ArchiveState DiskState). a.is_stale) rests;
-    }
-
--- ---- what a store leaves that is refused memory
-
--- the entry waits, and was given to a store that failed or to none
-pub left_unsettled : (archive offered stored : ArchiveState DiskState) (entry : Entry)
-    → archive.waiting ≡ [] → offered ≡ with_waiting archive entry
-    → failed_batch offered ≡ failed_batch archive
-    → (stored ≡ offered) ⊎ (stored ≡ with_failed offered stored.disk)
-    → (failed_batch stored ≡ failed_batch archive) ⊎ (failed_batch stored ≡ entry ∷ [])
-left_unsettled archive offered stored entry rests is same (inl still) =
-    inl (ap failed_batch still ∙ same)
-left_unsettled archive offered stored entry rests is same (inr failed) =
-    let waits : offered.waiting ≡ entry ∷ [] =
-    ap (λ (a : ArchiveState DiskState). a.waiting) is
-    ∙ ap (λ xs. xs ++ entry ∷ []) rests in
-    inr (ap failed_batch failed ∙ ap (λ (ws : List Entry). take (length ws) ws) waits)
-
-pub left_capacity : (archive offered stored : ArchiveState DiskState) (entry : Entry)
-    → offered ≡ with_waiting archive entry
-    → (stored ≡ offered) ⊎ (stored ≡ with_failed offered stored.disk)
-    → stored.capacity ≡ archive.capacity
-left_capacity archive offered stored entry is (inl still) =
-    ap (λ (a : ArchiveState DiskState). a.capacity) still
-    ∙ ap (λ (a : ArchiveState DiskState). a.capacity) is
-left_capacity archive offered stored entry is (inr failed) =
-    ap (λ (a : ArchiveState DiskState). a.capacity) failed
-    ∙ ap (λ (a : ArchiveState DiskState). a.capacity) is
-
--- nothing was done
-pub left_same : (before : Seen) (given : List Entry) → IsLeft before given before
-left_same before given = record {
-  published = refl;
-  capacity = refl;
-  clock = refl;
-  unsettled = inl refl;
-}
-
--- an entry that isn't refused was given to a store
-pub given_is : (state : State) (entry : Entry) → None ≡ refusal state entry
-    → entry ∷ [] ≡ (offer state entry).given
-given_is state entry is = ap (λ found. (by_refusal state entry found).given) is
 
 -- what holds whatever an error is
 pub on_err : {T E P : Type 0} (result : Result T E) → P → OnErr result P

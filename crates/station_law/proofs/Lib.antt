@@ -4,4 +4,8 @@ pub mod Turns
 pub mod Messages
 pub mod Each
 pub mod Readable
+pub mod Disks
 pub mod Held
+pub mod Striking
+pub mod Reopening
+pub mod Worlds

@@ -1,6 +1,6 @@
 -- An entry is offered to the archive, stored as a batch of its own, and published. The octets and
 -- limits are this product's own.
-use Rattle.std.specs.Prelude.{ℕ, ◌+◌, ◌-◌, false, not, nat_le, nat_lt, if◌then◌else◌}
+use Rattle.std.specs.Prelude.{ℕ, ◌+◌, ◌-◌, true, false, not, nat_le, nat_lt, if◌then◌else◌}
 use Rattle.std.specs.Prelude.{Option, Some, None, List, [], ◌∷◌, ◌++◌, length}
 use Rattle.std.specs.List.{sum_by}
 use Rattle.archive_terms.specs.Archive.{Entry, keeps_order, is_short}
@@ -9,8 +9,13 @@ use Rattle.station_law.specs.declared.refusal.Refusal.{Refusal}
 use Rattle.station_law.specs.declared.refusal.Refusal.TheVariants as refusals
 use Rattle.station_law.specs.declared.step_done.StepDone.{StepDone}
 use Rattle.station_law.specs.declared.step_done.StepDone.TheVariants.{Fine, Full}
+use Rattle.station_law.specs.declared.order.Order.{Order}
+use Rattle.station_law.specs.declared.order.Strike.{Strike}
+use Rattle.station_law.specs.declared.order.Strike.TheVariants.{Stop, Fail}
 use Rattle.station_law.specs.State.{State}
-use Rattle.station_law.specs.Said.{told, Notice, backward, too_long, full}
+use Rattle.station_law.specs.Orders.{is_hit, behind_store, found}
+use Rattle.station_law.specs.Said.{told, Notice, backward, too_long, full, fault, crash, archive}
+use Rattle.station_law.specs.Said.{Said}
 use Rattle.station_law.specs.Answer.{Answer, ends}
 
 -- how many octets of the file an entry wants as a batch of its own: its own, and 7
@@ -46,6 +51,10 @@ abbrev pub done_of : Refusal → StepDone
 done_of (refusals.Full wanted left) = Full
 done_of _ = Fine
 
+-- what is told of an archive that was opened again: why, and how many entries it has
+abbrev pub opened : Notice → List Entry → List Said
+opened why entries = told why ∷ told (archive (length entries)) ∷ []
+
 -- the entry is acknowledged and published
 abbrev pub stores : State → Entry → Answer
 stores state entry = record {
@@ -56,8 +65,41 @@ stores state entry = record {
   next = record state { published = state.published ++ entry ∷ [] };
 }
 
+-- The power fails in the entry's store. What the file holds once the archive is opened again is all
+-- that is published: the entry isn't offered again.
+abbrev pub crashes : State → Entry → List Entry → Answer
+crashes state entry there = record {
+  said = opened crash there;
+  given = entry ∷ [];
+  recovers = true;
+  done = Fine;
+  next = record state { published = there; order = None };
+}
+
+-- A call of the entry's store fails. The archive is opened again, and the entry is acknowledged,
+-- since it is offered and stored once more where the file doesn't hold it.
+abbrev pub fails : State → Entry → List Entry → Answer
+fails state entry there = record {
+  said = opened fault there;
+  given = entry ∷ [];
+  recovers = false;
+  done = Fine;
+  next = record state { published = state.published ++ entry ∷ []; order = None };
+}
+
+abbrev pub struck : State → Entry → List Entry → Strike → Answer
+struck state entry there (Stop pick) = crashes state entry there
+struck state entry there Fail = fails state entry there
+
+-- the entry is stored while this order stands for the disk
+abbrev pub stores_under : State → Entry → Option Order → Answer
+stores_under state entry None = stores state entry
+stores_under state entry (Some order) =
+    if is_hit order then struck state entry (found order state.published entry) order.strike
+    else stores (record state { order = behind_store order }) entry
+
 abbrev pub by_refusal : State → Entry → Option Refusal → Answer
-by_refusal state entry None = stores state entry
+by_refusal state entry None = stores_under state entry state.order
 by_refusal state entry (Some why) = ends (done_of why) (told (notice_of why) ∷ []) state
 
 -- what the line of an entry answers

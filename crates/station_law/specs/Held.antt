@@ -1,14 +1,19 @@
 -- What holds of the parts of each world: its archive on a disk in memory has acknowledged what is
 -- published, and nothing else.
-use Rattle.std.specs.Prelude.{◌≡◌, false, Option, Some, List, []}
+use Rattle.std.specs.Prelude.{◌≡◌, ℕ, ◌<◌, Bool, false, Option, Some, None, IfSome, List, [], ◌∷◌}
 use Rattle.archive_terms.specs.Archive.{Entry}
-use Rattle.disk_model.specs.Images.{Pending}
+use Rattle.record_form.specs.Entry.{entry_of}
+use Rattle.record_form.specs.declared.entry.Entry as form
+use Rattle.disk_model.specs.Images.{Pending, IsImage}
 use Rattle.disk_model.specs.MemoryDisk.{DiskState, pending_of}
+use Rattle.gate_journal.specs.Kept.{IsOldOrNew}
 use Rattle.gate_journal.specs.declared.order.Times.{Times}
 use Rattle.frame_archive.specs.declared.fault.OfferFault.{OfferFault}
 use Rattle.frame_archive.specs.declared.fault.OfferFault.TheVariants as faults
-use Rattle.frame_archive.specs.State.{ArchiveState}
+use Rattle.frame_archive.specs.State.{ArchiveState, times_of, at_rest}
+use Rattle.frame_archive.specs.State as archives
 use Rattle.frame_archive.specs.Held.{Acknowledges}
+use Rattle.station_law.specs.declared.order.Order.{Order}
 use Rattle.station_law.specs.declared.refusal.Refusal.{Refusal}
 use Rattle.station_law.specs.declared.refusal.Refusal.TheVariants as refusals
 use Rattle.station_law.specs.Entries.{used}
@@ -17,14 +22,62 @@ use Rattle.station_law.specs.Entries.{used}
 abbrev pub told_by : DiskState → Option Pending
 told_by disk = Some (pending_of disk)
 
--- The archive has acknowledged what is published, each entry in a batch of its own, and nothing
--- else; these are its last times; and where no entry waits no store has failed.
-pub record IsHeld (archive : ArchiveState DiskState) (published : List Entry) (times : Times)
+-- a disk that has no orders, and was refused no memory
+pub record IsUnsteered (disk : DiskState) : Type 0 where
+  pub goes_on : disk.stop ≡ None
+  pub succeeds : disk.calls.failing ≡ []
+  pub ample : disk.memory_refused ≡ false
+
+-- An archive has acknowledged these entries, each in a batch of its own, and takes a store; these
+-- wait; and its disk runs, and has no orders.
+pub record IsAt (archive : ArchiveState DiskState) (entries waiting : List Entry) : Type 0 where
+  pub acknowledges : Acknowledges told_by archive entries
+  pub waits : archive.waiting ≡ waiting
+  pub fresh : archive.is_stale ≡ false
+  pub used_are : archive.used ≡ used entries
+  pub runs : archive.disk.stopped ≡ None
+  pub unsteered : IsUnsteered archive.disk
+
+-- no entry waits
+abbrev pub Rests : ArchiveState DiskState → List Entry → Type 0
+Rests archive entries = IsAt archive entries []
+
+-- an archive of such a file, with such entries, takes a further one
+abbrev pub Takes : ArchiveState DiskState → List Entry → Entry → Type 0
+Takes archive entries entry =
+    archives.refusal (at_rest archive.disk archive.capacity (used entries) entries) entry ≡ None
+
+-- one entry waits, which was taken
+pub record Waits (archive : ArchiveState DiskState) (entries : List Entry) (entry : Entry)
     : Type 0 where
-  pub acknowledges : Acknowledges told_by archive published
-  pub used_are : archive.used ≡ used published
-  pub times_are : times ≡ archive.times
-  pub rests : archive.waiting ≡ [] → archive.is_stale ≡ false
+  pub is_at : IsAt archive entries (entry ∷ [])
+  pub taken : Takes archive entries entry
+
+-- each image of a disk stands for the entries, or for them and a batch, whole
+abbrev pub HoldsAllOrNone : DiskState → List Entry → List Entry → Type 0
+HoldsAllOrNone disk entries batch =
+    (image : List ℕ) → IsImage (pending_of disk) image → IsOldOrNew entries batch image
+
+-- the entry of a store that isn't over
+abbrev pub begun_list : Option form.Entry → List Entry
+begun_list None = []
+begun_list (Some entry) = entry_of entry ∷ []
+
+-- A world between two lines: its archive has acknowledged what is published, of which these are the
+-- last times, and no store is begun.
+pub record IsReady (archive : ArchiveState DiskState) (published : List Entry) (times : Times)
+    (begun : Option form.Entry) : Type 0 where
+  pub rests : Rests archive published
+  pub times_are : times ≡ times_of published
+  pub none_begun : begun ≡ None
+
+-- Each world is between two lines unless it is spent, and a recovery finds what is published and of
+-- a store that isn't over all or nothing; an order that stands is for a call to come.
+pub record IsHeld (archive : ArchiveState DiskState) (published : List Entry) (times : Times)
+    (begun : Option form.Entry) (order : Option Order) (is_spent : Bool) : Type 0 where
+  pub ready : is_spent ≡ false → IsReady archive published times begun
+  pub images : HoldsAllOrNone archive.disk published (begun_list begun)
+  pub to_come : IfSome order (λ o. 0 < o.calls)
 
 -- the same refusal, as the archive tells it
 abbrev pub fault_of : Refusal → OfferFault

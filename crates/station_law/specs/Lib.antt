@@ -1,4 +1,5 @@
 pub mod State
+pub mod Orders
 pub mod Said
 pub mod Answer
 pub mod Sound
@@ -8,12 +9,16 @@ pub mod Output
 pub mod Steps
 pub mod Entries
 pub mod EntriesFacts
+pub mod Outcomes
+pub mod Power
+pub mod PowerFacts
 pub mod Desk
 pub mod DeskFacts
 pub mod Buffers
 pub mod Readable
 pub mod Pass
 pub mod Held
+pub mod Storing
 pub mod Stopped
 pub mod Lines
 pub mod LinesFacts

@@ -6,6 +6,7 @@ use Rattle.archive_terms.specs.Archive as terms
 use Rattle.record_form.specs.Entry.{entry_of}
 use Rattle.drill_text.specs.declared.script_line.ScriptLine.{ScriptLine}
 use Rattle.drill_text.specs.declared.script_line.ScriptLine.TheVariants.{Skip, Offer, Desk, Clock}
+use Rattle.drill_text.specs.declared.script_line.ScriptLine.TheVariants.{Crash, Fault}
 use Rattle.drill_text.specs.Reading.{reading}
 use Rattle.station_law.specs.State.{State}
 use Rattle.station_law.specs.Answer.{is_wrong}
@@ -16,6 +17,8 @@ use Rattle.station_law.specs.EntriesFacts.{Grows, leaves_all}
 use Rattle.station_law.specs.EntriesFacts as entries
 use Rattle.station_law.specs.DeskFacts.{Delivers}
 use Rattle.station_law.specs.DeskFacts as desk
+use Rattle.station_law.specs.Orders.{pick_of}
+use Rattle.station_law.specs.PowerFacts.{crash_facts, fault_facts}
 use Rattle.station_law.specs.Lines.{step, step_read, step_text}
 
 -- the laws that the lines rest on
@@ -40,6 +43,8 @@ module _ (laws : Laws) where
       desk.facts laws.delivers state start stop quality sound
   facts state (Clock at) sound =
       leaves_all state (step state (Clock at)).next _ [] refl refl (λ starts. refl) refl sound
+  facts state (Crash k pick) sound = crash_facts state sound k (pick_of pick)
+  facts state (Fault k) sound = fault_facts state sound k
   facts state _ sound = wrong state sound
 
   facts_read : (state : State) (line : Option ScriptLine) → IsSound state

@@ -19,17 +19,24 @@ use Rattle.drill_text.specs.Transcript as forms
 abbrev pub Told : Type 0
 Told = List (Item × Option ℤ)
 
--- a line of the transcript that hands nothing over: why an entry or a START is refused
+-- a line of the transcript that hands nothing over: why an entry or a START is refused; that a store
+-- failed; that the power did; and how many entries the archive has once it is opened again
 pub data Notice : Type 0 where
   backward : Notice
   too_long : Notice
   full : ℕ → ℕ → Notice
+  fault : Notice
+  crash : Notice
+  archive : ℕ → Notice
   refused : Notice
 
 abbrev pub says_of : Notice → Says transcript
 says_of backward = (forms.backward, tt)
 says_of too_long = (forms.too, tt)
 says_of (full need free) = (forms.full, (need, free))
+says_of fault = (forms.fault, tt)
+says_of crash = (forms.crash, tt)
+says_of (archive entries) = (forms.archive, entries)
 says_of refused = (forms.refused, tt)
 
 -- such a line; a START begins on a connection; or an offer of a buffer was taken whole on it. The

@@ -13,12 +13,17 @@
 mod desk;
 pub mod laws;
 mod moment;
+mod order;
+mod outcome;
 mod put;
 mod refusal;
 mod step_done;
 mod stop;
+mod storing;
 mod world;
 
+pub use order::{Order, Strike};
+pub use outcome::Outcome;
 pub use refusal::Refusal;
 pub use step_done::StepDone;
 pub use stop::Stop;

@@ -1,198 +1,300 @@
-use Rattle.std.proofs.Common.{◌≡◌, ◌⊎◌, inl, inr, false, nat_lt, length, List, [], ◌∷◌, ◌++◌, ap}
-use Rattle.std.proofs.Common.{◌∙◌, ⊎_elim, refl}
-use Rattle.std.proofs.lemmas.Bool.{false≢true}
-use Rattle.record_form.specs.Entry.{entry_of, entries_of}
+use Rattle.std.proofs.Common.{◌≡◌, ap, sym, subst, refl, ◌∙◌, List, [], ◌∷◌, None, Some, nat_lt}
+use Rattle.std.proofs.Common.{length}
+use Rattle.archive_terms.specs.Archive.{Entry}
+use Rattle.record_form.specs.Entry.{entry_of}
 use Rattle.record_form.specs.declared.entry.Entry as form
 use Rattle.disk_model.specs.MemoryDisk.{DiskState}
-use Rattle.frame_archive.specs.State.{ArchiveState, failed_batch, times_after, with_waiting}
-use Rattle.frame_archive.specs.State.{with_failed}
-use Rattle.station_law.proofs.Held.{none_waits, refused_so, is_of_offer, held_more, held_failed}
-use Rattle.station_law.proofs.Held.{entries-push, times_by, cause_of, none_of, refused_next}
-use Rattle.station_law.proofs.Held.{stored_next, stored_state, left_unsettled, left_capacity}
-use Rattle.station_law.proofs.Held.{left_same, given_is, on_err}
+use Rattle.frame_archive.specs.State.{ArchiveState}
+use Rattle.station_law.specs.State.{State}
+use Rattle.station_law.specs.Answer.{Answer}
+use Rattle.station_law.specs.Entries.{refusal, stores_under}
+use Rattle.station_law.specs.Held.{begun_list, Rests, Waits, HoldsAllOrNone}
+use Rattle.station_law.specs.Storing.{published_by}
+use Rattle.station_law.proofs.Held.{cause_of, none_of, is_of_offer, waits_now, on_err}
+use Rattle.station_law.proofs.Held as held
+use Rattle.station_law.proofs.Worlds.{held_spent, held_next, times_next, next_published, done_now}
+use Rattle.station_law.proofs.Worlds.{still_to_come, done_is, stored_so, settled_images, left_begun}
+use Rattle.station_law.proofs.Worlds.{refused_so}
 use Rattle.station_law.proofs.world.World.offer.Goals as goal
-
-pub invariant_of-self : goal.invariant_of-self
-invariant_of-self c = rw c.in_err-reserve.ensures.items c.self.invariant
 
 pub of-requires : goal.of-requires
 of-requires c =
-    let rests : c.self.inside.archive.waiting ≡ [] =
-    none_waits c.self.inside.archive.waiting (rw (← c.self.view_is) at c.requires.ready) in
-    is_of_offer _ c.in-Err.fault (cause_of c.follows_by_last_times.ensures.order
-    c.self.inside.archive (entries_of c.self.inside.published.items) c.self.inside.times
-    c.self.invariant rests [] 0 c.in_ok-given.given c.args.entry.now c.in_ok-given.ensures
-    c.in-Err.fault c.in-Err.ensures.cause)
+    let ready = c.self.invariant.ready (rw (← c.self.view_is) at c.requires.ready) in
+    let before : State = record {
+      capacity = c.self.inside.archive.capacity;
+      published = c.self.inside.published;
+      unsettled = begun_list c.self.inside.begun;
+      order = c.self.inside.order;
+      clock = c.self.inside.clock;
+    } in
+    is_of_offer (refusal before (entry_of c.args.entry.now)) c.in-Err.fault
+    (cause_of c.follows_by_last_times.ensures.order c.self.inside.archive before ready.rests refl
+    c.in_ok-given.given c.args.entry.now c.in_ok-given.ensures c.in-Err.fault
+    c.in-Err.ensures.cause)
 
-pub invariant_of-self-in_err-of : goal.invariant_of-self-in_err-of
-invariant_of-self-in_err-of c =
-    rw (c.in-Err.ensures.unchanged, c.in_ok-reserve.ensures.items) c.self.invariant
+pub returns-in-Err-clause-said : goal.returns-in-Err-clause-said
+returns-in-Err-clause-said c =
+    let ready = c.self.invariant.ready (rw (← c.self.view_is) at c.requires.ready) in
+    let before : State = record {
+      capacity = c.self.inside.archive.capacity;
+      published = c.self.inside.published;
+      unsettled = begun_list c.self.inside.begun;
+      order = c.self.inside.order;
+      clock = c.self.inside.clock;
+    } in
+    let why = held.refused_so (refusal before (entry_of c.args.entry.now)) c.in-Err.fault
+    c.in_ok-of.field-0 (cause_of c.follows_by_last_times.ensures.order c.self.inside.archive before
+    ready.rests refl c.in_ok-given.given c.args.entry.now c.in_ok-given.ensures c.in-Err.fault
+    c.in-Err.ensures.cause) c.in_ok-of.ensures.ok in
+    rw (← c.self.view_is) (ap (λ (a : Answer). a.said)
+    (refused_so before (entry_of c.args.entry.now) c.in_ok-of.field-0 why))
 
-pub invariant_of-self-in-Err : goal.invariant_of-self-in-Err
-invariant_of-self-in-Err c =
-    rw (c.in-Err.ensures.unchanged, c.in_ok-reserve.ensures.items) c.self.invariant
-
-pub returns-in-Err-clause-why : goal.returns-in-Err-clause-why
-returns-in-Err-clause-why c =
-    let rests : c.self.inside.archive.waiting ≡ [] =
-    none_waits c.self.inside.archive.waiting (rw (← c.self.view_is) at c.requires.ready) in
-    rw (← c.self.view_is) (refused_so _ c.in-Err.fault c.in_ok-of.field-0
-    (cause_of c.follows_by_last_times.ensures.order
-    c.self.inside.archive (entries_of c.self.inside.published.items) c.self.inside.times
-    c.self.invariant rests (failed_batch c.self.inside.archive) c.self.inside.clock
-    c.in_ok-given.given c.args.entry.now c.in_ok-given.ensures
-    c.in-Err.fault c.in-Err.ensures.cause) c.in_ok-of.ensures.ok)
+pub returns-in-Err-clause-done : goal.returns-in-Err-clause-done
+returns-in-Err-clause-done c =
+    let ready = c.self.invariant.ready (rw (← c.self.view_is) at c.requires.ready) in
+    let before : State = record {
+      capacity = c.self.inside.archive.capacity;
+      published = c.self.inside.published;
+      unsettled = begun_list c.self.inside.begun;
+      order = c.self.inside.order;
+      clock = c.self.inside.clock;
+    } in
+    let why = held.refused_so (refusal before (entry_of c.args.entry.now)) c.in-Err.fault
+    c.in_ok-of.field-0 (cause_of c.follows_by_last_times.ensures.order c.self.inside.archive before
+    ready.rests refl c.in_ok-given.given c.args.entry.now c.in_ok-given.ensures c.in-Err.fault
+    c.in-Err.ensures.cause) c.in_ok-of.ensures.ok in
+    rw (← c.self.view_is) (ap (λ (a : Answer). a.done)
+    (refused_so before (entry_of c.args.entry.now) c.in_ok-of.field-0 why))
 
 pub returns-in-Err-clause-next : goal.returns-in-Err-clause-next
 returns-in-Err-clause-next c =
-    let rests : c.self.inside.archive.waiting ≡ [] =
-    none_waits c.self.inside.archive.waiting (rw (← c.self.view_is) at c.requires.ready) in
-    rw (c.in-Err.ensures.unchanged, c.in_ok-reserve.ensures.items, ← c.self.view_is)
-    (refused_next _ (entry_of c.args.entry.now) c.in_ok-of.field-0
-    (refused_so _ c.in-Err.fault c.in_ok-of.field-0
-    (cause_of c.follows_by_last_times.ensures.order
-    c.self.inside.archive (entries_of c.self.inside.published.items) c.self.inside.times
-    c.self.invariant rests (failed_batch c.self.inside.archive) c.self.inside.clock
-    c.in_ok-given.given c.args.entry.now c.in_ok-given.ensures
-    c.in-Err.fault c.in-Err.ensures.cause) c.in_ok-of.ensures.ok))
+    let ready = c.self.invariant.ready (rw (← c.self.view_is) at c.requires.ready) in
+    let before : State = record {
+      capacity = c.self.inside.archive.capacity;
+      published = c.self.inside.published;
+      unsettled = begun_list c.self.inside.begun;
+      order = c.self.inside.order;
+      clock = c.self.inside.clock;
+    } in
+    let why = held.refused_so (refusal before (entry_of c.args.entry.now)) c.in-Err.fault
+    c.in_ok-of.field-0 (cause_of c.follows_by_last_times.ensures.order c.self.inside.archive before
+    ready.rests refl c.in_ok-given.given c.args.entry.now c.in_ok-given.ensures c.in-Err.fault
+    c.in-Err.ensures.cause) c.in_ok-of.ensures.ok in
+    rw (c.in-Err.ensures.unchanged, ← c.self.view_is) (record {
+      state = ap (λ (a : Answer). a.next)
+          (refused_so before (entry_of c.args.entry.now) c.in_ok-of.field-0 why);
+      ready = rw (← c.self.view_is) at c.requires.ready;
+    })
 
-pub returns-in-Err-clause-ready : goal.returns-in-Err-clause-ready
-returns-in-Err-clause-ready c =
-    rw c.in-Err.ensures.unchanged (rw (← c.self.view_is) at c.requires.ready)
+pub store_under-requires-clause-waits : goal.store_under-requires-clause-waits
+store_under-requires-clause-waits c =
+    let ready = c.self.invariant.ready (rw (← c.self.view_is) at c.requires.ready) in
+    let before : State = record {
+      capacity = c.self.inside.archive.capacity;
+      published = c.self.inside.published;
+      unsettled = begun_list c.self.inside.begun;
+      order = c.self.inside.order;
+      clock = c.self.inside.clock;
+    } in
+    let waits : Waits c.offer.new.self c.self.inside.published (entry_of c.args.entry.now) =
+    subst (λ (e : form.Entry). Waits c.offer.new.self c.self.inside.published (entry_of e))
+    c.in_ok-given.ensures (waits_now c.self.inside.archive c.offer.new.self c.self.inside.published
+    (entry_of c.in_ok-given.given) ready.rests c.in_default.ensures.in_order
+    c.in_default.ensures.taken (c.in_default.ensures.acknowledged c.self.inside.published
+    ready.rests.acknowledges)) in
+    (c.self.inside.published, waits)
 
-pub invariant_of-self-in_default-store : goal.invariant_of-self-in_default-store
-invariant_of-self-in_default-store c =
-    let rests : c.self.inside.archive.waiting ≡ [] =
-    none_waits c.self.inside.archive.waiting (rw (← c.self.view_is) at c.requires.ready) in
-    let published = entries_of c.self.inside.published.items in
-    let taken : c.offer.new.self ≡ with_waiting c.self.inside.archive (entry_of c.args.entry.now) =
-    c.in_default.ensures.taken ∙ ap (λ (e : form.Entry).
-    with_waiting c.self.inside.archive (entry_of e)) c.in_ok-given.ensures in
-    let times : c.after-self-inside.result ≡ times_after c.self.inside.times
-    (entry_of c.args.entry.now) =
-    times_by c.after-self-inside.result _ _ c.after-self-inside.ensures.frame
-    c.after-self-inside.ensures.seal ∙ ap (λ (e : form.Entry).
-    times_after c.self.inside.times (entry_of e)) c.in_ok-kept.ensures in
-    let fresh : c.offer.new.self.is_stale ≡ false =
-    ap (λ (a : ArchiveState DiskState). a.is_stale) taken ∙ c.self.invariant.rests rests in
-    let failed : (c.store.new.self ≡ c.offer.new.self)
-    ⊎ (c.store.new.self ≡ with_failed c.offer.new.self c.store.new.self.disk) =
-    ⊎_elim (λ ok. absurd (false≢true ok)) (λ others. ⊎_elim
-    (λ disk. inr (c.in_default-store.ensures.failed disk))
-    (λ memory. inl (c.in_default-store.ensures.memory memory)) others)
-    (c.in_default-store.ensures.answers fresh) in
-    rw c.in_ok-reserve.ensures.items (held_failed c.self.inside.archive published
-    c.self.inside.times c.after-self-inside.result (entry_of c.args.entry.now)
-    c.offer.new.self c.store.new.self
-    c.self.invariant rests taken failed times
-    (c.in_default-store.ensures.still published (c.in_default.ensures.acknowledged published
-    c.self.invariant.acknowledges)))
+pub invariant_of-self-in_err-settled : goal.invariant_of-self-in_err-settled
+invariant_of-self-in_err-settled c =
+    let ready = c.self.invariant.ready (rw (← c.self.view_is) at c.requires.ready) in
+    let before : State = record {
+      capacity = c.self.inside.archive.capacity;
+      published = c.self.inside.published;
+      unsettled = begun_list c.self.inside.begun;
+      order = c.self.inside.order;
+      clock = c.self.inside.clock;
+    } in
+    let waits : Waits c.offer.new.self c.self.inside.published (entry_of c.args.entry.now) =
+    subst (λ (e : form.Entry). Waits c.offer.new.self c.self.inside.published (entry_of e))
+    c.in_ok-given.ensures (waits_now c.self.inside.archive c.offer.new.self c.self.inside.published
+    (entry_of c.in_ok-given.given) ready.rests c.in_default.ensures.in_order
+    c.in_default.ensures.taken (c.in_default.ensures.acknowledged c.self.inside.published
+    ready.rests.acknowledges)) in
+    held_spent c.store_under.new.archive c.self.inside.published c.self.inside.times
+    (Some c.in_ok-begun.begun) c.self.inside.order
+    (subst (λ (e : form.Entry). HoldsAllOrNone c.store_under.new.archive.disk
+    c.self.inside.published (entry_of e ∷ [])) (sym c.in_ok-begun.ensures)
+    (c.in_err-settled.ensures.images c.self.inside.published waits)) c.self.invariant.to_come
+
+pub returns-in_err-settled-clause-stopped : goal.returns-in_err-settled-clause-stopped
+returns-in_err-settled-clause-stopped c =
+    let ready = c.self.invariant.ready (rw (← c.self.view_is) at c.requires.ready) in
+    let before : State = record {
+      capacity = c.self.inside.archive.capacity;
+      published = c.self.inside.published;
+      unsettled = begun_list c.self.inside.begun;
+      order = c.self.inside.order;
+      clock = c.self.inside.clock;
+    } in
+    let taken : None ≡ refusal before (entry_of c.args.entry.now) =
+    none_of c.follows_by_last_times.ensures.order c.self.inside.archive before ready.rests refl
+    c.in_ok-given.given c.args.entry.now c.in_ok-given.ensures c.in_default.ensures.in_order in
+    let capacity : c.store_under.new.archive.capacity ≡ c.self.inside.archive.capacity =
+    c.store_under.ensures.capacity
+    ∙ ap (λ (a : ArchiveState DiskState). a.capacity) c.in_default.ensures.taken in
+    rw (← c.self.view_is) (on_err _ (left_begun before c.self.inside.archive.disk
+    c.store_under.new.archive.disk c.self.inside.is_spent c.store_under.new.archive.capacity
+    c.in_ok-begun.begun c.args.entry.now capacity c.in_ok-begun.ensures taken))
+
+pub invariant_of-self-in_err-outcome : goal.invariant_of-self-in_err-outcome
+invariant_of-self-in_err-outcome c =
+    let ready = c.self.invariant.ready (rw (← c.self.view_is) at c.requires.ready) in
+    let before : State = record {
+      capacity = c.self.inside.archive.capacity;
+      published = c.self.inside.published;
+      unsettled = begun_list c.self.inside.begun;
+      order = c.self.inside.order;
+      clock = c.self.inside.clock;
+    } in
+    let waits : Waits c.offer.new.self c.self.inside.published (entry_of c.args.entry.now) =
+    subst (λ (e : form.Entry). Waits c.offer.new.self c.self.inside.published (entry_of e))
+    c.in_ok-given.ensures (waits_now c.self.inside.archive c.offer.new.self c.self.inside.published
+    (entry_of c.in_ok-given.given) ready.rests c.in_default.ensures.in_order
+    c.in_default.ensures.taken (c.in_default.ensures.acknowledged c.self.inside.published
+    ready.rests.acknowledges)) in
+    let settled = c.in_ok-settled.ensures.settled before refl waits in
+    rw c.in_err-outcome.ensures.err (held_spent c.store_under.new.archive c.self.inside.published
+    c.self.inside.times (Some c.in_ok-begun.begun) c.self.inside.order
+    (settled_images c.an_image_at_rest_stands_for_what_is_kept.ensures c.store_under.new.archive
+    before c.in_ok-begun.begun c.args.entry.now c.in_ok-begun.ensures settled.rests)
+    c.self.invariant.to_come)
+
+pub returns-in_err-outcome-clause-stopped : goal.returns-in_err-outcome-clause-stopped
+returns-in_err-outcome-clause-stopped c =
+    let ready = c.self.invariant.ready (rw (← c.self.view_is) at c.requires.ready) in
+    let before : State = record {
+      capacity = c.self.inside.archive.capacity;
+      published = c.self.inside.published;
+      unsettled = begun_list c.self.inside.begun;
+      order = c.self.inside.order;
+      clock = c.self.inside.clock;
+    } in
+    let taken : None ≡ refusal before (entry_of c.args.entry.now) =
+    none_of c.follows_by_last_times.ensures.order c.self.inside.archive before ready.rests refl
+    c.in_ok-given.given c.args.entry.now c.in_ok-given.ensures c.in_default.ensures.in_order in
+    let capacity : c.store_under.new.archive.capacity ≡ c.self.inside.archive.capacity =
+    c.store_under.ensures.capacity
+    ∙ ap (λ (a : ArchiveState DiskState). a.capacity) c.in_default.ensures.taken in
+    rw (c.in_err-outcome.ensures.err, ← c.self.view_is) (on_err _ (left_begun before
+    c.self.inside.archive.disk c.store_under.new.archive.disk c.self.inside.is_spent
+    c.store_under.new.archive.capacity c.in_ok-begun.begun c.args.entry.now capacity
+    c.in_ok-begun.ensures taken))
 
 pub invariant_of-self-2 : goal.invariant_of-self-2
 invariant_of-self-2 c =
-    let rests : c.self.inside.archive.waiting ≡ [] =
-    none_waits c.self.inside.archive.waiting (rw (← c.self.view_is) at c.requires.ready) in
-    let published = entries_of c.self.inside.published.items in
-    let items : entries_of c.push.new.self.items ≡ published ++ entry_of c.args.entry.now ∷ [] =
-    ap entries_of c.in-Ok-push.ensures.items
-    ∙ entries-push c.reserve.new.self.items c.in_ok-kept.kept
-    ∙ ap (λ (xs : List form.Entry). entries_of xs ++ entry_of c.in_ok-kept.kept ∷ [])
-    c.in_ok-reserve.ensures.items
-    ∙ ap (λ (e : form.Entry). published ++ entry_of e ∷ []) c.in_ok-kept.ensures in
-    let taken : c.offer.new.self ≡ with_waiting c.self.inside.archive (entry_of c.args.entry.now) =
-    c.in_default.ensures.taken ∙ ap (λ (e : form.Entry).
-    with_waiting c.self.inside.archive (entry_of e)) c.in_ok-given.ensures in
-    let times : c.after-self-inside.result ≡ times_after c.self.inside.times
-    (entry_of c.args.entry.now) =
-    times_by c.after-self-inside.result _ _ c.after-self-inside.ensures.frame
-    c.after-self-inside.ensures.seal ∙ ap (λ (e : form.Entry).
-    times_after c.self.inside.times (entry_of e)) c.in_ok-kept.ensures in
-    rw items (held_more c.self.inside.archive published c.self.inside.times
-    c.after-self-inside.result (entry_of c.args.entry.now) c.offer.new.self c.store.new.self
-    c.self.invariant rests taken c.in-Ok.ensures.stored.0 times
-    (c.in-Ok.ensures.acknowledged published (c.in_default.ensures.acknowledged published
-    c.self.invariant.acknowledges)))
+    let ready = c.self.invariant.ready (rw (← c.self.view_is) at c.requires.ready) in
+    let before : State = record {
+      capacity = c.self.inside.archive.capacity;
+      published = c.self.inside.published;
+      unsettled = begun_list c.self.inside.begun;
+      order = c.self.inside.order;
+      clock = c.self.inside.clock;
+    } in
+    let waits : Waits c.offer.new.self c.self.inside.published (entry_of c.args.entry.now) =
+    subst (λ (e : form.Entry). Waits c.offer.new.self c.self.inside.published (entry_of e))
+    c.in_ok-given.ensures (waits_now c.self.inside.archive c.offer.new.self c.self.inside.published
+    (entry_of c.in_ok-given.given) ready.rests c.in_default.ensures.in_order
+    c.in_default.ensures.taken (c.in_default.ensures.acknowledged c.self.inside.published
+    ready.rests.acknowledges)) in
+    let settled = c.in_ok-settled.ensures.settled before refl waits in
+    let next : c.publish.new.published
+    ≡ (stores_under before (entry_of c.args.entry.now) before.order).next.published =
+    c.in_ok-outcome.ensures.published
+    ∙ ap (λ (e : form.Entry). published_by c.in_ok-settled.settled c.self.inside.published
+    (entry_of e)) c.in_ok-kept.ensures ∙ settled.published in
+    held_next c.store_under.new.archive c.publish.new.published c.times_behind-self-inside.result
+    c.order_behind-self-inside.result c.an_image_at_rest_stands_for_what_is_kept.ensures
+    (subst (Rests c.store_under.new.archive) (sym next) settled.rests)
+    (rw next (times_next c.self.inside.published
+    (stores_under before (entry_of c.args.entry.now) before.order).next.published
+    (entry_of c.args.entry.now) c.self.inside.times c.times_behind-self-inside.result
+    c.len-count.result (nat_lt c.len-count.result c.len-now.result) ready.times_are
+    c.len-count.ensures (next_published before (entry_of c.args.entry.now) before.order)
+    (ap (nat_lt c.len-count.result) (sym (c.len-now.ensures ∙ ap (λ (l : List Entry). length l)
+    next))) c.times_behind-self-inside.ensures.kept c.times_behind-self-inside.ensures.lost))
+    (rw c.order_behind-self-inside.ensures
+    (still_to_come c.self.inside.order c.self.invariant.to_come))
 
-pub returns-clause-why : goal.returns-clause-why
-returns-clause-why c =
-    let rests : c.self.inside.archive.waiting ≡ [] =
-    none_waits c.self.inside.archive.waiting (rw (← c.self.view_is) at c.requires.ready) in
-    rw (← c.self.view_is) (none_of c.follows_by_last_times.ensures.order
-    c.self.inside.archive (entries_of c.self.inside.published.items) c.self.inside.times
-    c.self.invariant rests (failed_batch c.self.inside.archive) c.self.inside.clock
-    c.in_ok-given.given c.args.entry.now c.in_ok-given.ensures c.in_default.ensures.in_order)
+pub returns-clause-said : goal.returns-clause-said
+returns-clause-said c =
+    let ready = c.self.invariant.ready (rw (← c.self.view_is) at c.requires.ready) in
+    let before : State = record {
+      capacity = c.self.inside.archive.capacity;
+      published = c.self.inside.published;
+      unsettled = begun_list c.self.inside.begun;
+      order = c.self.inside.order;
+      clock = c.self.inside.clock;
+    } in
+    let waits : Waits c.offer.new.self c.self.inside.published (entry_of c.args.entry.now) =
+    subst (λ (e : form.Entry). Waits c.offer.new.self c.self.inside.published (entry_of e))
+    c.in_ok-given.ensures (waits_now c.self.inside.archive c.offer.new.self c.self.inside.published
+    (entry_of c.in_ok-given.given) ready.rests c.in_default.ensures.in_order
+    c.in_default.ensures.taken (c.in_default.ensures.acknowledged c.self.inside.published
+    ready.rests.acknowledges)) in
+    let taken : None ≡ refusal before (entry_of c.args.entry.now) =
+    none_of c.follows_by_last_times.ensures.order c.self.inside.archive before ready.rests refl
+    c.in_ok-given.given c.args.entry.now c.in_ok-given.ensures c.in_default.ensures.in_order in
+    let settled = c.in_ok-settled.ensures.settled before refl waits in
+    rw (← c.self.view_is) (c.in_ok-outcome.ensures.said ∙ settled.said
+    ∙ ap (λ (a : Answer). a.said) (stored_so before (entry_of c.args.entry.now) taken))
+
+pub returns-clause-done : goal.returns-clause-done
+returns-clause-done c =
+    let ready = c.self.invariant.ready (rw (← c.self.view_is) at c.requires.ready) in
+    let before : State = record {
+      capacity = c.self.inside.archive.capacity;
+      published = c.self.inside.published;
+      unsettled = begun_list c.self.inside.begun;
+      order = c.self.inside.order;
+      clock = c.self.inside.clock;
+    } in
+    let taken : None ≡ refusal before (entry_of c.args.entry.now) =
+    none_of c.follows_by_last_times.ensures.order c.self.inside.archive before ready.rests refl
+    c.in_ok-given.given c.args.entry.now c.in_ok-given.ensures c.in_default.ensures.in_order in
+    rw (← c.self.view_is) (c.in_ok-outcome.ensures.done
+    ∙ done_is before (entry_of c.args.entry.now) taken)
 
 pub returns-clause-next : goal.returns-clause-next
 returns-clause-next c =
-    let rests : c.self.inside.archive.waiting ≡ [] =
-    none_waits c.self.inside.archive.waiting (rw (← c.self.view_is) at c.requires.ready) in
-    let published = entries_of c.self.inside.published.items in
-    let items : entries_of c.push.new.self.items ≡ published ++ entry_of c.args.entry.now ∷ [] =
-    ap entries_of c.in-Ok-push.ensures.items
-    ∙ entries-push c.reserve.new.self.items c.in_ok-kept.kept
-    ∙ ap (λ (xs : List form.Entry). entries_of xs ++ entry_of c.in_ok-kept.kept ∷ [])
-    c.in_ok-reserve.ensures.items
-    ∙ ap (λ (e : form.Entry). published ++ entry_of e ∷ []) c.in_ok-kept.ensures in
-    let taken : c.offer.new.self ≡ with_waiting c.self.inside.archive (entry_of c.args.entry.now) =
-    c.in_default.ensures.taken ∙ ap (λ (e : form.Entry).
-    with_waiting c.self.inside.archive (entry_of e)) c.in_ok-given.ensures in
-    rw (← c.self.view_is) (stored_state c.self.inside.archive c.offer.new.self c.store.new.self
-    (entry_of c.args.entry.now) published (entries_of c.push.new.self.items) c.self.inside.clock
-    rests taken c.in-Ok.ensures.stored.0 items
-    ∙ stored_next _ (entry_of c.args.entry.now) (none_of c.follows_by_last_times.ensures.order
-    c.self.inside.archive published c.self.inside.times
-    c.self.invariant rests (failed_batch c.self.inside.archive) c.self.inside.clock
-    c.in_ok-given.given c.args.entry.now c.in_ok-given.ensures c.in_default.ensures.in_order))
-
-pub returns-clause-ready : goal.returns-clause-ready
-returns-clause-ready c =
-    ap (λ (a : ArchiveState DiskState). nat_lt 0 (length a.waiting)) c.in-Ok.ensures.stored.0
-
-pub returns-in_err-reserve-clause-stopped : goal.returns-in_err-reserve-clause-stopped
-returns-in_err-reserve-clause-stopped c =
-    rw (c.in_err-reserve.ensures.items, ← c.self.view_is) (on_err _ (left_same _ _))
-
-pub returns-in_err-of-clause-stopped : goal.returns-in_err-of-clause-stopped
-returns-in_err-of-clause-stopped c =
-    rw (c.in-Err.ensures.unchanged, c.in_ok-reserve.ensures.items, ← c.self.view_is)
-    (on_err _ (left_same _ _))
-
-pub returns-in-Err-clause-refused : goal.returns-in-Err-clause-refused
-returns-in-Err-clause-refused c = λ some.
-    rw (c.in-Err.ensures.unchanged, c.in_ok-reserve.ensures.items, ← c.self.view_is) refl
-
-pub returns-in_default-store-clause-stopped : goal.returns-in_default-store-clause-stopped
-returns-in_default-store-clause-stopped c =
-    let rests : c.self.inside.archive.waiting ≡ [] =
-    none_waits c.self.inside.archive.waiting (rw (← c.self.view_is) at c.requires.ready) in
-    let published = entries_of c.self.inside.published.items in
-    let taken : c.offer.new.self ≡ with_waiting c.self.inside.archive (entry_of c.args.entry.now) =
-    c.in_default.ensures.taken ∙ ap (λ (e : form.Entry).
-    with_waiting c.self.inside.archive (entry_of e)) c.in_ok-given.ensures in
-    let fresh : c.offer.new.self.is_stale ≡ false =
-    ap (λ (a : ArchiveState DiskState). a.is_stale) taken ∙ c.self.invariant.rests rests in
-    let failed : (c.store.new.self ≡ c.offer.new.self)
-    ⊎ (c.store.new.self ≡ with_failed c.offer.new.self c.store.new.self.disk) =
-    ⊎_elim (λ ok. absurd (false≢true ok)) (λ others. ⊎_elim
-    (λ disk. inr (c.in_default-store.ensures.failed disk))
-    (λ memory. inl (c.in_default-store.ensures.memory memory)) others)
-    (c.in_default-store.ensures.answers fresh) in
-    let given = given_is (record {
+    let ready = c.self.invariant.ready (rw (← c.self.view_is) at c.requires.ready) in
+    let before : State = record {
       capacity = c.self.inside.archive.capacity;
-      published = published;
-      unsettled = failed_batch c.self.inside.archive;
+      published = c.self.inside.published;
+      unsettled = begun_list c.self.inside.begun;
+      order = c.self.inside.order;
       clock = c.self.inside.clock;
-    }) (entry_of c.args.entry.now)
-    (none_of c.follows_by_last_times.ensures.order c.self.inside.archive published
-    c.self.inside.times c.self.invariant rests (failed_batch c.self.inside.archive)
-    c.self.inside.clock c.in_ok-given.given c.args.entry.now c.in_ok-given.ensures
-    c.in_default.ensures.in_order) in
-    rw (c.in_ok-reserve.ensures.items, ← c.self.view_is) (record {
-      published = refl;
-      capacity = left_capacity c.self.inside.archive c.offer.new.self c.store.new.self
-          (entry_of c.args.entry.now) taken failed;
-      clock = refl;
-      unsettled = ⊎_elim (λ same. inl same) (λ all. inr (all ∙ given))
-          (left_unsettled c.self.inside.archive c.offer.new.self c.store.new.self
-          (entry_of c.args.entry.now) rests taken c.in_default.ensures.batch failed);
+    } in
+    let waits : Waits c.offer.new.self c.self.inside.published (entry_of c.args.entry.now) =
+    subst (λ (e : form.Entry). Waits c.offer.new.self c.self.inside.published (entry_of e))
+    c.in_ok-given.ensures (waits_now c.self.inside.archive c.offer.new.self c.self.inside.published
+    (entry_of c.in_ok-given.given) ready.rests c.in_default.ensures.in_order
+    c.in_default.ensures.taken (c.in_default.ensures.acknowledged c.self.inside.published
+    ready.rests.acknowledges)) in
+    let taken : None ≡ refusal before (entry_of c.args.entry.now) =
+    none_of c.follows_by_last_times.ensures.order c.self.inside.archive before ready.rests refl
+    c.in_ok-given.given c.args.entry.now c.in_ok-given.ensures c.in_default.ensures.in_order in
+    let capacity : c.store_under.new.archive.capacity ≡ c.self.inside.archive.capacity =
+    c.store_under.ensures.capacity
+    ∙ ap (λ (a : ArchiveState DiskState). a.capacity) c.in_default.ensures.taken in
+    let settled = c.in_ok-settled.ensures.settled before refl waits in
+    let next : c.publish.new.published
+    ≡ (stores_under before (entry_of c.args.entry.now) before.order).next.published =
+    c.in_ok-outcome.ensures.published
+    ∙ ap (λ (e : form.Entry). published_by c.in_ok-settled.settled c.self.inside.published
+    (entry_of e)) c.in_ok-kept.ensures ∙ settled.published in
+    rw (← c.self.view_is) (record {
+      state = done_now before (entry_of c.args.entry.now) c.store_under.new.archive.capacity
+          c.publish.new.published [] c.order_behind-self-inside.result taken capacity next
+          (sym (ap begun_list ready.none_begun)) c.order_behind-self-inside.ensures;
+      ready = refl;
     })

@@ -1,0 +1,98 @@
+-- Disks in memory: what calls and restarts leave of one without orders, and of its images.
+use Rattle.std.proofs.Common.{◌≡◌, ℕ, ◌≤◌, Option, Some, None, MatchOption, List, [], ◌∷◌, length}
+use Rattle.std.proofs.Common.{false, refl, sym, ap, subst, ◌∙◌}
+use Rattle.std.specs.Option.{option_or}
+use Rattle.std.proofs.lemmas.List.Sums.{fold-append}
+use Rattle.disk_model.specs.Calls.{AllMade}
+use Rattle.disk_model.specs.Images.{Pending, IsImage, all_synced, after_sync}
+use Rattle.disk_model.specs.Moments.{HoldsThroughout}
+use Rattle.disk_model.specs.MemoryDisk.{DiskState, Medium, IsMadeCall, IsImageSince, medium_of}
+use Rattle.disk_model.specs.MemoryDisk.{pending_of, content_of, pick_within, stop_past, steered}
+use Rattle.disk_model.specs.MemoryDisk.{restarted, left_by, synced_medium, after_event}
+use Rattle.disk_model.specs.MemoryDiskLaws.{counted_now}
+use Rattle.disk_model.specs.declared.call.Call.{Call}
+use Rattle.disk_model.specs.declared.event.Event.TheVariants.{Restarted}
+use Rattle.disk_model.specs.declared.orders.Pick.{Pick}
+use Rattle.disk_model.specs.declared.orders.Pick.TheVariants.{Old, New, Torn}
+use Rattle.disk_model.specs.declared.orders.Stop.{Stop}
+use Rattle.station_law.specs.Held.{IsUnsteered}
+
+-- a disk that runs and has no orders
+pub record IsCalm (disk : DiskState) : Type 0 where
+  pub runs : disk.stopped ≡ None
+  pub unsteered : IsUnsteered disk
+
+one_call : (old new : DiskState) (call : Call) → IsCalm old → IsMadeCall old call new → IsCalm new
+one_call old new call calm made = record {
+  runs = ap (λ (d : DiskState). d.stopped) made.1
+      ∙ ap (λ (p : Option Pick). option_or p (pick_within 1 old.stop)) calm.runs
+      ∙ ap (pick_within 1) calm.unsteered.goes_on;
+  unsteered = record {
+    goes_on = ap (λ (d : DiskState). d.stop) made.1 ∙ ap (stop_past 1) calm.unsteered.goes_on;
+    succeeds = ap (λ (d : DiskState). d.calls.failing) made.1 ∙ calm.unsteered.succeeds;
+    ample = ap (λ (d : DiskState). d.memory_refused) made.1 ∙ calm.unsteered.ample;
+  };
+}
+
+-- calls that succeed leave it so
+pub calm_after : (calls : List Call) (old new : DiskState) → IsCalm old
+    → AllMade IsMadeCall old calls new → IsCalm new
+calm_after [] old new calm made = subst IsCalm (sym made) calm
+calm_after (call ∷ calls) old new calm made =
+    calm_after calls made.0 new (one_call old made.0 call calm made.1) made.2
+
+-- what holds of each image since an earlier moment holds of each that there is now
+pub at_end : (old new : DiskState) (P : List ℕ → Type 0)
+    → HoldsThroughout (λ (d : DiskState). length d.log) IsImageSince old new P
+    → (image : List ℕ) → IsImage (pending_of new) image → P image
+at_end old new P holds image is =
+    holds.each image (counted_now new (length old.log) image holds.later is)
+
+-- what a disk that stopped holds once it is restarted
+pub on_restart : (disk : DiskState) (pick : Pick)
+    → pending_of (restarted disk pick) ≡ all_synced (left_by pick (medium_of disk))
+on_restart disk pick = ap (λ (m : Medium). m.pending)
+    (fold-append after_event (synced_medium disk.start) disk.log (Restarted pick ∷ []))
+
+left_all : (pick : Pick) (octets : List ℕ) → left_by pick (synced_medium octets) ≡ octets
+left_all Old octets = refl
+left_all New octets = refl
+left_all Torn octets = refl
+
+-- where all was synced, that is what it held
+pub restart_keeps : (disk : DiskState) (pick : Pick) (octets : List ℕ)
+    → medium_of disk ≡ synced_medium octets → content_of (restarted disk pick) ≡ octets
+restart_keeps disk pick octets all =
+    ap (λ (p : Pending). p.content) (on_restart disk pick)
+    ∙ ap (left_by pick) all ∙ left_all pick octets
+
+-- a stop that came
+pub restarted_by : (old new : DiskState) (stopped : Option Pick) (pick : Pick) → stopped ≡ Some pick
+    → MatchOption stopped (new ≡ old) (λ p. new ≡ restarted old p) → new ≡ restarted old pick
+restarted_by old new stopped pick is matches =
+    subst (λ (o : Option Pick). MatchOption o (new ≡ old) (λ p. new ≡ restarted old p)) is matches
+
+-- a law of disks: after a good sync there is one image
+abbrev pub OneImage : Type 0
+OneImage = (pending : Pending) (image : List ℕ) → IsImage (after_sync pending) image
+    → image ≡ pending.content
+
+-- each image of a disk that was restarted was one before
+pub image_before : OneImage → (old new : DiskState) (stopped : Option Pick)
+    → MatchOption stopped (new ≡ old) (λ pick. new ≡ restarted old pick)
+    → IsImage (pending_of old) (content_of new)
+    → (image : List ℕ) → IsImage (pending_of new) image → IsImage (pending_of old) image
+image_before one old new None same there image is =
+    subst (λ (d : DiskState). IsImage (pending_of d) image) same is
+image_before one old new (Some pick) again there image is =
+    let content = left_by pick (medium_of old) in
+    let pending : pending_of new ≡ all_synced content =
+    ap pending_of again ∙ on_restart old pick in
+    let only : image ≡ content =
+    one (all_synced content) image (subst (λ (p : Pending). IsImage p image) pending is) in
+    subst (IsImage (pending_of old)) (ap (λ (p : Pending). p.content) pending ∙ sym only) there
+
+-- the orders are gone, and what is pending stays
+pub unsteered_by : (disk : DiskState) → disk.memory_refused ≡ false
+    → IsUnsteered (steered disk (record { failing = record { failing = []; made = 0 }; stop = None }))
+unsteered_by disk ample = record { goes_on = refl; succeeds = refl; ample = ample }

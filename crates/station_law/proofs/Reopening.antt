@@ -1,0 +1,245 @@
+-- What an archive is once it is opened again.
+use Rattle.std.proofs.Common.{◌≡◌, ◌⊎◌, inl, inr, ℕ, ◌+◌, ◌-◌, ◌≤◌, Bool, true, false, Option, Some}
+use Rattle.std.proofs.Common.{None, MatchOption, if◌then◌else◌, List, [], ◌∷◌, ◌++◌, length, take}
+use Rattle.std.proofs.Common.{drop, nat_lt, refl, sym, ap, subst, ◌∙◌, arith}
+use Rattle.std.proofs.lemmas.List.{append-nil}
+use Rattle.std.proofs.lemmas.Bool.Decides.{nat_tests}
+use Rattle.std.proofs.Common.{IsTrue, Result, Ok, Err, OnErr}
+use Rattle.archive_terms.specs.Archive.{Entry}
+use Rattle.record_form.specs.Entry.{entry_of}
+use Rattle.record_form.specs.declared.entry.Entry as form
+use Rattle.disk_model.specs.Calls.{AllMade}
+use Rattle.disk_model.specs.MemoryDisk.{DiskState, IsMadeCall, pending_of, content_of, restarted}
+use Rattle.disk_model.specs.declared.call.Call.{Call}
+use Rattle.disk_model.specs.declared.call.Call.TheVariants.{Sync}
+use Rattle.disk_model.specs.declared.orders.Pick.{Pick}
+use Rattle.gate_journal.specs.File.{StandsAt, StandsFor}
+use Rattle.gate_journal.specs.Kept.{holds_batch, IsOldOrNew}
+use Rattle.gate_journal.specs.declared.order.Times.{Times}
+use Rattle.frame_archive.specs.State as archives
+use Rattle.frame_archive.specs.State.{ArchiveState, at_rest, times_of, failed_batch}
+use Rattle.frame_archive.specs.Held.{Acknowledges, Uses}
+use Rattle.station_law.specs.declared.order.Order.{Order}
+use Rattle.station_law.specs.declared.order.Strike.{Strike}
+use Rattle.station_law.specs.declared.order.Strike.TheVariants.{Fail}
+use Rattle.station_law.specs.declared.storing.Settled.TheVariants.{Failed}
+use Rattle.station_law.specs.State.{State}
+use Rattle.station_law.specs.Said.{told, fault}
+use Rattle.station_law.specs.Said as notices
+use Rattle.station_law.specs.Answer.{Answer}
+use Rattle.station_law.specs.Orders.{is_hit, behind_store, leaves_entry, found}
+use Rattle.station_law.specs.Entries.{used, stores, fails, struck, stores_under}
+use Rattle.station_law.specs.Held.{told_by, Rests, Takes, HoldsAllOrNone}
+use Rattle.station_law.specs.Storing.{IsDown, HasFailed, IsStruck, IsSettled}
+use Rattle.station_law.proofs.Disks.{IsCalm, calm_after, restarted_by}
+use Rattle.station_law.proofs.Held.{stands_at}
+use Rattle.station_law.proofs.Striking.{OneList}
+
+-- a file's gate stands at one place
+abbrev pub OnePlace : Type 0
+OnePlace = (one other : List Entry) (place there : ℕ) (file : List ℕ) → StandsAt one place file
+    → StandsAt other there file → place ≡ there
+
+-- what a file's reading found is what it stands for, and it uses what these use
+module _ (one : OneList) (place : OnePlace) (left found : List Entry) (octets : ℕ) (file : List ℕ)
+    (stands : StandsAt left (used left - 1) file) (uses : Uses found octets file) where
+  pub found_is : found ≡ left
+  found_is = one found left file (uses.0, uses.2) (used left - 1, stands)
+
+  pub uses_are : octets ≡ used left
+  uses_are =
+      let there : uses.0 ≡ used left - 1 =
+      place found left uses.0 (used left - 1) file uses.2 stands in
+      let is = uses.1 in
+      omega (arith, there, is)
+
+-- ---- behind a power failure
+
+module _ (one : OneList) (place : OnePlace) (archive back now : ArchiveState DiskState)
+    (left found : List Entry) (down : IsDown archive left)
+    (back_is : MatchOption archive.disk.stopped (back.disk ≡ archive.disk)
+    (λ pick. back.disk ≡ restarted archive.disk pick))
+    (uses : Uses found now.used (content_of back.disk)) where
+  back_disk : back.disk ≡ restarted archive.disk down.pick
+  back_disk = restarted_by archive.disk back.disk archive.disk.stopped down.pick down.stopped back_is
+
+  there : StandsAt left (used left - 1) (content_of back.disk)
+  there = subst (λ (d : DiskState). StandsAt left (used left - 1) (content_of d)) (sym back_disk)
+      down.holds
+
+  pub found_left : found ≡ left
+  found_left = found_is one place left found now.used (content_of back.disk) there uses
+
+  pub rests_left : (capacity : ℕ) → now ≡ at_rest now.disk capacity now.used found
+      → Acknowledges told_by now found → AllMade IsMadeCall back.disk (Sync ∷ []) now.disk
+      → Rests now left
+  rests_left capacity now_is acknowledges made =
+      let calm = calm_after (Sync ∷ []) back.disk now.disk (subst IsCalm (sym back_disk) (record {
+        runs = refl;
+        unsteered = record {
+          goes_on = down.unsteered.goes_on;
+          succeeds = down.unsteered.succeeds;
+          ample = down.unsteered.ample;
+        };
+      })) made in
+      record {
+        acknowledges = subst (Acknowledges told_by now) found_left acknowledges;
+        waits = ap (λ (a : ArchiveState DiskState). a.waiting) now_is;
+        fresh = ap (λ (a : ArchiveState DiskState). a.is_stale) now_is;
+        used_are = uses_are one place left found now.used (content_of back.disk) there uses;
+        runs = calm.runs;
+        unsteered = calm.unsteered;
+      }
+
+-- ---- behind a store that failed
+
+pub one_more : (entries : List Entry) (entry : Entry)
+    → length (entries ++ entry ∷ []) ≡ length entries + 1
+one_more [] entry = refl
+one_more (first ∷ entries) entry = let more = one_more entries entry in omega (arith, more)
+
+module _ (one : OneList) (place : OnePlace) (archive now : ArchiveState DiskState) (calls : ℕ)
+    (published found landed lost : List Entry) (entry : Entry)
+    (failed : HasFailed archive calls published entry)
+    (counted : length found ≡ now.count) (times : now.times ≡ times_of found)
+    (uses : Uses found now.used (content_of archive.disk))
+    (landed_is : landed ≡ take (now.count - archive.count) archive.waiting)
+    (lost_is : lost ≡ drop (now.count - archive.count) archive.waiting)
+    (now_is : now ≡ record (at_rest now.disk archive.capacity now.used []) {
+      count = now.count;
+      times = now.times;
+    })
+    (acknowledges : Acknowledges told_by now (published ++ landed))
+    (made : AllMade IsMadeCall archive.disk (Sync ∷ []) now.disk) where
+  there_now : List Entry
+  there_now = if holds_batch calls then published ++ entry ∷ [] else published
+
+  file : StandsAt (if holds_batch calls then published ++ entry ∷ [] else published)
+      (used (if holds_batch calls then published ++ entry ∷ [] else published) - 1)
+      (content_of archive.disk)
+  file = stands_at (holds_batch calls) published entry (content_of archive.disk) failed.holds
+
+  found_there : found ≡ (if holds_batch calls then published ++ entry ∷ [] else published)
+  found_there = found_is one place _ found now.used (content_of archive.disk) file uses
+
+  pub count_there : now.count
+      ≡ length (if holds_batch calls then published ++ entry ∷ [] else published)
+  count_there = sym counted ∙ ap (λ (l : List Entry). length l) found_there
+
+  calm : IsCalm now.disk
+  calm = calm_after (Sync ∷ []) archive.disk now.disk
+      (record { runs = failed.runs; unsteered = failed.unsteered }) made
+
+  by_count : (has : Bool) → now.count ≡ length (if has then published ++ entry ∷ [] else published)
+      → (lost ≡ (if has then [] else entry ∷ []))
+      × (published ++ landed ≡ (if has then published ++ entry ∷ [] else published))
+  by_count true is =
+      let long = failed.acknowledges.agrees.counted in
+      let all = one_more published entry in
+      let more : now.count - archive.count ≡ 1 = omega (arith, is, long, all) in (
+        lost_is ∙ ap (λ n. drop n archive.waiting) more ∙ ap (drop 1) failed.waits,
+        ap (λ (l : List Entry). published ++ l) (landed_is ∙ ap (λ n. take n archive.waiting) more
+            ∙ ap (take 1) failed.waits),
+      )
+  by_count false is =
+      let long = failed.acknowledges.agrees.counted in
+      let more : now.count - archive.count ≡ 0 = omega (arith, is, long) in (
+        lost_is ∙ ap (λ n. drop n archive.waiting) more ∙ failed.waits,
+        ap (λ (l : List Entry). published ++ l) (landed_is ∙ ap (λ n. take n archive.waiting) more)
+            ∙ append-nil published,
+      )
+
+  pub rests_there : Rests now (if holds_batch calls then published ++ entry ∷ [] else published)
+  rests_there = record {
+    acknowledges = subst (Acknowledges told_by now) (by_count (holds_batch calls) count_there).1
+        acknowledges;
+    waits = ap (λ (a : ArchiveState DiskState). a.waiting) now_is;
+    fresh = ap (λ (a : ArchiveState DiskState). a.is_stale) now_is;
+    used_are = uses_are one place _ found now.used (content_of archive.disk) file uses;
+    runs = calm.runs;
+    unsteered = calm.unsteered;
+  }
+
+  -- where none is lost the file holds the entry, and where one is it doesn't
+  by_lost : (has : Bool) → lost ≡ (if has then [] else entry ∷ []) → nat_lt 0 (length lost) ≡ false
+      → has ≡ true
+  by_lost true is none = refl
+  by_lost false is none = absurd (let one : length lost ≡ 1 =
+      ap (λ (l : List Entry). length l) is in grind (arith, nat_tests, one, none))
+
+  by_none : (has : Bool) → lost ≡ (if has then [] else entry ∷ []) → nat_lt 0 (length lost) ≡ true
+      → has ≡ false
+  by_none false is some = refl
+  by_none true is some = absurd (let none : length lost ≡ 0 =
+      ap (λ (l : List Entry). length l) is in grind (arith, nat_tests, none, some))
+
+  pub kept_all : nat_lt 0 (length lost) ≡ false → Rests now (published ++ entry ∷ [])
+  kept_all none = subst (λ (has : Bool). Rests now
+      (if has then published ++ entry ∷ [] else published))
+      (by_lost (holds_batch calls) (by_count (holds_batch calls) count_there).0 none) rests_there
+
+  pub lost_all : nat_lt 0 (length lost) ≡ true
+      → Rests now published × Takes now published entry
+  lost_all some = (
+    subst (λ (has : Bool). Rests now (if has then published ++ entry ∷ [] else published))
+        (by_none (holds_batch calls) (by_count (holds_batch calls) count_there).0 some) rests_there,
+    ap (λ (a : ArchiveState DiskState). archives.refusal
+        (at_rest archive.disk a.capacity (used published) published) entry) now_is ∙ failed.taken,
+  )
+
+-- while the archive can't be opened the file holds all or nothing of the store that failed
+pub failed_images : (archive now : ArchiveState DiskState) (published : List Entry) (entry : Entry)
+    → archive.waiting ≡ entry ∷ [] → archive.failed ≡ 1
+    → now ≡ record archive { disk = now.disk; is_stale = true }
+    → Acknowledges told_by now published → HoldsAllOrNone now.disk published (entry ∷ [])
+failed_images archive now published entry waits failed is acknowledges image there =
+    let batch : failed_batch now ≡ entry ∷ [] =
+    ap (λ (a : ArchiveState DiskState). failed_batch a) is
+    ∙ ap (λ n. take n archive.waiting) failed ∙ ap (take 1) waits in
+    subst (λ (b : List Entry). IsOldOrNew published b image) batch (acknowledges.images image there)
+
+-- ---- what a store that was hit is told as
+
+-- an archive whose store failed, of an entry with another holder
+pub failed_so : (order : Order) (archive : ArchiveState DiskState) (published : List Entry)
+    (entry again : form.Entry) → order.strike ≡ Fail → again ≡ entry
+    → IsStruck order.strike order.calls archive published (entry_of entry)
+    → HasFailed archive order.calls published (entry_of again)
+failed_so order archive published entry again fails same struck =
+    subst (λ (e : form.Entry). HasFailed archive order.calls published (entry_of e)) (sym same)
+    (subst (λ (s : Strike). IsStruck s order.calls archive published (entry_of entry)) fails struck)
+
+-- it is told as the line of its entry says
+pub settled_failed : (state : State) (entry again : form.Entry) (archive : ArchiveState DiskState)
+    (order : Order) (entries : ℕ) → state.order ≡ Some order → IsTrue (is_hit order)
+    → order.strike ≡ Fail → again ≡ entry
+    → entries ≡ length (if holds_batch order.calls then state.published ++ entry_of again ∷ []
+    else state.published)
+    → Rests archive (state.published ++ entry_of again ∷ [])
+    → IsSettled state (entry_of entry) archive (Failed entries)
+settled_failed state entry again archive order entries is hit fail same count rests =
+    let one = entry_of entry in
+    let there = found order state.published one in
+    let answer : stores_under state one state.order ≡ fails state one there =
+    ap (stores_under state one) is
+    ∙ ap (λ (b : Bool). if b then struck state one there order.strike
+    else stores (record state { order = behind_store order }) one) hit
+    ∙ ap (struck state one there) fail in
+    let long : entries ≡ length there =
+    count ∙ ap (λ (e : form.Entry). length (if holds_batch order.calls
+    then state.published ++ entry_of e ∷ [] else state.published)) same
+    ∙ ap (λ (s : Strike). length (if leaves_entry s order.calls
+    then state.published ++ one ∷ [] else state.published)) (sym fail) in
+    record {
+      said = ap (λ (n : ℕ). told fault ∷ told (notices.archive n) ∷ []) long
+          ∙ ap (λ (a : Answer). a.said) (sym answer);
+      rests = subst (λ (a : Answer). Rests archive a.next.published) (sym answer)
+          (subst (λ (e : form.Entry). Rests archive (state.published ++ entry_of e ∷ [])) same rests);
+      published = ap (λ (a : Answer). a.next.published) (sym answer);
+    }
+
+-- what holds where an error comes
+pub follows_if_err : {T E : Type 0} → {P Q : Type 0} (result : Result T E) → OnErr result P → (P → Q)
+    → OnErr result Q
+follows_if_err (Ok value) bad follows = bad
+follows_if_err (Err error) bad follows = follows bad

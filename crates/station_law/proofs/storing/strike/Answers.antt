@@ -1,0 +1,82 @@
+use Rattle.std.proofs.Common.{◌≡◌, ◌∙◌, ap, subst, rules, [], ◌∷◌, List}
+use Rattle.archive_terms.specs.Archive.{Entry}
+use Rattle.disk_model.specs.declared.orders.Orders.{Orders}
+use Rattle.disk_model.specs.MemoryDisk.{steered}
+use Rattle.gate_journal.specs.Kept.{appending}
+use Rattle.station_law.specs.Storing.{orders_by}
+use Rattle.station_law.proofs.Held.{none_stored, store_images}
+use Rattle.station_law.proofs.Striking.{Struck, never_made, struck_by, told_as, told_still}
+use Rattle.station_law.proofs.Striking.{told_images, images_told, failed_there}
+use Rattle.station_law.proofs.storing.strike.Goals as goal
+
+pub returns-in_err-orders-clause-images : goal.returns-in_err-orders-clause-images
+returns-in_err-orders-clause-images c = λ published one waits.
+    none_stored c.an_image_at_rest_stands_for_what_is_kept.ensures c.args.archive.now published
+    (one ∷ []) waits.is_at (one ∷ [])
+
+pub unreachable-requires : goal.unreachable-requires
+unreachable-requires c =
+    let laws : Struck = record {
+      to_stop = c.a_stop_leaves_whole_batches.ensures.steered;
+      no_stop = c.a_stop_leaves_whole_batches.ensures.fails;
+      stopped = c.a_stop_leaves_whole_batches.ensures.stopped;
+      left = c.a_stop_leaves_whole_batches.ensures.file;
+      to_fail = c.a_fault_leaves_whole_batches.ensures.steered;
+      no_fault = c.a_fault_leaves_whole_batches.ensures.fails;
+      runs = c.a_fault_leaves_whole_batches.ensures.runs;
+      held = c.a_fault_leaves_whole_batches.ensures.file;
+      storable = c.a_batch_may_follow.ensures.storable;
+    } in
+    never_made laws c.args.order.strike c.args.order.calls c.requires.to_come c.requires.hit
+    c.args.archive.now c.steer.new.self c.requires.waits.0 c.requires.waits.1 c.requires.waits.2
+    (told_as c.args.archive.now c.steer.new.self c.in_ok-orders.orders c.args.order
+    c.steer.ensures.steered c.in_ok-orders.ensures) c.store.new.self.disk c.in-Ok.ensures.calls
+
+pub returns-in-Err : goal.returns-in-Err
+returns-in-Err c = record {
+  struck = tt;
+  images = λ published one waits. told_images c.args.archive.now c.steer.new.self c.store.new.self
+      c.in_ok-orders.orders published one waits c.steer.ensures.steered
+      (λ fresh. c.store.ensures.any_moment fresh published);
+  capacity = search rules;
+}
+
+pub returns-then-memory_refused-clause-images : goal.returns-then-memory_refused-clause-images
+returns-then-memory_refused-clause-images c = λ published one waits.
+    told_images c.args.archive.now c.steer.new.self c.store.new.self c.in_ok-orders.orders published
+    one waits c.steer.ensures.steered (λ fresh. c.store.ensures.any_moment fresh published)
+
+pub returns-clause-struck : goal.returns-clause-struck
+returns-clause-struck c = λ published one waits.
+    let laws : Struck = record {
+      to_stop = c.a_stop_leaves_whole_batches.ensures.steered;
+      no_stop = c.a_stop_leaves_whole_batches.ensures.fails;
+      stopped = c.a_stop_leaves_whole_batches.ensures.stopped;
+      left = c.a_stop_leaves_whole_batches.ensures.file;
+      to_fail = c.a_fault_leaves_whole_batches.ensures.steered;
+      no_fault = c.a_fault_leaves_whole_batches.ensures.fails;
+      runs = c.a_fault_leaves_whole_batches.ensures.runs;
+      held = c.a_fault_leaves_whole_batches.ensures.file;
+      storable = c.a_batch_may_follow.ensures.storable;
+    } in
+    let told = told_as c.args.archive.now c.steer.new.self c.in_ok-orders.orders c.args.order
+    c.steer.ensures.steered c.in_ok-orders.ensures in
+    struck_by laws c.args.order.calls c.requires.to_come c.requires.hit c.args.archive.now published
+    one waits (c.steer.ensures.at_rest waits.is_at.fresh) c.args.order.strike c.steer.new.self
+    c.store.new.self c.steer-2.new.self told (c.store.ensures.failed (search rules))
+    (c.steer-2.ensures.steered ∙ ap (λ (o : Orders). record c.store.new.self {
+      disk = steered c.store.new.self.disk o;
+    }) c.no_orders.ensures)
+    (c.in-Err-DiskFault.ensures.still published (told_still c.args.archive.now c.steer.new.self
+    c.args.order.strike c.args.order.calls published one waits told))
+    (search rules)
+    (failed_there c.args.archive.now c.steer.new.self c.args.order.strike c.args.order.calls
+    published one waits told c.store.new.self.disk (c.store.ensures.failed_calls (search rules)))
+
+pub returns-clause-images : goal.returns-clause-images
+returns-clause-images c = λ published one waits.
+    images_told c.store.new.self c.steer-2.new.self c.no_orders.result published (one ∷ [])
+    c.steer-2.ensures.steered
+    (told_images c.args.archive.now c.steer.new.self c.store.new.self c.in_ok-orders.orders
+    published one waits c.steer.ensures.steered
+    (λ fresh. c.store.ensures.any_moment fresh published))
