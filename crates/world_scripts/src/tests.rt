@@ -11,7 +11,7 @@ use std::test::Fail;
 // How a script ends: all its lines were done, with an entry refused as Full or without; a line is
 // none that runs; a line of its configuration is refused, for a cause.
 #[derive(Clone, Copy, Debug, PartialEq, Eq)]
-enum Ending {
+pub enum Ending {
     Done,
     Full,
     BadLine(usize),
@@ -86,7 +86,7 @@ fn run(alloc: Global, script: &str, output: &mut MemorySink) -> Result<Ending, S
 }
 
 // A script writes this transcript, and ends so.
-fn check(
+pub fn check(
     rt: &impl Abort,
     alloc: Global,
     script: &str,
