@@ -1,7 +1,7 @@
 #!/usr/bin/env python3
 """Compares the built provider with a second program for `drill`, over random scripts.
 
-usage: model.py PROGRAM [COUNT]     COUNT scripts, 400 if left out, the same in each run
+usage: model.py PROGRAM [COUNT]     COUNT scripts, 1000 if left out, the same in each run
 
 The second program follows docs/PROFILE.md and shares nothing with the first. It works out each line from the
 whole archive, and knows neither bounds nor passes. A user's decoder then reads the messages that the built program
@@ -71,6 +71,14 @@ def line_of(line):
     if kind == b"clock":
         (at,) = words
         return "clock", time(at)
+    if kind == b"crash":
+        call, left = words
+        if left not in (b"old", b"new", b"torn"):
+            raise ValueError
+        return "crash", number(call, 1_000), left
+    if kind == b"fault":
+        (call,) = words
+        return "fault", number(call, 1_000, 1)
     raise ValueError
 
 
@@ -282,6 +290,54 @@ def refusal(archive, capacity, entry):
     return b"", False
 
 
+class File:
+    """The archive's file, as far as a store concerns it: which entries are counted, by what is written and synced.
+
+    A store writes its entry behind the gate, syncs, opens the gate and syncs. What was written and not synced is left
+    by the pick of a stop: of a gate that is torn none is open. An order counts the calls, syncs of an opening too."""
+
+    CALLS = "entry", "sync", "gate", "sync"
+
+    def __init__(self):
+        self.order = None
+
+    def command(self, says):
+        """A later order stands in the place of one before; True where the power fails now."""
+        self.order = says if says[1] > 0 else None
+        return says[1] == 0
+
+    def call(self):
+        """What the next call comes to: None where it succeeds."""
+        if self.order is None:
+            return None
+        kind, calls, *left = self.order
+        if calls > 1:
+            self.order = kind, calls - 1, *left
+            return None
+        self.order = None
+        return kind, *left
+
+    def store(self):
+        """What ended a store, and whether the file holds its entry then; None and True where nothing did."""
+        written, synced = set(), set()
+        for name in self.CALLS:
+            event = self.call()
+            if event == ("fault",):
+                # A write that fails writes nothing, and a sync that fails leaves all as it was: a further sync, which
+                # the opening makes, lets all that was written last.
+                assert self.call() is None
+                return event, "gate" in written
+            if name != "sync":
+                written.add(name)
+            if event is not None:
+                kept = written if event[1] == b"new" else synced
+                assert self.call() is None
+                return event, "gate" in kept
+            if name == "sync":
+                synced |= written
+        return None, True
+
+
 def continuity(archive, before, place):
     if before is None:
         return -1
@@ -307,7 +363,7 @@ def drill(script):
     """The exit code, the transcript, and the items of each buffer in it as a user reads them."""
     if len(script) > MOST_OCTETS:
         return 11, b"input too long\n", []
-    archive, written, read, full = [], b"", [], False
+    archive, written, read, full, file = [], b"", [], False, File()
     lines = script.split(b"\n")
     if lines[-1] == b"":
         lines.pop()
@@ -321,7 +377,10 @@ def drill(script):
             return 3, written + b"bad line %d\n" % place, read
         if says is None or says[0] == "clock":
             continue
-        if says[0] == "start" and moment(says[2]) < moment(says[1]):
+        if says[0] in ("crash", "fault"):
+            if file.command(says):
+                written += b"crash\narchive %d\n" % len(archive)
+        elif says[0] == "start" and moment(says[2]) < moment(says[1]):
             written += b"refused 3\n"
         elif says[0] == "start":
             buffers = answer(archive, moment(says[1]), moment(says[2]), says[3])
@@ -332,8 +391,23 @@ def drill(script):
             written += why
             full = full or is_full
             if not why:
-                archive.append(says)
+                written += store(archive, file, says)
     return 9 if full else 0, written, read
+
+
+def store(archive, file, entry):
+    """Stores an entry, and gives the lines that tell of a power failure or a fault in its store."""
+    event, holds = file.store()
+    told = b""
+    if holds:
+        archive.append(entry)
+    if event is not None:
+        told = b"%s\narchive %d\n" % (event[0].encode(), len(archive))
+    if not holds and event[0] == "fault":
+        # A lost entry is stored once more.
+        assert file.store() == (None, True)
+        archive.append(entry)
+    return told
 
 
 # ---- random scripts
@@ -341,7 +415,8 @@ def drill(script):
 SIZES = [1, 2, 3, 100, 126, 127, 128, 129, 200, 255, 256, 1_115, 32_767, 65_535, 65_536, 65_537]
 LOSSES = [0, 0, 0, 1, 127, 128, 255, 256, 32_767, 32_768, 70_000, 8_388_607, 8_388_608, 16_777_214, 16_777_215]
 BAD_LINES = [
-    b" ", b" # no comment", b"frame", b"Mark 0/0/0", b"site", b"end", b"capacity 64", b"open 1", b"crash 0 old", b"fault 1", b"done",
+    b" ", b" # no comment", b"frame", b"Mark 0/0/0", b"site", b"end", b"capacity 64", b"open 1", b"crash 0", b"crash 1 half", b"crash 1001 old",
+    b"crash 1 old ", b"fault 0", b"fault 1001", b"fault", b"fault 01", b"done",
     b"clock 0/0", b"clock 0/0/0 0/0/0", b"production 3", b"production 00", b"loss 0/0/0 0 0", b"loss 0/0/0 0 4 0", b"mark 0/0/01p",
     b"mark 0/0/1000000000p", b"mark 0/0/1P", b"mark 1/2", b"mark 1/2/3/4", b"mark 0/86400000/0", b"mark 0/0/1000", b"mark 65536/0/0",
     b"mark 00/0/0", b"mark +0/0/0", b"mark 0/0/0 ", b"mark 0/0/0\r", b"mark 0/0/p", b"start 0/0/0  0/0/0 0",
@@ -405,6 +480,10 @@ def random_script(seed):
                 lines.append(b"production %d" % pick.randrange(3))
             elif kind < 0.76:
                 lines.append(pick.choice([b"", b"#", b"# " + stamp(place), b"#fly\xff", b"clock " + stamp(place)]))
+            elif kind < 0.81:
+                call = pick.choice([0, 1, 1, 2, 3, 3, 4, 4, 5, 7, 8, 12, 100, 1_000])
+                lines.append(pick.choice([
+                    b"fault %d" % max(call, 1), b"crash %d %s" % (call, pick.choice([b"old", b"new", b"torn"]))]))
             elif kind < 0.985:
                 start, stop = pick.choice([(0, at), (0, at), (pick.randrange(12), pick.randrange(12))])
                 lines.append(b"start %s %s %d" % (stamp(start), stamp(stop), pick.choice([0, 0, 1, 2])))
@@ -429,4 +508,4 @@ def main(program, count):
 
 
 if __name__ == "__main__":
-    main(sys.argv[1], int(sys.argv[2]) if len(sys.argv) > 2 else 400)
+    main(sys.argv[1], int(sys.argv[2]) if len(sys.argv) > 2 else 1000)

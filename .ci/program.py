@@ -253,6 +253,15 @@ def files():
               (0, FIRST + END, b""))
 
 
+# ---- examples with their transcripts
+
+def examples():
+    folder = os.path.join(os.path.dirname(os.path.dirname(os.path.abspath(__file__))), "examples")
+    for name in ["power-failure", "disk-fault"]:
+        with open(f"{folder}/{name}.script", "rb") as script, open(f"{folder}/{name}.transcript", "rb") as transcript:
+            check(f"example {name}", run([b"drill"], script.read()), (0, transcript.read(), b""))
+
+
 # ---- the launcher
 
 def launcher():
@@ -268,6 +277,7 @@ statuses()
 lengths()
 faults()
 files()
+examples()
 launcher()
 print(f"{passed} passed, {failed} failed")
 sys.exit(failed > 0)
