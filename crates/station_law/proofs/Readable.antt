@@ -7,6 +7,7 @@ use Rattle.std.proofs.Common.{Option, Some, None, refl, sym, ap, subst, length-a
 use Rattle.std.proofs.lemmas.Bool.{and_parts, leb-true}
 use Rattle.std.proofs.lemmas.Bool.Decides.{nat_tests}
 use Rattle.std.proofs.lemmas.Int.{ints}
+use Rattle.std.proofs.lemmas.List.{length-map}
 use Rattle.std.proofs.lemmas.List.Elements.{All-get_or}
 use Rattle.std.specs.List.{All, AllByRecursion, flat_map, filter, enumerate_from}
 use Rattle.ber_core.specs.Length.{shortest_length}
@@ -35,7 +36,7 @@ use Rattle.cds_time.specs.declared.cds.Rest.{Rest}
 use Rattle.cds_time.specs.declared.cds.Rest.TheVariants.{Micros, Picos}
 use Rattle.station_law.specs.Said.{Told, item_tree, buffer_message}
 use Rattle.station_law.specs.Desk.{selection}
-use Rattle.station_law.specs.Readable.{item_said, IsReadable, AreReadable}
+use Rattle.station_law.specs.Readable.{item_said, IsHanded, IsReadable, AreReadable}
 use Rattle.station_law.proofs.Pass.{first_storable}
 use Rattle.station_law.proofs.Each.{each_joined, each_taken, each_split, each_filtered, each_at}
 
@@ -172,6 +173,7 @@ abbrev most_octets : ℕ
 most_octets = 65836
 
 record Said (archive : List terms.Entry) (before : Option ℕ) (buffer : List Item) : Type 0 where
+  handed : AllByRecursion IsHanded (told_items archive before buffer)
   fit : AllByRecursion raf_item.Fits (map item_said (told_items archive before buffer))
   are : each_tree raf_item.tree (map item_said (told_items archive before buffer))
       ≡ trees (map item_tree (told_items archive before buffer))
@@ -234,7 +236,8 @@ one_more tree others n small rest = omega (
 module _ (short : FramesAreShort) (plain : FramesArePlain) (ended : EndIsPlain) where
   say : (archive : List terms.Entry) (before : Option ℕ) (buffer : List Item) → AreOffline buffer
       → Said archive before buffer
-  say archive before [] all = record { fit = tt; are = refl; count = refl; small = omega arith }
+  say archive before [] all =
+      record { handed = tt; fit = tt; are = refl; count = refl; small = omega arith }
   say archive before (backlog ∷ buffer) all = absurd all.0
   say archive before (archived place (loss_of_sync l) ∷ buffer) all = absurd all.0
   say archive before (archived place (production n) ∷ buffer) all = absurd all.0
@@ -242,6 +245,7 @@ module _ (short : FramesAreShort) (plain : FramesArePlain) (ended : EndIsPlain) 
   say archive before (end_of_data ∷ buffer) all =
       let rest = say archive before buffer all.1 in
       record {
+        handed = (tt, rest.handed);
         fit = (ended.fits, rest.fit);
         are = both_same ended.tree rest.are;
         count = ap suc rest.count;
@@ -255,6 +259,7 @@ module _ (short : FramesAreShort) (plain : FramesArePlain) (ended : EndIsPlain) 
       let ranges = frame_in_range archive before place f stands.storable in
       let is = plain shown ranges stands.ert in
       record {
+        handed = (ranges, rest.handed);
         fit = (is.fits, rest.fit);
         are = both_same is.tree rest.are;
         count = ap suc rest.count;
@@ -283,6 +288,8 @@ module _ (short : FramesAreShort) (plain : FramesArePlain) (ended : EndIsPlain)
       let members = map item_tree (told_items archive before buffer) in
       let items = map item_said (told_items archive before buffer) in
       let s = say short plain ended archive before buffer all in
+      let told : length (told_items archive before buffer) ≤ 2 =
+      omega (arith, s.count, few, length-map (told_items archive before buffer) item_said) in
       let small : length (flat_map canonical members) ≤ 131672 = omega (arith, s.small, few) in
       let fits : length (canonical (transfer_buffer members)) ≤ 131682 =
       buffer_small members 131672 small in
@@ -294,6 +301,8 @@ module _ (short : FramesAreShort) (plain : FramesArePlain) (ended : EndIsPlain)
       = subst (λ t. Spells t (canonical (transfer_buffer members))) (sym same)
       (spells (transfer_buffer members) (omega (arith, fits))) in
       record {
+        few = told;
+        handed = s.handed;
         fits = omega (arith, fits);
         read = exact.again Raf items (canonical (transfer_buffer members)) fit spelled;
         fit = fit;
