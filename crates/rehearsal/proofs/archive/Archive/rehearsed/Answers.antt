@@ -1,0 +1,15 @@
+use Rattle.std.proofs.Common.{◌≡◌, ◌∙◌, ◌++◌, ◌∷◌, [], ap, sym, arith}
+use Rattle.record_form.specs.Entry.{entry_of}
+use Rattle.rehearsal.specs.Frames.{frames}
+use Rattle.rehearsal.proofs.Archives.{frame_valid, frames-more, seal_valid}
+use Rattle.rehearsal.proofs.archive.Archive.rehearsed.Goals as goal
+
+pub store-requires : goal.store-requires
+store-requires c = rw c.in_ok-frame.ensures (frame_valid c.loop-i.i (omega arith))
+
+pub loop-i-preserved : goal.loop-i-preserved
+loop-i-preserved c =
+    c.in_ok-store.ensures.ok
+    ∙ ap (λ stored. stored ++ entry_of c.in_ok-frame.field-0 ∷ []) c.loop-i.invariant
+    ∙ ap (λ entry. frames c.loop-i.i ++ entry ∷ []) c.in_ok-frame.ensures
+    ∙ sym (frames-more c.loop-i.i)

@@ -1,0 +1,91 @@
+// What a rehearsal writes.
+ghost use Rattle.std.specs.Prelude.{◌≡◌, ◌≤◌, ◌++◌, IfOk, OnOk, List, string_bytes};
+ghost use Rattle.std.specs.Fmt.{decimal};
+ghost use Rattle.hex.specs.Hex.{encode_lower};
+ghost use Rattle.sha1.specs.Sha1.{sha1};
+ghost use Rattle.station_law.specs.Said.{Told};
+ghost use Rattle.rehearsal.specs.Counts.{Counts, frames_sent, buffers_sent, ends_sent};
+ghost use Rattle.rehearsal.specs.Counts.{octets_sent};
+ghost use Rattle.rehearsal.specs.Rehearsal.{text, line, lines};
+
+use crate::archive::Archive;
+use crate::frames::time;
+use crate::start::count_start;
+use crate::tally::Tally;
+use archive_terms::laws::archive_grows;
+use octet_core::Memory;
+use std::alloc::{AllocError, Global};
+
+/// The most frames of a rehearsal.
+pub const MOST_FRAMES: u32 = 20_000;
+
+// The quality that the START asks for: good frames.
+const GOOD: u8 = 0;
+
+/// The text of a rehearsal of `n` frames: how many frames were stored, how many of them a START
+/// over all hands over, in how many buffers, with how many ends of data, and the SHA-1 of its
+/// messages.
+pub fn rehearse(alloc: Global, n: u32) -> Result<String, Memory>
+    requires some { 1 ≤ n }
+    requires few { n ≤ MOST_FRAMES }
+    ensures { IfOk result (λ written. string_bytes written ≡ text n) }
+{
+    archive_grows();
+    let archive = Archive::rehearsed(alloc, n)?;
+    let tally = count_start(alloc, &archive, &time(0), &time(n - 1), GOOD)?;
+    Ok(report(alloc, archive.frames(), tally)?)
+}
+
+// The lines of a tally.
+fn report(alloc: Global, stored: usize, tally: Tally) -> Result<String, AllocError>
+    ensures { IfOk result (λ written. (told : List Told) → Counts tally told
+        → string_bytes written ≡ lines stored (frames_sent told) (buffers_sent told)
+        (ends_sent told) (sha1 (octets_sent told))) }
+{
+    let Tally {
+        frames,
+        buffers,
+        ends,
+        hasher,
+    } = tally;
+    write_lines(alloc, stored, frames, buffers, ends, &hasher.finalize())
+}
+
+fn write_lines(
+    alloc: Global,
+    stored: usize,
+    sent: u64,
+    buffers: u64,
+    ends: u64,
+    digest: &[u8],
+) -> Result<String, AllocError>
+    ensures { IfOk result (λ written. string_bytes written
+        ≡ lines stored sent buffers ends digest.now) }
+{
+    let mut text = String::new(alloc);
+    put_count(alloc, "stored", stored as u64, &mut text)?;
+    put_count(alloc, "sent", sent, &mut text)?;
+    put_count(alloc, "buffers", buffers, &mut text)?;
+    put_count(alloc, "ends", ends, &mut text)?;
+    put_octets(alloc, "digest", digest, &mut text)?;
+    Ok(text)
+}
+
+// Appends the line of a count.
+fn put_count(alloc: Global, word: &str, count: u64, text: &mut String) -> Result<(), AllocError>
+    ensures { OnOk result (string_bytes text.new
+        ≡ string_bytes text.old ++ line word.now (decimal count)) }
+{
+    let line = format!(in alloc; "{word} {count}\n")?;
+    text.push_str(line.as_str())
+}
+
+// Appends the line of octets.
+fn put_octets(alloc: Global, word: &str, octets: &[u8], text: &mut String) -> Result<(), AllocError>
+    ensures { OnOk result (string_bytes text.new
+        ≡ string_bytes text.old ++ line word.now (encode_lower octets.now)) }
+{
+    let digits = hex::encode(alloc, octets)?;
+    let line = format!(in alloc; "{word} {digits}\n")?;
+    text.push_str(line.as_str())
+}
