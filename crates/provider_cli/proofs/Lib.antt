@@ -7,3 +7,4 @@ pub mod Read
 pub mod Outcomes
 pub mod Promises
 pub mod Lists
+pub mod Rehearsals

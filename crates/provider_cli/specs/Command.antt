@@ -1,6 +1,7 @@
 -- What a command line asks for, and the number that a status is. This product's own rules.
 use Rattle.std.specs.Prelude.{◌≡◌, ◌⊎◌, ℕ, Bool, if◌then◌else◌, Option, Some, None, List, [], ◌∷◌}
-use Rattle.std.specs.Prelude.{◌++◌, Result, Ok, Err, codes}
+use Rattle.std.specs.Prelude.{◌++◌, ◌≤◌, Result, Ok, Err, codes}
+use Rattle.std.specs.Option.{option_map}
 use Rattle.std.specs.Str.{bytes_eq}
 use Rattle.station_law.specs.declared.stop.Stop.{Stop}
 use Rattle.station_law.specs.declared.stop.Stop.TheVariants as stops
@@ -8,22 +9,28 @@ use Rattle.octet_core.specs.Fault.{count_up}
 use Rattle.octet_core.specs.Written.{Gains, GainsFront}
 use Rattle.provider_cli.specs.declared.plan.Plan.{Plan}
 use Rattle.provider_cli.specs.declared.plan.Plan.TheVariants as plans
-use Rattle.provider_cli.specs.declared.plan.Plan.TheVariants.{Drill, Init}
+use Rattle.provider_cli.specs.declared.plan.Plan.TheVariants.{Drill, Init, Rehearse}
 use Rattle.provider_cli.specs.declared.status.Status.{Status}
 use Rattle.provider_cli.specs.declared.status.Status.TheVariants.{Done, Usage, BadLine, BadSite}
 use Rattle.provider_cli.specs.declared.status.Status.TheVariants.{ReadFault, WriteFault, Full}
 use Rattle.provider_cli.specs.declared.status.Status.TheVariants.{InputTooLong, Memory}
 use Rattle.provider_cli.specs.declared.status.Status.TheVariants.{ArchiveRefused, DiskFault}
+use Rattle.provider_cli.specs.Number.{frames_of}
 use Rattle.provider_cli.specs.Outside.{Outside}
 
 abbrev pub is_word : List ℕ → List ℕ → Bool
 is_word word known = bytes_eq word known
 
--- a command is `drill`, or `init` or `list` with any path behind it
+-- a rehearsal has 1 to 20,000 frames: decimal digits without sign and without leading zeros
+abbrev pub rehearsal_of : List ℕ → Option Plan
+rehearsal_of value = option_map Rehearse (frames_of value)
+
+-- a command is `drill`, `init` or `list` with any path behind it, or `rehearse` with a number
 abbrev pub of_two : List ℕ → List ℕ → Option Plan
 of_two word value =
     if is_word word (codes "init") then Some (Init value)
     else if is_word word (codes "list") then Some (plans.List value)
+    else if is_word word (codes "rehearse") then rehearsal_of value
     else None
 
 abbrev pub plan_of : List (List ℕ) → Option Plan
@@ -36,6 +43,11 @@ abbrev pub NeedsDisk : Option Plan → Type 0
 NeedsDisk (Some (Init path)) = Unit {0}
 NeedsDisk (Some (plans.List path)) = Unit {0}
 NeedsDisk _ = ⊥
+
+-- the number of a rehearsal's frames is one of its range
+abbrev pub IsInRange : Option Plan → Type 0
+IsInRange (Some (Rehearse n)) = (1 ≤ n) × (n ≤ 20000)
+IsInRange _ = Unit {0}
 
 -- a status as the program's exit code
 abbrev pub code : Status → ℕ

@@ -1,3 +1,4 @@
+pub mod Number
 pub mod Lines
 pub mod Head
 pub mod Script
@@ -9,3 +10,4 @@ pub mod Headline
 pub mod Laws
 pub mod Promise
 pub mod Archives
+pub mod Rehearsals

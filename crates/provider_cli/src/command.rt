@@ -1,7 +1,9 @@
 // The words of the command line.
 ghost use Rattle.std.specs.Prelude.{◌≡◌, IfOk, OnErr, map};
-ghost use Rattle.provider_cli.specs.Command.{plan_of, of_two, NeedsDisk};
+ghost use Rattle.provider_cli.specs.Command.{plan_of, of_two, rehearsal_of, NeedsDisk};
+ghost use Rattle.provider_cli.specs.Command.{IsInRange};
 
+use crate::number::frames_of;
 use crate::plan::Plan;
 use octet_core::{Memory, Octets};
 use std::alloc::Global;
@@ -10,6 +12,7 @@ use std::alloc::Global;
 /// for a path alone.
 pub fn plan(alloc: Global, words: &[&str]) -> Result<Option<Plan>, Memory>
     ensures plan { IfOk result (λ plan. plan ≡ plan_of (map (λ word. word.now) words.now)) }
+    ensures range { IfOk result IsInRange }
     ensures memory { OnErr result (NeedsDisk (plan_of (map (λ word. word.now) words.now))) }
 {
     match words {
@@ -26,6 +29,7 @@ pub fn plan(alloc: Global, words: &[&str]) -> Result<Option<Plan>, Memory>
 // Reads a command's word and the word behind it.
 fn plan_of_two(alloc: Global, word: &str, value: &str) -> Result<Option<Plan>, Memory>
     ensures plan { IfOk result (λ plan. plan ≡ of_two word.now value.now) }
+    ensures range { IfOk result IsInRange }
     ensures memory { OnErr result (NeedsDisk (of_two word.now value.now)) }
 {
     if word == "init" {
@@ -34,7 +38,20 @@ fn plan_of_two(alloc: Global, word: &str, value: &str) -> Result<Option<Plan>, M
     } else if word == "list" {
         let path = Octets::copy_of(alloc, value.as_bytes())?;
         Ok(Some(Plan::List { path }))
+    } else if word == "rehearse" {
+        Ok(plan_of_rehearsal(value))
     } else {
         Ok(None)
+    }
+}
+
+// Reads the number of frames of a rehearsal.
+fn plan_of_rehearsal(value: &str) -> Option<Plan>
+    ensures plan { result ≡ rehearsal_of value.now }
+    ensures range { IsInRange result }
+{
+    match frames_of(value.as_bytes()) {
+        Some(n) => Some(Plan::Rehearse { n }),
+        None => None,
     }
 }

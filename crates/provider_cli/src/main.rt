@@ -3,6 +3,7 @@
 // `drill` reads a script of received frames, other entries, clock readings and STARTs of an offline
 // return service, has its lines run in the world of `station_law`, and writes the transfer buffers
 // that a user would be handed. `init` makes an archive file, and `list` writes the entries of one.
+// `rehearse` makes a pass of frames from a number, and writes what a START over all of it comes to.
 // `provide` is the program over any input, output and disk; `main` gives it the standard ones, and
 // the disk over the file of a path.
 #![tactic(auto)]
@@ -15,11 +16,13 @@ mod command;
 mod drill;
 mod head;
 mod lines;
+mod number;
 #[cfg(test)]
 mod plain;
 mod plan;
 mod provide;
 mod put;
+mod rehearse;
 mod run;
 mod status;
 #[cfg(test)]

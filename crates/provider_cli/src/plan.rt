@@ -17,4 +17,9 @@ pub enum Plan {
         /// The file's path, a text of any octets.
         path: Octets,
     },
+    /// `rehearse N`: write what a pass of frames comes to.
+    Rehearse {
+        /// How many frames, 1 to 20,000.
+        n: u32,
+    },
 }

@@ -1,20 +1,23 @@
 // The provider's program over any input and output.
 ghost use Rattle.std.specs.Prelude.{◌≡◌, ℕ, List, None, Some, IfSome, IsSome, IsSomeAnd, map};
 ghost use Rattle.provider_cli.specs.declared.plan.Plan.TheVariants as PlanOf;
-ghost use Rattle.provider_cli.specs.declared.plan.Plan.TheVariants.{Drill, Init};
+ghost use Rattle.provider_cli.specs.declared.plan.Plan.TheVariants.{Drill, Init, Rehearse};
 ghost use Rattle.provider_cli.specs.Command.{plan_of, NeedsDisk, EndsAs, IsUsage, IsUnread};
 ghost use Rattle.provider_cli.specs.Outside.{showing};
 ghost use Rattle.provider_cli.specs.Promise.{IsDrill};
 ghost use Rattle.provider_cli.specs.Archives.{IsInit, IsList};
+ghost use Rattle.provider_cli.specs.Rehearsals.{IsRehearsal};
 
 use crate::archive_file::{init_archive, list_archive};
 use crate::command::plan;
 use crate::drill::drill;
 use crate::plan::Plan;
 use crate::put::put_line;
+use crate::rehearse::rehearse;
 use crate::status::Status;
 use disk_model::Disk;
 use octet_core::{Sink, Source};
+use rehearsal::laws::a_rehearsal_is_a_script;
 use std::alloc::Global;
 
 /// What the program runs on.
@@ -29,7 +32,7 @@ pub struct Equipment<I, O, D> {
 }
 
 /// Runs the command that the words are, and answers its exit code.
-#[tactic(auto, using(crate::proofs::Outcomes::ends_as))]
+#[tactic(auto, using(crate::proofs::Outcomes::ends_as, crate::proofs::Rehearsals::unwritten,))]
 pub fn provide<I: Source, O: Sink, D: Disk>(
     alloc: Global,
     words: &[&str],
@@ -63,6 +66,10 @@ pub fn provide<I: Source, O: Sink, D: Disk>(
         (O.written kit.old.output) (O.written kit.new.output)
         (O.faults kit.old.output) (O.faults kit.new.output)
         result)) }
+    ensures rehearsed { (n : ℕ)
+        → plan_of (map (λ word. word.now) words.now) ≡ Some (Rehearse n) → IsRehearsal n
+        (O.written kit.old.output) (O.written kit.new.output)
+        (O.faults kit.old.output) (O.faults kit.new.output) result }
 
     // What no other command touches.
     ensures unread { ¬ (plan_of (map (λ word. word.now) words.now) ≡ Some Drill) → IsUnread
@@ -73,10 +80,12 @@ pub fn provide<I: Source, O: Sink, D: Disk>(
     ensures kept { ¬ NeedsDisk (plan_of (map (λ word. word.now) words.now))
         → kit.new.disk ≡ kit.old.disk }
 {
+    a_rehearsal_is_a_script();
     match plan(alloc, words) {
         Ok(Some(Plan::Drill)) => drill(alloc, &mut kit.input, &mut kit.output),
         Ok(Some(Plan::Init { .. })) => init_on_disk(alloc, kit),
         Ok(Some(Plan::List { .. })) => list_on_disk(alloc, kit),
+        Ok(Some(Plan::Rehearse { n })) => rehearse(alloc, n, &mut kit.output),
         Ok(None) => tell_usage(&mut kit.output).code(),
         Err(_) => Status::Memory.code(),
     }

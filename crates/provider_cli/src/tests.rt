@@ -204,7 +204,7 @@ fn a_frame_has_at_most_65_536_octets(rt: HostRuntime) -> Result<(), Fail> {
 
 #[test]
 fn words_that_are_no_command_are_told_the_usage(rt: HostRuntime) -> Result<(), Fail> {
-    let lines: [&[&str]; 10] = [
+    let lines: [&[&str]; 13] = [
         &[],
         &["drill", "drill"],
         &["--help"],
@@ -214,13 +214,36 @@ fn words_that_are_no_command_are_told_the_usage(rt: HostRuntime) -> Result<(), F
         &["rehearse"],
         &["init", "a", "b"],
         &["Init", "a"],
-        &["rehearse", "7"],
+        &["rehearse", "0"],
+        &["rehearse", "07"],
+        &["rehearse", "20001"],
+        &["rehearse", "7", "7"],
     ];
     for words in lines {
         let mut kit = kit_of(&rt, FIRST_PASS, &[], &[])?;
         assert_eq!(rt; provide(rt.alloc(), words, &mut kit), 2);
         assert_eq!(rt; kit.output.written(), b"usage\n".as_slice());
     }
+    Ok(())
+}
+
+// The digest was taken by another program (`.ci/rehearsals.py`).
+const SEVEN: &[u8] = b"stored 7
+sent 6
+buffers 3
+ends 1
+digest 6e4ec72498d9782ad6be7857493b6f2ac80b9590
+";
+
+#[test]
+fn a_rehearsal_is_written_unless_the_output_fails(rt: HostRuntime) -> Result<(), Fail> {
+    let mut kit = kit_of(&rt, FIRST_PASS, &[1], &[])?;
+    assert_eq!(rt; provide(rt.alloc(), &["rehearse", "7"], &mut kit), 0);
+    assert_eq!(rt; kit.output.written(), SEVEN);
+    assert_eq!(rt; kit.input.faults(), 0);
+    let mut kit = kit_of(&rt, b"", &[], &[1])?;
+    assert_eq!(rt; provide(rt.alloc(), &["rehearse", "7"], &mut kit), 7);
+    assert!(rt; SEVEN.starts_with(kit.output.written()));
     Ok(())
 }
 
