@@ -13,6 +13,9 @@ import subprocess
 import sys
 import tempfile
 
+sys.dont_write_bytecode = True
+import rehearsals
+
 PROGRAM, LAUNCHER = sys.argv[1:3]
 MOST_OCTETS = 16_777_216
 
@@ -54,7 +57,7 @@ def told(words, script, output):
     return done.returncode, done.stderr
 
 
-# ---- words: `drill` alone, `init` and `list` with a path
+# ---- words: `drill` alone, `init` and `list` with a path, `rehearse` with a number
 
 def words():
     check("drill, an empty script", run([b"drill"]), (0, b"", b""))
@@ -64,7 +67,6 @@ def words():
         [b"-drill"], [b"--", b"drill"], [b"help"], [b"--help"], [b"-h"], [b"run"],
         [b"init"], [b"list"], [b"init", b"x", b"y"], [b"list", b"x", b""], [b"x", b"init"],
         [b"Init", b"x"], [b"inits", b"x"], [b"list ", b"x"], [b"-list", b"x"], [b"list\n", b"x"],
-        [b"rehearse", b"7"],
         # words that aren't UTF-8
         [b"\xff"], [b"drill\xff"], [b"drill", b"\xff"], [b"\xff", b"drill"], [b"\xc3\x28"],
     ]
@@ -147,6 +149,7 @@ def faults():
             ("write fault", [b"drill"], FRAMES + SEAL + START, 7),
             ("write fault of a bad line", [b"drill"], b"fly\n", 7),
             ("write fault of usage", [], b"", 7),
+            ("write fault of a rehearsal", [b"rehearse", b"7"], b"", 7),
             ("nothing to write", [b"drill"], FRAMES, 0),
         ]:
             check(name, told(words, script, full), (status, b""))
@@ -273,6 +276,7 @@ def launcher():
 
 
 words()
+rehearsals.drive(run, check)
 statuses()
 lengths()
 faults()
