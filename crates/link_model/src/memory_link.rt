@@ -1,6 +1,6 @@
 // A link in memory.
 ghost use Rattle.std.specs.Prelude.{◌≡◌, ◌∷◌, [], OnOk, OnErr, false, Some, length};
-ghost use Rattle.std.specs.Prelude.{option_copied};
+ghost use Rattle.std.specs.Prelude.{option_copied, option_map};
 ghost use Rattle.link_model.specs.declared.call.Call.TheVariants.{Polled, Offered};
 ghost use Rattle.link_model.specs.Calls.{Tells, heard_of, IsWithin};
 ghost use Rattle.link_model.specs.Counts.{CountsWhere, poll_failed, offer_failed, offer_stalled};
@@ -15,6 +15,7 @@ use octet_core::{FailingCalls, Faults, Memory, Octets, Offer};
 use std::alloc::Global;
 use std::collections::VecDeque;
 use std::marker::Model;
+use std::mem;
 
 /// A link in memory, which is steered from outside and tells its calls.
 ///
@@ -115,6 +116,20 @@ impl MemoryLink {
         ensures { option_copied result ≡ self.now.told }
     {
         if self.tells { Some(&self.calls) } else { None }
+    }
+
+    /// Takes off the calls so far with their answers: it tells those behind them from now on. None
+    /// once memory was refused to them, and it tells none from then on.
+    pub fn take_told(&mut self) -> Option<Vec<Call>>
+        ensures told { option_map (λ calls. calls.items) result ≡ self.old.told }
+        ensures rest { self.new ≡ record self.old {
+          told = option_map (λ calls. []) self.old.told;
+        } }
+    {
+        if !self.tells {
+            return None;
+        }
+        Some(mem::replace(&mut self.calls, Vec::new(self.alloc)))
     }
 
     /// How often a call has failed.
