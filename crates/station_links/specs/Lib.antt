@@ -1,0 +1,6 @@
+pub mod Said
+pub mod Connected
+pub mod Rounds
+pub mod Asked
+pub mod Run
+pub mod Lives

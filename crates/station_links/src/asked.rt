@@ -1,0 +1,121 @@
+// The messages that a script's peer sends.
+ghost use Rattle.std.specs.Prelude.{◌≡◌, ◌≤◌, ◌++◌, IfOk, IfErr, Some, None};
+ghost use Rattle.ber_core.specs.Spelling.{canonical};
+ghost use Rattle.bind_pdu.specs.Binding.{bind};
+ghost use Rattle.bind_pdu.specs.Seen.{bind_of, unbind_of};
+ghost use Rattle.bind_pdu.specs.Unbinding.{unbind};
+ghost use Rattle.isp1_tml.specs.Message.{pdu, context, header, spelling};
+ghost use Rattle.drill_text.specs.Asks.{ask};
+ghost use Rattle.station_links.specs.Asked.{message_of, unbind_asked, bind_asked, IsAsked};
+ghost use Rattle.station_links.specs.declared.ask_fault.AskFault.TheVariants.{NotBuilt};
+
+use crate::ask_fault::AskFault;
+use ber_core::Writer;
+use ber_shape::Pdu;
+use bind_pdu::{Bind, Unbind};
+use drill_text::AskLine;
+use isp1_tml::head;
+use octet_core::{Memory, Octets};
+use sle_common::{Credentials, InstanceId, InstanceRef};
+use std::alloc::{AllocError, Global};
+
+// The port from which a script's peer binds.
+const PORT: &[u8] = b"PORT1";
+
+// What a context's body begins with: the protocol's name, three zeros, and the version.
+const PROTOCOL: &[u8] = b"ISP1\0\0\0\x01";
+
+/// The octets of a message, as one piece.
+pub(crate) fn message_of(alloc: Global, asked: &AskLine) -> Result<Octets, AskFault>
+    requires { ask.Fits asked.now }
+    ensures ok { IfOk result (λ octets. IsAsked octets (message_of asked.now)) }
+    ensures not_built { IfErr result (λ fault. fault ≡ NotBuilt → message_of asked.now ≡ None) }
+{
+    match asked {
+        AskLine::Context { interval, factor } => Ok(context_message(alloc, *interval, *factor)?),
+        AskLine::Bind {
+            name,
+            service,
+            version,
+            id,
+        } => Ok(bind_message(alloc, name, *service, *version, id)?),
+        AskLine::Unbind => Ok(unbind_message(alloc)?),
+        _ => Err(AskFault::NotBuilt),
+    }
+}
+
+fn context_message(alloc: Global, interval: u16, factor: u16) -> Result<Octets, Memory>
+    ensures { IfOk result (λ octets. octets ≡ spelling (context interval factor)) }
+{
+    let mut octets = Octets::copy_of(alloc, &head(2, 12))?;
+    octets.append(PROTOCOL)?;
+    octets.append(&interval.to_be_bytes())?;
+    octets.append(&factor.to_be_bytes())?;
+    Ok(octets)
+}
+
+// A PDU's message is begun: room for so many octets is left.
+fn begin(alloc: Global, length: usize) -> Result<Writer, Memory>
+    requires { length ≤ 65536 }
+    ensures { IfOk result (λ writer. writer ≡ record {
+      octets = header 1 length;
+      room = length;
+    }) }
+{
+    let mut writer = Writer::new(alloc, 8 + length).map_err(AllocError::from)?;
+    writer.raw(&head(1, length as u32));
+    Ok(writer)
+}
+
+fn bind_message<'a>(
+    alloc: Global,
+    name: &'a Octets,
+    service: u16,
+    version: u16,
+    id: &'a InstanceId,
+) -> Result<Octets, Memory>
+    requires { bind.Fits (bind_asked name.now service version id.now) }
+    ensures { IfOk result (λ octets. octets
+        ≡ spelling (pdu (canonical (bind.tree (bind_asked name.now service version id.now))))) }
+{
+    let sent = Bind {
+        credentials: Credentials::Unused,
+        initiator: name.as_slice(),
+        port: PORT,
+        service,
+        version,
+        instance: InstanceRef::Own(id),
+    };
+    put_bind(alloc, &sent)
+}
+
+fn put_bind(alloc: Global, sent: &Bind<'_>) -> Result<Octets, Memory>
+    requires { bind.Fits (bind_of sent.now) }
+    ensures { IfOk result (λ octets. octets
+        ≡ spelling (pdu (canonical (bind.tree (bind_of sent.now))))) }
+{
+    let mut writer = begin(alloc, sent.length())?;
+    sent.encode(&mut writer);
+    Octets::copy_of(alloc, writer.octets())
+}
+
+fn unbind_message(alloc: Global) -> Result<Octets, Memory>
+    ensures { IfOk result (λ octets. octets
+        ≡ spelling (pdu (canonical (unbind.tree unbind_asked)))) }
+{
+    let sent = Unbind {
+        credentials: Credentials::Unused,
+        reason: 0,
+    };
+    put_unbind(alloc, &sent)
+}
+
+fn put_unbind(alloc: Global, sent: &Unbind<'_>) -> Result<Octets, Memory>
+    requires { unbind.Fits (unbind_of sent.now) }
+    ensures { IfOk result (λ octets. octets
+        ≡ spelling (pdu (canonical (unbind.tree (unbind_of sent.now))))) }
+{
+    let mut writer = begin(alloc, sent.length())?;
+    sent.encode(&mut writer);
+    Octets::copy_of(alloc, writer.octets())
+}
