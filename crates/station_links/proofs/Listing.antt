@@ -1,6 +1,6 @@
 -- What calls say, one call after another.
 use Rattle.std.proofs.Common.{◌≡◌, ℕ, ◌+◌, ◌<◌, List, [], ◌∷◌, ◌++◌, length, take, get_or}
-use Rattle.std.proofs.Common.{refl, sym, ap, ◌∙◌}
+use Rattle.std.proofs.Common.{sym, ap, ◌∙◌}
 use Rattle.std.proofs.lemmas.List.{take_more}
 use Rattle.std.proofs.lemmas.List.Elements.{filter_map-append}
 use Rattle.link_model.specs.declared.call.Call.{Call}

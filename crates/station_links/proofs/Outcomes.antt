@@ -21,7 +21,7 @@ use Rattle.station_links.specs.declared.link_line.LinkLine.TheVariants.{Ended}
 use Rattle.station_links.specs.Said.{lines_in, end_of, end_lines}
 use Rattle.station_links.specs.Connected.{Connected}
 use Rattle.station_links.specs.Rounds.{quits, left_by, stands_after, end_after, outcome_of}
-use Rattle.station_links.specs.Lives.{Seen, Lives, AreLeft, Turned, Leaves}
+use Rattle.station_links.specs.Lives.{AreLeft, Turned, Leaves}
 use Rattle.station_links.proofs.Living.{Behind}
 
 pub not_some : (end : Option EndWord) → ((word : EndWord) → end ≡ Some word → ⊥) → end ≡ None

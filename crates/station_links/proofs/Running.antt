@@ -1,17 +1,15 @@
 -- Whole runs of a connection are *Session*.
-use Rattle.std.proofs.Common.{◌≡◌, ℕ, zero, suc, ◌<◌, ◌≤◌, ◌==◌, min, Bool, true, false, not}
+use Rattle.std.proofs.Common.{◌≡◌, ℕ, zero, suc, ◌<◌, ◌≤◌, ◌==◌, Bool, true, false, not}
 use Rattle.std.proofs.Common.{Option, Some, None, List, [], ◌∷◌, ◌++◌, length, take, drop, refl}
 use Rattle.std.proofs.Common.{sym, ap, subst, ◌∙◌, if◌then◌else◌, append_assoc, arith}
 use Rattle.std.proofs.lemmas.List.{append-nil, length-take-le}
 use Rattle.std.proofs.lemmas.List.Elements.{filter_map-append}
-use Rattle.std.specs.Prelude.{is_some, slice_index}
-use Rattle.std.specs.List.{AllByRecursion}
-use Rattle.octet_core.specs.declared.offer.Offer.{Offer}
+use Rattle.std.specs.Prelude.{is_some}
 use Rattle.link_model.specs.declared.call.Call.{Call}
 use Rattle.link_model.specs.declared.call.Call.TheVariants.{Polled, Offered}
 use Rattle.link_model.specs.declared.call.Heard.TheVariants.{Arrived, Nothing, Failed}
-use Rattle.link_model.specs.Steering.{Steering, heard_by, poll_fails, next_heard, arrival, arriving}
-use Rattle.link_model.specs.Steering.{pieces_left, left_before, after_poll}
+use Rattle.link_model.specs.Steering.{Steering, poll_fails, next_heard, arrival, arriving}
+use Rattle.link_model.specs.Steering.{pieces_left, after_poll}
 use Rattle.station_config.specs.declared.site.Site.{Site}
 use Rattle.station_book.specs.State.{Event, quit}
 use Rattle.station_book.specs.State as book
@@ -20,18 +18,18 @@ use Rattle.drill_text.specs.declared.end_word.EndWord.{EndWord}
 use Rattle.session_core.specs.Course.{is_over}
 use Rattle.session_core.specs.Steps.{waits, may_poll, may_speak}
 use Rattle.session_core.specs.Session.{State, Round, Told, next_of, cleared, poll_space, stepped}
-use Rattle.session_core.specs.Session.{IsArrival, IsHeard, AreOctets, IsRound, AreRounds, after_round}
+use Rattle.session_core.specs.Session.{IsArrival, IsHeard, AreOctets, IsRound, after_round}
 use Rattle.session_core.specs.Session.{round_calls, round_events, session_calls, session_events}
 use Rattle.session_core.specs.Session.{session_end, offer_calls, listen_calls}
 use Rattle.station_links.specs.declared.link_line.LinkLine.{LinkLine}
 use Rattle.station_links.specs.Said.{line_in, lines_in, end_of, end_lines}
 use Rattle.station_links.specs.Connected.{Connected, after_call, after_calls}
 use Rattle.station_links.specs.Rounds.{offer_answer, poll_answer, waited_at, heard_at, listened_at}
-use Rattle.station_links.specs.Rounds.{told_now, told_at, round_at, round_of, quits, stands_after}
+use Rattle.station_links.specs.Rounds.{told_now, told_at, round_at, quits, stands_after}
 use Rattle.station_links.specs.Rounds.{end_after}
-use Rattle.station_links.specs.Run.{Order, comes, shuts, breaks, stalls_for, Deed, ordered, turns}
+use Rattle.station_links.specs.Run.{Order, comes, shuts, breaks, stalls_for, ordered, turns}
 use Rattle.station_links.specs.Run.{order_in, obeyed, said_by, events_by, rounds_by, ArePieces}
-use Rattle.station_links.specs.Run.{BringsPieces, Quits, EndsWith, IsSession, RunsAreSessions}
+use Rattle.station_links.specs.Run.{BringsPieces, EndsWith, IsSession, RunsAreSessions}
 
 -- ---- pieces stay lists of octets
 

@@ -1,11 +1,10 @@
 -- A round of a connection is the one that its steering and the book fix.
-use Rattle.std.proofs.Common.{◌≡◌, ℕ, Bool, true, false, not, Option, Some, None, List, [], ◌∷◌}
-use Rattle.std.proofs.Common.{◌++◌, refl, sym, ap, subst, ◌∙◌, if◌then◌else◌}
+use Rattle.std.proofs.Common.{◌≡◌, ℕ, Bool, false, Option, Some, None, [], ◌∷◌}
+use Rattle.std.proofs.Common.{refl, sym, ap, subst, ◌∙◌, if◌then◌else◌}
 use Rattle.std.specs.Prelude.{is_some}
 use Rattle.octet_core.specs.declared.offer.Offer.{Offer}
 use Rattle.link_model.specs.declared.call.Heard.{Heard}
 use Rattle.link_model.specs.Steering.{Steering}
-use Rattle.link_model.specs.declared.call.Call.{Call}
 use Rattle.archive_terms.specs.Glimpse.{wants_nothing}
 use Rattle.station_config.specs.declared.site.Site.{Site}
 use Rattle.station_book.specs.State.{Event, Answer}
@@ -13,9 +12,9 @@ use Rattle.station_book.specs.State as book
 use Rattle.station_book.specs.History.{IsLegal, moment_at, answer_to}
 use Rattle.session_core.specs.declared.standing.Standing.{Standing}
 use Rattle.session_core.specs.Course.{is_over}
-use Rattle.session_core.specs.Steps.{waits, may_poll, may_speak, ask_of}
+use Rattle.session_core.specs.Steps.{may_poll, may_speak, ask_of}
 use Rattle.session_core.specs.Session.{State, Round, Told, next_of, cleared, listened, poll_space}
-use Rattle.session_core.specs.Session.{stepped, before_step, before_speak, after_round, IsRound}
+use Rattle.session_core.specs.Session.{stepped, before_step, before_speak, IsRound}
 use Rattle.session_core.specs.Session.{event_of, step_events, offer_calls, poll_calls, listen_calls}
 use Rattle.session_core.specs.Session.{speak_calls, round_calls, round_events}
 use Rattle.session_core.specs.Lists.{readings_in}

@@ -4,7 +4,6 @@
 use Rattle.std.specs.Prelude.{ℕ, Bool, true, false, if◌then◌else◌, Option, Some, None, List, []}
 use Rattle.std.specs.Prelude.{◌∷◌, ◌++◌}
 use Rattle.octet_core.specs.declared.offer.Offer.{Offer}
-use Rattle.link_model.specs.declared.call.Call.{Call}
 use Rattle.link_model.specs.declared.call.Heard.{Heard}
 use Rattle.link_model.specs.Steering.{Steering, heard_by, answer_to_offer}
 use Rattle.archive_terms.specs.Glimpse.{wants_nothing}

@@ -1,7 +1,6 @@
--- What a round of a connection says in the transcript: an offer that was taken whole or stalled,
--- and how it ended. A round that calls its link or not, says nothing of a poll or of an offer that
--- failed.
-use Rattle.std.specs.Prelude.{ℕ, Option, Some, None, List, [], ◌∷◌, map}
+-- What a round of a connection says in the transcript: each offer that was taken whole or stalled,
+-- and how it ended. A poll, and an offer that failed, say nothing.
+use Rattle.std.specs.Prelude.{ℕ, Option, Some, None, List, [], ◌∷◌}
 use Rattle.std.specs.List.{filter_map}
 use Rattle.octet_core.specs.declared.offer.Offer.TheVariants.{Whole, Stalled, Failed as Refused}
 use Rattle.isp1_tml.specs.declared.tml_fault.TmlFault.{TmlFault}

@@ -3,7 +3,6 @@ ghost use Rattle.std.specs.Prelude.{◌≡◌};
 ghost use Rattle.station_links.specs.declared.ask_fault.AskFault.TheVariants.{Memory as Refused};
 
 use octet_core::Memory;
-use std::alloc::AllocError;
 
 /// Why a peer's message doesn't arrive.
 #[derive(Clone, Copy, Debug, PartialEq, Eq)]

@@ -1,5 +1,5 @@
 // The messages that a script's peer sends.
-ghost use Rattle.std.specs.Prelude.{◌≡◌, ◌≤◌, ◌++◌, IfOk, IfErr, Some, None};
+ghost use Rattle.std.specs.Prelude.{◌≡◌, ◌≤◌, IfOk, IfErr, None};
 ghost use Rattle.ber_core.specs.Spelling.{canonical};
 ghost use Rattle.bind_pdu.specs.Binding.{bind};
 ghost use Rattle.bind_pdu.specs.Seen.{bind_of, unbind_of};

@@ -11,7 +11,7 @@ use record_form::Entries;
 use station_book::Book;
 use station_config::Site;
 use station_links::{AskFault, Connection};
-use std::alloc::{AllocError, Global};
+use std::alloc::Global;
 
 // A connection that is there, and its number.
 #[derive(Drop)]

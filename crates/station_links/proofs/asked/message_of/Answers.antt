@@ -1,7 +1,6 @@
 use Rattle.std.proofs.Common.{subst}
 use Rattle.drill_text.specs.Asks.{ask}
 use Rattle.drill_text.specs.declared.ask_line.AskLine.{AskLine}
-use Rattle.station_links.specs.Asked.{message_of, IsAsked}
 use Rattle.station_links.proofs.Fits.{bind_fits}
 use Rattle.station_links.proofs.asked.message_of.Goals as goal
 
