@@ -1,5 +1,6 @@
 // Connections by scripts. The expected octets were spelled by hand (X.690, and CCSDS 911.1-B and
 // 913.1-B for the fields of the messages).
+ghost use Rattle.std.specs.Prelude.{IfOk};
 ghost use Rattle.station_config.specs.Validity.{IsSite};
 
 use station::Station;

@@ -10,7 +10,7 @@ use octet_core::{Memory, Octets};
 use record_form::Entries;
 use station_book::Book;
 use station_config::Site;
-use station_links::{AskFault, Connection};
+use station_links::{AskFault, Connection, Turn};
 use std::alloc::Global;
 
 // A connection that is there, and its number.
@@ -73,14 +73,19 @@ impl Station {
     {
         let mut there = connection;
         for _ in 0..rounds {
-            let turn = there.round(self.alloc, site, &mut self.book, self.clock)?;
-            for line in &turn.said {
+            let Turn { said, connection } = there.round(
+                self.alloc,
+                site,
+                &mut self.book,
+                self.clock,
+            )?;
+            for line in &said {
                 write_line(self.alloc, &line.of_connection(c), &mut self.said)?;
             }
-            let Some(connection) = turn.connection else {
-                return Ok(true);
-            };
-            there = connection;
+            match connection {
+                Some(connection) => there = connection,
+                None => return Ok(true),
+            }
         }
         self.places.push(Place {
             c,
