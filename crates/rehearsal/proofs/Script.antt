@@ -32,15 +32,22 @@ use Rattle.rehearsal.proofs.Lengths.{length-frame, length-seal}
 -- the world that has published these entries
 abbrev world_with : List Entry → State
 world_with published =
-    record { capacity = 268435456; published = published; unsettled = []; clock = 0 }
+    record {
+      capacity = 268435456;
+      published = published;
+      unsettled = [];
+      order = None;
+      clock = 0;
+    }
 
 -- ---- each entry is stored
 
 stored_so : (state : State) (entry : form.Entry) → is_valid (entry_of entry) ≡ true
     → keeps_order state.published (entry_of entry) ≡ true → is_short (entry_of entry) ≡ true
-    → nat_lt (free state) (need (entry_of entry)) ≡ false
+    → nat_lt (free state) (need (entry_of entry)) ≡ false → state.order ≡ None
     → step state (Offer entry) ≡ stores state (entry_of entry)
-stored_so state entry valid ordered short enough = rw (valid, ordered, short, enough) refl
+stored_so state entry valid ordered short enough unordered =
+    rw (valid, ordered, short, enough, unordered) refl
 
 sum_frames : (n : ℕ) → sum_by need (frames n) ≡ 1143 * n
 sum_frames zero = refl
@@ -71,7 +78,7 @@ module _ (n : ℕ) (few : n ≤ 20000) where
       let small : i < 20000 = omega arith in
       stored_so (world_with (frames i)) (offered_at i) (frame_valid i small) (frames_follow i small)
       (frame_short i)
-      (enough_for i (need (entry_at i)) (omega arith) (omega (arith, length-frame i)))
+      (enough_for i (need (entry_at i)) (omega arith) (omega (arith, length-frame i))) refl
 
   seal_stored : (j : ℕ) → j < 20000
       → step (world_with (frames n)) (Offer (entries.Seal (time_at j)))
@@ -79,7 +86,7 @@ module _ (n : ℕ) (few : n ≤ 20000) where
   seal_stored j small =
       stored_so (world_with (frames n)) (entries.Seal (time_at j)) (seal_valid j small)
       (seal_follows n j few) refl
-      (enough_for n (need (seal (time_at j))) few (omega (arith, length-seal j)))
+      (enough_for n (need (seal (time_at j))) few (omega (arith, length-seal j))) refl
 
   -- ---- the lines of frames, one after another
 
