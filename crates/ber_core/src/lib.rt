@@ -27,6 +27,3 @@ pub use memory::Memory;
 pub use reader::Reader;
 pub use size::{element_length, integer_length};
 pub use writer::Writer;
-
-#[cfg(test)]
-mod tests;

@@ -18,6 +18,3 @@ pub use bind_return::BindReturn;
 pub use peer_abort::PeerAbort;
 pub use unbind::Unbind;
 pub use unbind_return::UnbindReturn;
-
-#[cfg(test)]
-mod tests;

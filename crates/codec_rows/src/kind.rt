@@ -3,6 +3,7 @@ ghost use Rattle.std.specs.Prelude.{◌<◌, ◌^◌};
 
 use ber_core::{BerFault, Reader, Writer};
 use ber_shape::{Element, Pdu, decode, encode, length, read_within};
+use bind_pdu::{Bind, BindReturn, PeerAbort, Unbind, UnbindReturn};
 use fcltu_pdu::{
     Async, CltuReport, CltuStart, CltuStartReturn, CltuTransfer, Throw, ThrowReturn, TransferReturn,
 };
@@ -55,6 +56,11 @@ pub enum Kind {
     TransferReturn,
     Async,
     CltuReport,
+    Bind,
+    BindReturn,
+    Unbind,
+    UnbindReturn,
+    PeerAbort,
 }
 
 /// What octets are decoded as, and a blank: the value as its derived `Debug` writes it, or the
@@ -83,6 +89,11 @@ pub fn told(alloc: Global, kind: Kind, octets: &[u8]) -> Result<String, Fail> {
         Kind::TransferReturn => told_pdu::<TransferReturn>(alloc, octets),
         Kind::Async => told_pdu::<Async>(alloc, octets),
         Kind::CltuReport => told_pdu::<CltuReport>(alloc, octets),
+        Kind::Bind => told_bind(alloc, octets),
+        Kind::BindReturn => told_pdu::<BindReturn>(alloc, octets),
+        Kind::Unbind => told_pdu::<Unbind>(alloc, octets),
+        Kind::UnbindReturn => told_pdu::<UnbindReturn>(alloc, octets),
+        Kind::PeerAbort => told_abort(alloc, octets),
         shared => told_shared(alloc, shared, octets),
     }
 }
@@ -123,10 +134,53 @@ fn told_pdu<'a, P: Pdu<'a> + Debug + Drop>(
         Ok(pdu) => pdu,
         Err(fault) => return Ok(format!(in alloc; "{fault} ")?),
     };
+    let otherwise = otherwise(&written(alloc, &pdu)?, octets);
+    Ok(format!(in alloc; "{pdu:?} {otherwise}")?)
+}
+
+/// The canonical spelling of a PDU.
+pub fn written<'a, P: Pdu<'a>>(alloc: Global, pdu: &P) -> Result<Vec<u8>, Fail>
+    requires { P.Members.shape.Fits (P.Members.seen pdu.now) }
+{
     let mut writer = Writer::new(alloc, pdu.length())?;
     pdu.encode(&mut writer);
+    Ok(Vec::from_slice(alloc, writer.octets())?)
+}
+
+// Of a BIND its fields, and of some identifiers those that it names; each is written too as a BIND
+// of this side to that instance.
+fn told_bind(alloc: Global, octets: &[u8]) -> Result<String, Fail> {
+    let bind = match Bind::decode(octets) {
+        Ok(bind) => bind,
+        Err(fault) => return Ok(format!(in alloc; "{fault} ")?),
+    };
+    let mut text = format!(in alloc;
+        "{:?} {:?} {:?} {} {} ",
+        bind.credentials, bind.initiator, bind.port, bind.service, bind.version
+    )?;
+    for name in IDENTIFIERS {
+        let id = InstanceId::parse_text(alloc, name)?;
+        if bind.instance.names(&id) {
+            let instance = InstanceRef::Own(&id);
+            let own = Bind { instance, ..bind };
+            text.push_str(name)?;
+            text.push_str(" ")?;
+            text.push_str(otherwise(&written(alloc, &own)?, octets))?;
+        }
+    }
+    text.push_str(otherwise(&written(alloc, &bind)?, octets))?;
+    Ok(text)
+}
+
+fn told_abort(alloc: Global, octets: &[u8]) -> Result<String, Fail> {
+    let abort = match PeerAbort::decode(octets) {
+        Ok(abort) => abort,
+        Err(fault) => return Ok(format!(in alloc; "{fault} ")?),
+    };
+    let mut writer = Writer::new(alloc, abort.length())?;
+    abort.encode(&mut writer);
     let otherwise = otherwise(writer.octets(), octets);
-    Ok(format!(in alloc; "{pdu:?} {otherwise}")?)
+    Ok(format!(in alloc; "{abort:?} {otherwise}")?)
 }
 
 fn told_element<'a, E: Element<'a>>(alloc: Global, octets: &'a [u8]) -> Result<String, Fail>
@@ -158,8 +212,10 @@ fn told_channel(alloc: Global, octets: &[u8]) -> Result<String, Fail> {
     })
 }
 
-const IDENTIFIERS: [&str; 5] = [
+const IDENTIFIERS: [&str; 7] = [
     "sagr=1",
+    "rocf=1",
+    "sagr=9.raf=x",
     "sagr=1.spack=P.rsl-fg=1.raf=onlc1",
     "sagr=1.spack=P.rsl-fg=1.raf=onlc2",
     "sagr=1.spack=P.rsl-fg=1.rcf=onlc1",

@@ -5,6 +5,7 @@
 // places of faults were counted by X.690. What stands beside octets are the fields that they were
 // made from. Octets of whole dialogues were put together by hand from CCSDS 911.1-B and 911.2-B,
 // annex A, and X.690.
+mod binds;
 mod buffers;
 mod cltu_starts;
 mod cuts;
@@ -13,6 +14,7 @@ mod large_buffers;
 mod notices;
 mod parameters;
 mod plain_items;
+mod primitives;
 mod reports;
 mod shared_types;
 mod starts;
