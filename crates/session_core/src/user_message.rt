@@ -68,7 +68,7 @@ impl<'a> UserMessage<'a> {
             },
             UserMessage::Unbind(_) => PduKind::Unbind,
             UserMessage::PeerAbort(_) => PduKind::PeerAbort,
-            UserMessage::Service(invocation) => invocation.kind(),
+            UserMessage::Service(invocation) => match *invocation {},
             UserMessage::Undecoded => PduKind::Undecoded,
             UserMessage::OutOfPlace => PduKind::Other,
         }
@@ -81,7 +81,7 @@ impl<'a> UserMessage<'a> {
         match self {
             UserMessage::Bind(bind) => bind.credentials,
             UserMessage::Unbind(unbind) => unbind.credentials,
-            UserMessage::Service(invocation) => invocation.credentials(),
+            UserMessage::Service(invocation) => match *invocation {},
             _ => Credentials::Unused,
         }
     }
