@@ -1,11 +1,11 @@
 -- What a disk holds of an archive, before and after its calls.
-use Rattle.std.proofs.Common.{◌≡◌, inl, inr, ℕ, ◌+◌, ◌≤◌, ◌-◌, ◌≢◌, ◌⊎◌, Bool, IsTrue, Result, Ok}
-use Rattle.std.proofs.Common.{Err, IsOk, IsErrOf, ◌∷◌, true, false, Option, Some, None, is_some}
+use Rattle.std.proofs.Common.{◌≡◌, inl, inr, ℕ, ◌+◌, ◌≤◌, ◌-◌, ◌⊎◌, Bool}
+use Rattle.std.proofs.Common.{◌∷◌, true, false, Option, Some, None, is_some}
 use Rattle.std.proofs.Common.{IfSome, IsSomeAnd, List, [], ◌++◌, length, take, refl, sym, ap, subst}
 use Rattle.std.proofs.Common.{◌∙◌, arith, length-append}
 use Rattle.std.proofs.lemmas.List.{take_all, take-append-le, length-take-le, append-nil}
 use Rattle.archive_terms.specs.Archive.{Entry, IsArchive}
-use Rattle.disk_model.specs.Images.{Pending, IsCoherent, IsImage}
+use Rattle.disk_model.specs.Images.{Pending, IsCoherent}
 use Rattle.disk_model.specs.Moments.{IsImageOf, HoldsThroughout}
 use Rattle.gate_journal.specs.File.{StandsFor, StandsAt, entries_octets}
 use Rattle.disk_model.specs.declared.call.Call.{Call}
@@ -13,11 +13,9 @@ use Rattle.disk_model.specs.Calls.{FailedAtOne}
 use Rattle.gate_journal.specs.Kept.{JournalState, Keeps, IsOldOrNew, appending}
 use Rattle.gate_journal.specs.Kept as journal
 use Rattle.gate_journal.specs.declared.fault.JournalFault.{JournalFault}
-use Rattle.gate_journal.specs.declared.fault.JournalFault.TheVariants as faults
 use Rattle.gate_journal.specs.declared.order.Times.{Times}
-use Rattle.frame_archive.specs.State.{ArchiveState, at_rest, failed_batch, times_of, wanted}
-use Rattle.frame_archive.specs.State.{with_failed}
-use Rattle.frame_archive.specs.Held.{Agrees, Acknowledges, Waits, IsOpen, IsSound}
+use Rattle.frame_archive.specs.State.{ArchiveState, failed_batch, times_of, wanted}
+use Rattle.frame_archive.specs.Held.{Agrees, Acknowledges, IsSound}
 use Rattle.frame_archive.specs.Faults.{IsUnread, opening_fault}
 
 pub agrees_alone : (entries : List Entry) → IsArchive entries

@@ -1,9 +1,9 @@
 -- What an offer needs: tests that came out so, and what waits with one entry more.
-use Rattle.std.proofs.Common.{◌≡◌, ℕ, ◌+◌, ◌-◌, ◌≤◌, ◌<◌, nat_le, nat_lt, IfSome, is_some, take}
+use Rattle.std.proofs.Common.{◌≡◌, ℕ, ◌+◌, ◌-◌, ◌≤◌, ◌<◌, nat_le, nat_lt, IfSome, take}
 use Rattle.std.proofs.Common.{Bool, true, false, not, ◌&&◌, Option, Some, None, List, [], ◌∷◌, ◌++◌}
 use Rattle.std.proofs.Common.{length, IsTrue, if◌then◌else◌, refl, sym, ap, subst, ◌∙◌}
 use Rattle.std.proofs.Common.{append_assoc, arith, length-append}
-use Rattle.std.specs.List.{list_all, flat_map}
+use Rattle.std.specs.List.{list_all}
 use Rattle.std.proofs.lemmas.Bool.Decides.{nat_tests}
 use Rattle.std.proofs.lemmas.List.{take-append-le}
 use Rattle.std.proofs.lemmas.List.Folds.{list_all-append}
@@ -16,9 +16,9 @@ use Rattle.gate_journal.specs.File.{entries_octets}
 use Rattle.gate_journal.specs.declared.order.Times.{Times}
 use Rattle.disk_model.specs.Images.{Pending}
 use Rattle.gate_journal.specs.Kept.{JournalState, Keeps, IsOldOrNew}
-use Rattle.frame_archive.specs.State.{ArchiveState, failed_batch, times_of, times_after, wanted}
+use Rattle.frame_archive.specs.State.{ArchiveState, times_of, times_after, wanted}
 use Rattle.frame_archive.specs.State.{need}
-use Rattle.frame_archive.specs.Held.{Agrees, Acknowledges, Waits, IsOpen, IsSound}
+use Rattle.frame_archive.specs.Held.{Agrees, Acknowledges, IsSound}
 use Rattle.frame_archive.proofs.LastTimes.{times_of-push}
 
 -- what follows from a refusal that didn't come

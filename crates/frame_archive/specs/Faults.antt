@@ -1,6 +1,6 @@
 -- Why an archive isn't opened, stored or reopened, and what a reopen finds.
-use Rattle.std.specs.Prelude.{ℕ, ◌+◌, ◌≡◌, ◌≢◌, ◌⊎◌, ◌==◌, Bool, Option, Some, None, IfSome, List}
-use Rattle.std.specs.Prelude.{[], length, if◌then◌else◌}
+use Rattle.std.specs.Prelude.{ℕ, ◌+◌, ◌≡◌, ◌≢◌, ◌⊎◌, Option, Some, None, IfSome, List}
+use Rattle.std.specs.Prelude.{length}
 use Rattle.archive_terms.specs.Archive.{Entry}
 use Rattle.octet_core.specs.Fault.{Rose}
 use Rattle.disk_model.specs.Images.{Pending}

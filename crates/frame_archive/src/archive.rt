@@ -435,7 +435,8 @@ impl FrameArchive<MemoryDisk> {
     pub fn restart(&mut self) -> Result<(), Memory>
         ensures stale { self.new ≡ record self.old { disk = self.new.disk; is_stale = true } }
         ensures ok { OnOk result (MatchOption self.old.disk.stopped
-            (self.new.disk ≡ self.old.disk) (λ pick. self.new.disk ≡ restarted self.old.disk pick)) }
+            (self.new.disk ≡ self.old.disk)
+            (λ pick. self.new.disk ≡ restarted self.old.disk pick)) }
         ensures err { OnErr result (self.new.disk ≡ self.old.disk) }
         ensures image { OnOk result (IsImage (pending_of self.old.disk)
             (content_of self.new.disk)) }

@@ -1,4 +1,4 @@
-use Rattle.std.proofs.Common.{◌≡◌, length, rules, sym, subst, ◌∙◌}
+use Rattle.std.proofs.Common.{rules, sym, subst, ◌∙◌}
 use Rattle.frame_archive.specs.State.{ArchiveState}
 use Rattle.frame_archive.specs.Held.{Acknowledges}
 use Rattle.frame_archive.proofs.Holding.{acknowledges_failed, failed_at, sound_stored}
