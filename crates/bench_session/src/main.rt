@@ -2,8 +2,8 @@
 //
 // The words are `WORK SESSIONS ROUNDS`: so many sessions take a context and then make so many
 // rounds each, in turn. In a round of `idle` nothing arrives; of `beats` a heartbeat does, and one
-// is due; of `binds` a BIND does, of an instance that another door has. A line tells how many octets
-// the sessions handed over. With no words, one session makes three rounds of each work.
+// is due; of `binds` a BIND does, of an instance that another door has. A line tells how many
+// octets the sessions handed over. With no words, one session makes three rounds of each work.
 #![tactic(auto)]
 
 mod line;

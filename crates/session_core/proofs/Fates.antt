@@ -31,6 +31,8 @@ use Rattle.session_core.specs.Message.{Said, context, heartbeat as beat, bind, u
 use Rattle.session_core.specs.Message.{invocation, undecoded, out_of_place, judged}
 use Rattle.session_core.specs.Handling.{ended_by, aborted, is_agreed, after_passing, concluded}
 use Rattle.session_core.specs.Handling.{is_lost, invoked, after_judged}
+use Rattle.session_core.specs.Service.{Invocation, with_invocation}
+use Rattle.session_core.specs.Service as service
 use Rattle.session_core.specs.Steps.{Next, has_message, has_block, round_begun, waits, may_poll}
 use Rattle.session_core.specs.Steps.{after_wait, after_offer, at_moment, is_idle, said_to}
 use Rattle.session_core.specs.Steps.{with_next, acted}
@@ -169,6 +171,10 @@ keeps_self s = record { plain = λ h. h; arrival = refl }
 keeps_end : (s : Standing) (end : Ended) → Keeps s (ended_by s end)
 keeps_end s end = record { plain = λ h. refl; arrival = refl }
 
+keeps_invocation : (site : Site) (s : Standing) (i : Invocation) (reply : BookReply)
+    → Keeps s (with_invocation site s i reply)
+keeps_invocation site s service.undecoded reply = keeps_self s
+
 keeps_passing : (site : Site) (s : Standing) (said : Said) (reply : BookReply)
     → Keeps s (after_passing site s said reply)
 keeps_passing site s (context interval factor) reply =
@@ -178,7 +184,7 @@ keeps_passing site s beat reply = keeps_self s
 keeps_passing site s (bind b) reply = record { plain = λ h. h; arrival = refl }
 keeps_passing site s (unbind u) reply = record { plain = λ h. refl; arrival = refl }
 keeps_passing site s (peer_abort diagnostic) reply = keeps_end s (PeerAborted diagnostic)
-keeps_passing site s (invocation i) reply = elim i [ ]
+keeps_passing site s (invocation i) reply = keeps_invocation site s i reply
 keeps_passing site s undecoded reply = keeps_self s
 keeps_passing site s out_of_place reply = keeps_self s
 

@@ -5,6 +5,7 @@ mod Fates
 mod Stalls
 mod Faults
 mod One
+mod Longer
 mod Blocks
 mod Streams
 mod Rounds

@@ -31,6 +31,13 @@ no_event : (site : Site) (door : ℕ) (s : State) (told : Option Told) (later : 
 no_event site door s None later e = refl
 no_event site door s (Some told) later e = absurd (cc)
 
+-- a listen leaves whether a session has ended
+pub over_before : (site : Site) (s : State) (r : Round) → IsRound site s r
+    → is_over (before_step s r).standing.course ≡ is_over s.standing.course
+over_before site s r is =
+    heard_keeps is_over over_linkless (cleared s r.waited) r.heard (next_of s) is.listens.polls
+    ∙ waited_keeps is_over over_linkless s.standing r.waited is.listens.offers
+
 -- rounds without an event are those of a session that has ended
 silent : (site : Site) (door : ℕ) (s : State) (rounds : List Round) (r : Round)
     → AreRounds site s (r ∷ rounds) → session_events site door s (r ∷ rounds) ≡ []
@@ -41,10 +48,7 @@ silent site door s rounds r h e =
     let asks : false ≡ not (is_over (before_step s r).standing.course) =
     ap is_some (sym none) ∙ h.0.asks in
     ends_repeat site door s (r ∷ rounds)
-    (sym (waited_keeps is_over over_linkless s.standing r.waited h.0.listens.offers)
-    ∙ sym
-    (heard_keeps is_over over_linkless (cleared s r.waited) r.heard (next_of s)
-    h.0.listens.polls)
+    (sym (over_before site s r h.0)
     ∙ not_true (is_over (before_step s r).standing.course) asks)
     h
 
@@ -99,13 +103,13 @@ same_told site door s (Some a) (Some b) xs ys e h =
 
 -- ---- equal rounds
 
-record Same (site : Site) (door : ℕ) (s : State) (r q : Round) (xs ys : List LinkAnswer)
+pub record Same (site : Site) (door : ℕ) (s : State) (r q : Round) (xs ys : List LinkAnswer)
     (es fs : List Event) : Type 0 where
-  round : r ≡ q
-  answers : xs ≡ ys
-  events : es ≡ fs
+  pub round : r ≡ q
+  pub answers : xs ≡ ys
+  pub events : es ≡ fs
 
-same_round : (site : Site) (door : ℕ) (s : State) (r q : Round) (xs ys : List LinkAnswer)
+pub same_round : (site : Site) (door : ℕ) (s : State) (r q : Round) (xs ys : List LinkAnswer)
     (es fs : List Event) → IsRound site s r → IsRound site s q
     → offer_answers r.waited ++ (poll_answers r.heard ++ (offer_answers r.spoke ++ xs))
     ≡ offer_answers q.waited ++ (poll_answers q.heard ++ (offer_answers q.spoke ++ ys))

@@ -9,14 +9,10 @@ use Rattle.link_model.specs.Counts.{CountsWhere}
 use Rattle.station_book.specs.State.{Event}
 use Rattle.station_book.specs.State as book
 use Rattle.station_book.specs.History.{IsLegal, then_after, replay, reading_of}
-use Rattle.session_core.specs.declared.course.Course.{Course}
-use Rattle.session_core.specs.declared.course.Course.TheVariants as course
 use Rattle.session_core.specs.declared.spoken.Spoken.{Spoken}
 use Rattle.session_core.specs.declared.spoken.Spoken.TheVariants.{Going}
 use Rattle.session_core.specs.declared.standing.Standing.{Standing}
-use Rattle.session_core.specs.Course.{is_over}
-use Rattle.session_core.specs.Session.{Round, AreRounds, session_calls, session_events}
-use Rattle.session_core.specs.Session.{session_end, spoken_of, is_fault}
+use Rattle.session_core.specs.Session.{Round, AreRounds, session_events, spoken_of, is_fault}
 use Rattle.session_core.specs.Kept.{Kept}
 use Rattle.session_core.specs.Outcome.{come_to, has_failed, FailsBy}
 use Rattle.session_core.specs.Lists.{Began, start_of, StandsAt, to_listen, Part, none_made}
@@ -25,6 +21,7 @@ use Rattle.session_core.specs.Lists.{to_step, OnlyListens}
 use Rattle.session_core.specs.Serving.{Made, Serves, Breaks}
 use Rattle.session_core.specs.Laws.{EndsAsItStands}
 use Rattle.session_core.proofs.Listed.{At, at_of}
+use Rattle.session_core.proofs.Longer.{going_on, whole}
 use Rattle.session_core.proofs.Rounds.{tells-nil, tells-tells}
 use Rattle.session_core.proofs.Fates.{uncounted, both_count}
 
@@ -41,17 +38,9 @@ legal_both s (e ∷ h) k is more = (is.0, legal_both (then_after s e) h k is.1 m
 
 -- ---- the end of rounds
 
-end_at : (part : Part) → stage_of part ≡ to_listen → (b : Began) (v : Kept) (calls : List Call)
-    (events : List Event) (h : At part b v calls events)
-    → come_to v ≡ session_end b.site (start_of b) h.rounds
-end_at none_made e b v calls events h =
-    ap (λ (s : Standing). spoken_of s.course) h.shows.standing
-end_at (made_listen waited heard) e b v calls events h = absurd (cc)
-end_at (made_step waited heard told) e b v calls events h = absurd (cc)
-
 pub ends_as_it_stands : EndsAsItStands
 ends_as_it_stands b v calls events h =
-    end_at h.part h.stage_is b v calls events (at_of to_listen b v calls events h)
+    ap (λ (s : Standing). spoken_of s.course) (whole b v calls events h).standing
 
 -- ---- rounds so far
 
@@ -78,14 +67,6 @@ lasts_first b before bk v stands = record {
   reads = refl;
   stands = stands;
 }
-
-going_on : (c : Course) → spoken_of c ≡ Going → is_over c ≡ false
-going_on course.Going e = refl
-going_on (course.Closing end) e = refl
-going_on (course.Over end) e = absurd (cc)
-going_on course.LinkFailing e = refl
-going_on course.LinkFailed e = absurd (cc)
-going_on course.Spent e = refl
 
 -- one round more
 pub lasts_on : (b : Began) (a c d : Option (List Call)) (bk mid now : book.State)
@@ -129,34 +110,20 @@ made_so b bk now readings made events rounds right is legal book_is reads = reco
   reads = ap readings_in (sym is) ∙ reads;
 }
 
-serves_at : (part : Part) → stage_of part ≡ to_listen → (b : Began)
-    (a d : Option (List Call)) (bk now : book.State) (readings : List ℕ) (made : ℕ) (end : Spoken)
-    (v : Kept) (h : Lasts b a d bk now (take made readings) v) → At part b v h.calls h.events
-    → end ≡ come_to v → (end ≡ Going → made ≡ length readings)
-    → Serves b a d bk now readings end
-serves_at none_made e b a d bk now readings made end v h at ends all =
-    let calls_are = at.calls_are ∙ append-nil (session_calls b.site (start_of b) at.rounds) in
-    let events_are =
-    at.events_are ∙ append-nil (session_events b.site b.door (start_of b) at.rounds) in
-    record {
-      rounds = at.rounds;
-      so = made_so b bk now readings made h.events at.rounds at.right events_are h.legal
-          h.book_is h.reads;
-      told = subst (λ (x : List Call). Tells a d x) calls_are h.told;
-      ends = ends ∙ end_at none_made e b v h.calls h.events at;
-      all = all;
-    }
-serves_at (made_listen waited heard) e b a d bk now readings made end v h at ends all = absurd (cc)
-serves_at (made_step waited heard told) e b a d bk now readings made end v h at ends all =
-    absurd (cc)
-
 pub serves_by : (b : Began) (a d : Option (List Call)) (bk now : book.State)
     (readings : List ℕ) (made : ℕ) (end : Spoken) (v : Kept)
     → Lasts b a d bk now (take made readings) v → end ≡ come_to v
     → (end ≡ Going → made ≡ length readings) → Serves b a d bk now readings end
-serves_by b a d bk now readings made end v h =
-    serves_at h.stands.part h.stands.stage_is b a d bk now readings made end v h
-    (at_of to_listen b v h.calls h.events h.stands)
+serves_by b a d bk now readings made end v h ends all =
+    let are = whole b v h.calls h.events h.stands in
+    record {
+      rounds = h.stands.rounds;
+      so = made_so b bk now readings made h.events h.stands.rounds are.right are.events_are h.legal
+          h.book_is h.reads;
+      told = subst (λ (x : List Call). Tells a d x) are.calls_are h.told;
+      ends = ends ∙ ap (λ (s : Standing). spoken_of s.course) are.standing;
+      all = all;
+    }
 
 -- ---- rounds until memory was wanted
 

@@ -1,7 +1,9 @@
 -- A link's stalls, and the block that waits.
-use Rattle.std.proofs.Common.{◌≡◌, ℕ, Bool, true, false, not, ◌&&◌, Option, Some, None, refl, sym}
-use Rattle.std.proofs.Common.{List, ap, subst, ◌∙◌, arith}
+use Rattle.std.proofs.Common.{◌≡◌, ℕ, ◌+◌, ◌≤◌, Bool, true, false, not, ◌&&◌, Option, Some, None}
+use Rattle.std.proofs.Common.{refl, sym, List, ap, subst, ◌∙◌, arith}
+use Rattle.std.proofs.Math.Nat.{min-le_left}
 use Rattle.std.specs.Prelude.{is_some}
+use Rattle.octet_core.specs.Fault.{last_count}
 use Rattle.octet_core.specs.declared.offer.Offer.{Offer}
 use Rattle.octet_core.specs.declared.offer.Offer.TheVariants.{Whole, Stalled, Failed as Refused}
 use Rattle.isp1_tml.specs.Feeding.{next_of as next_held}
@@ -19,7 +21,7 @@ use Rattle.session_core.specs.Steps.{Next, has_message, has_block, round_begun, 
 use Rattle.session_core.specs.Steps.{after_wait, may_speak, after_offer, course_at_end, round_ended}
 use Rattle.session_core.specs.Session.{standing_waited, standing_heard}
 use Rattle.session_core.specs.Kept.{Kept, Waited, PolledOnce}
-use Rattle.session_core.specs.Outcome.{has_waiting, StallsOnce}
+use Rattle.session_core.specs.Outcome.{has_waiting, StallsOnce, StallsAtMost}
 use Rattle.session_core.specs.Outcome as kept
 use Rattle.session_core.proofs.Truths.{and_false}
 use Rattle.session_core.proofs.Rounds.{polls_by}
@@ -166,3 +168,26 @@ round_stalls false false w l m n h e k = record {
 }
 round_stalls true false w l m n h e k = absurd (cc)
 round_stalls false true w l m n h e k = absurd (cc)
+
+-- ---- rounds
+
+counted_once : (b : Bool) (m n : ℕ) → CountsWhere b m n → n ≤ m + 1
+counted_once true m n h = omega (arith, h.raised refl, min-le_left (m + 1) last_count)
+counted_once false m n h = omega (arith, h.kept refl)
+
+pub stalls_first : (n : ℕ) → StallsAtMost 0 n n
+stalls_first n = record { never_falls = omega arith; few = omega arith }
+
+pub stalls_on : (rounds k m n : ℕ) (waiting : Bool) → StallsAtMost rounds k m
+    → StallsOnce waiting m n → StallsAtMost (rounds + 1) k n
+stalls_on rounds k m n waiting h once = record {
+  never_falls = omega (arith, h.never_falls, once.counts.never_falls);
+  few = omega (arith, h.few, counted_once once.stalled m n once.counts);
+}
+
+pub stalls_within : (rounds most k n : ℕ) → StallsAtMost rounds k n → rounds ≤ most
+    → StallsAtMost most k n
+stalls_within rounds most k n h few = record {
+  never_falls = h.never_falls;
+  few = omega (arith, h.few, few);
+}

@@ -14,15 +14,18 @@ use Rattle.link_model.specs.declared.call.Heard.TheVariants.{Failed}
 use Rattle.link_model.specs.Calls.{octets_heard, blocks_in}
 use Rattle.station_config.specs.declared.site.Site.{Site}
 use Rattle.station_book.specs.State.{Event}
+use Rattle.station_book.specs.State as book
+use Rattle.session_core.specs.declared.spoken.Spoken.TheVariants.{Going}
 use Rattle.session_core.specs.declared.standing.Standing.{Standing}
 use Rattle.session_core.specs.Course.{is_live, is_over, is_blocked}
 use Rattle.session_core.specs.Steps.{Next, has_block, handles}
-use Rattle.session_core.specs.Session.{State, Round, at_first, next_of, before_step, before_speak}
+use Rattle.session_core.specs.Session.{State, Round, Told, at_first, next_of, before_step}
+use Rattle.session_core.specs.Session.{before_speak, IsRound, round_calls, round_events}
 use Rattle.session_core.specs.Session.{after_round, after_rounds, AreRounds, session_calls}
 use Rattle.session_core.specs.Session.{session_events, session_end, spoken_of, is_fault}
 use Rattle.session_core.specs.Kept.{Kept}
 use Rattle.session_core.specs.Outcome.{come_to}
-use Rattle.session_core.specs.Lists.{Began, start_of, StandsAt, to_listen}
+use Rattle.session_core.specs.Lists.{Began, start_of, state_after, StandsAt, to_listen, GoesRound}
 
 -- ---- messages
 
@@ -180,3 +183,40 @@ OneSession =
     → AreRounds site s others → session_answers rounds ≡ session_answers others
     → session_events site door s rounds ≡ session_events site door s others
     → DoSame site s rounds others
+
+-- ---- one round more
+
+-- A session between two rounds that asked nothing of the book has made no round.
+abbrev pub NoRoundYet : Type 0
+NoRoundYet =
+    (b : Began) (v : Kept) (calls : List Call) (h : StandsAt to_listen b v calls [])
+    → h.rounds ≡ []
+
+-- Behind these rounds, these calls of the link and events of the book are those of one round more,
+-- which asked the book at this reading. The session has come to what that round came to, and where
+-- it goes on it stands as behind that round.
+pub record OneMore (b : Began) (reading : ℕ) (rounds now : List Round) (calls : List Call)
+    (events : List Event) (new : Kept) : Type 0 where
+  pub round : Round
+  pub right : IsRound b.site (state_after b rounds) round
+  pub told : Told
+  pub asked : round.told ≡ Some told
+  pub reads : told.reading ≡ reading
+  pub calls_are : calls ≡ round_calls b.site (state_after b rounds) round
+  pub events_are : events ≡ round_events b.site b.door (state_after b rounds) round
+  pub come : come_to new
+      ≡ spoken_of (after_round b.site (state_after b rounds) round).standing.course
+  pub state : come_to new ≡ Going
+      → state_after b now ≡ after_round b.site (state_after b rounds) round
+
+-- A round of a session that hasn't ended makes the calls and events of one round of *Session*,
+-- behind those for which the session stood.
+abbrev pub OneRoundMore : Type 0
+OneRoundMore =
+    (b : Began) (site : Site) (reading : ℕ) (before after : Option (List Call))
+    (was is : book.State) (v new : Kept) (calls : List Call) (events : List Event)
+    (same : b.site ≡ site) (goes : GoesRound site reading before after was is v new)
+    (h : StandsAt to_listen b v calls events)
+    → is_over (state_after b h.rounds).standing.course ≡ false
+    → OneMore b reading h.rounds (goes.stands b calls events same h).rounds goes.own goes.gained
+    new

@@ -1,5 +1,5 @@
 -- What a user's message says, in a state of the association, and whether it passes.
-use Rattle.std.specs.Prelude.{ℕ, List, [], Option, Some, None, option_and_then, Result, Ok, Err}
+use Rattle.std.specs.Prelude.{ℕ, List, [], Option, Some, None, Result, Ok, Err}
 use Rattle.ber_core.specs.declared.fault.BerFault.{BerFault}
 use Rattle.ber_shape.specs.Exact.{whole}
 use Rattle.isp1_tml.specs.Message.{Content, pdu}
@@ -19,8 +19,8 @@ use Rattle.assoc_core.specs.Association.{step}
 use Rattle.assoc_core.specs.Kind.{Kind, Message}
 use Rattle.assoc_core.specs.Kind as kind
 use Rattle.assoc_core.specs.OuterTag.{outer_tag}
-use Rattle.session_core.specs.declared.service.Invocation.{Invocation}
-use Rattle.session_core.specs.Service.{invocation_in, invocation_kind, invocation_credentials}
+use Rattle.session_core.specs.Service.{Invocation, invocation_in, invocation_kind}
+use Rattle.session_core.specs.Service.{invocation_credentials}
 
 -- a context with its interval and its dead factor; a heartbeat; a BIND, an UNBIND and a PEER-ABORT
 -- with their fields; what is said to the bound service; octets that don't decode; a PDU that isn't
@@ -41,15 +41,15 @@ abbrev pub bind_read : Result BindContent BerFault → Said
 bind_read (Ok b) = bind b
 bind_read (Err _) = undecoded
 
--- what the service decodes, if it does
-abbrev pub service_read : Option Invocation → Said
-service_read (Some i) = invocation i
-service_read None = undecoded
+-- what is said to the bound service; where none is bound nothing decodes
+abbrev pub service_read : Option Service → List ℕ → Said
+service_read (Some bound) octets = invocation (invocation_in bound octets)
+service_read None octets = undecoded
 
 -- an UNBIND, or else what is said to the service
-abbrev pub unbind_read : Result UnbindContent BerFault → Option Invocation → Said
-unbind_read (Ok u) i = unbind u
-unbind_read (Err _) i = service_read i
+abbrev pub unbind_read : Result UnbindContent BerFault → Option Service → List ℕ → Said
+unbind_read (Ok u) service octets = unbind u
+unbind_read (Err _) service octets = service_read service octets
 
 abbrev pub peer_abort_read : Result ℕ BerFault → Said
 peer_abort_read (Ok diagnostic) = peer_abort diagnostic
@@ -67,8 +67,7 @@ abbrev pub said_bound : Option Service → OuterTag → List ℕ → Said
 said_bound service tag.Bind octets = bind_read (whole bind_pdu.read octets)
 said_bound service tag.PeerAbort octets = peer_abort_read (whole peer_abort_pdu.read octets)
 said_bound service tag.Other octets =
-    unbind_read (whole unbind_pdu.read octets)
-    (option_and_then (λ bound. invocation_in bound octets) service)
+    unbind_read (whole unbind_pdu.read octets) service octets
 said_bound service tag.Missing octets = undecoded
 
 -- a PDU in each state; in opening and in closing none is decoded

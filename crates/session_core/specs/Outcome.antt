@@ -1,6 +1,6 @@
 -- What a session has come to, and what its calls leave of that. This product's own rule.
-use Rattle.std.specs.Prelude.{◌≡◌, ℕ, Bool, not, ◌&&◌, IsTrue, Option, List, [], Result, OnErr}
-use Rattle.std.specs.Prelude.{is_err, IsErr, IsOk}
+use Rattle.std.specs.Prelude.{◌≡◌, ℕ, ◌+◌, ◌≤◌, Bool, not, ◌&&◌, IsTrue, Option, List, [], Result}
+use Rattle.std.specs.Prelude.{OnErr, is_err, IsErr, IsOk}
 use Rattle.link_model.specs.declared.call.Call.{Call}
 use Rattle.link_model.specs.Calls.{Tells}
 use Rattle.link_model.specs.Counts.{CountsWhere}
@@ -51,6 +51,11 @@ pub record StallsOnce (waiting : Bool) (before now : ℕ) : Type 0 where
   pub stalled : Bool
   pub counts : CountsWhere stalled before now
   pub waits : IsTrue waiting → IsTrue stalled
+
+-- In so many rounds the link's count of stalls went up by one a round at most.
+pub record StallsAtMost (rounds before now : ℕ) : Type 0 where
+  pub never_falls : before ≤ now
+  pub few : now ≤ before + rounds
 
 -- A session that is still doesn't call its link, and comes to nothing else; one that has ended has
 -- ended. Whether a session is spent doesn't change.

@@ -23,7 +23,7 @@ use Rattle.session_core.specs.declared.user_message.UserMessage.{UserMessage}
 use Rattle.session_core.specs.declared.user_message.UserMessage.TheVariants as variant
 use Rattle.session_core.specs.Message.{Said, context, heartbeat, bind, unbind, peer_abort}
 use Rattle.session_core.specs.Message.{invocation, undecoded, out_of_place}
-use Rattle.session_core.specs.Service.{invocation_ask}
+use Rattle.session_core.specs.Service.{invocation_ask, invocation_of}
 use Rattle.session_core.specs.Handling.{bind_judged, bind_ask}
 
 abbrev pub said_of : UserMessage → Said
@@ -32,7 +32,7 @@ said_of variant.Heartbeat = heartbeat
 said_of (variant.Bind b) = bind (bind_of b)
 said_of (variant.Unbind u) = unbind (unbind_of u)
 said_of (variant.PeerAbort abort) = peer_abort (diagnostic_of abort)
-said_of (variant.Service i) = invocation i
+said_of (variant.Service i) = invocation (invocation_of i)
 said_of variant.Undecoded = undecoded
 said_of variant.OutOfPlace = out_of_place
 

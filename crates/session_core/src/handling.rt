@@ -42,7 +42,7 @@ pub(crate) fn said_ask(said: &UserMessage<'_>, step: Step, places: BindPlaces) -
     match (said, places.instance) {
         (UserMessage::Bind(_), Ok(instance)) => Ask::Bind { instance },
         (UserMessage::Unbind(_), _) => Ask::Unbind,
-        (UserMessage::Service(invocation), _) => match *invocation {},
+        (UserMessage::Service(invocation), _) => invocation.ask(),
         _ => Ask::Nothing,
     }
 }
@@ -181,7 +181,7 @@ impl Standing {
                 let diagnostic = abort.diagnostic;
                 self.end(Ended::PeerAborted { diagnostic });
             }
-            UserMessage::Service(invocation) => match *invocation {},
+            UserMessage::Service(invocation) => invocation.conclude(self, site, reply),
             UserMessage::Heartbeat | UserMessage::Undecoded | UserMessage::OutOfPlace => {}
         }
     }

@@ -1,6 +1,7 @@
 // What holds of every session. A law's function does nothing: its contract is the law.
 ghost use Rattle.session_core.specs.Laws.{HandledInOrder, EachBlockOnce, EndsRepeat, FaultsAreLast};
 ghost use Rattle.session_core.specs.Laws.{FaultsAreOfCalls, EndsAsItStands, OneSession};
+ghost use Rattle.session_core.specs.Laws.{NoRoundYet, OneRoundMore};
 
 use isp1_tml::laws as stream;
 use link_model::laws as link;
@@ -49,4 +50,15 @@ pub fn ends_as_it_stands()
 /// and the end.
 pub fn one_session()
     ensures { OneSession }
+{}
+
+/// A session that asked nothing of the book has made no round.
+pub fn no_round_yet()
+    ensures { NoRoundYet }
+{}
+
+/// A round of a session that hasn't ended makes the calls of the link and the event of the book of
+/// one round more, behind those for which the session stood.
+pub fn one_round_more()
+    ensures { OneRoundMore }
 {}

@@ -1,8 +1,9 @@
 // Rounds from a session's beginning.
-ghost use Rattle.std.specs.Prelude.{ℕ, ◌<◌, IfOk, OnErr, slice_index};
+ghost use Rattle.std.specs.Prelude.{ℕ, ◌<◌, IfOk, OnErr, length, slice_index};
 ghost use Rattle.cds_time.specs.declared.cds.TheConstants.{MOMENT_END};
 ghost use Rattle.link_model.specs.Counts.{CountsWhere};
 ghost use Rattle.station_config.specs.Validity.{IsSite};
+ghost use Rattle.session_core.specs.Outcome.{StallsAtMost};
 ghost use Rattle.session_core.specs.Session.{is_fault};
 ghost use Rattle.session_core.specs.Serving.{Serves, Breaks, began_of};
 
@@ -41,6 +42,10 @@ pub fn run_rounds<L: Link>(
     // The link's count of faults rises exactly where this ends by a fault of the link.
     ensures faults { IfOk result (λ end. CountsWhere (is_fault end) (L.faults link.old)
         (L.faults link.new)) }
+
+    // Its count of stalls rises by one a round at most.
+    ensures stalls { IfOk result (λ end. StallsAtMost (length readings.now) (L.stalls link.old)
+        (L.stalls link.new)) }
 
     // After want of memory the rounds made until then stand.
     ensures memory { OnErr result (Breaks (began_of start.entry) (L.calls link.old)

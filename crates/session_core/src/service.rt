@@ -1,25 +1,76 @@
 // What a bound user says to its service.
 //
-// `Invocation::read` is the one `match` on the bound service. What kind of message an invocation
-// is, whose credentials it has, what it asks of the book and what it leads to is a function each of
-// `specs/Service.antt`; a service that is built has a variant here, with a method for each of these
-// in place of the matches on no variant (`match *invocation {}`). None is built yet.
-ghost use Rattle.std.specs.Prelude.{◌≡◌};
-ghost use Rattle.session_core.specs.Service.{invocation_in};
+// This is the one place at which the services meet a session: what their PDUs say, what kind of
+// message that is, whose credentials it has, what it asks of the book, and what it leads to. A
+// service that is built has its variants of `Invocation` and its arms in the functions of this
+// file, and the same in `specs/Service.antt`. None is built yet.
+ghost use Rattle.std.specs.Prelude.{◌≡◌, []};
+ghost use Rattle.sle_common.specs.Credentials.{credentials_of as octets_of};
+ghost use Rattle.assoc_core.specs.Kind.{kind_of, initiator_of};
+ghost use Rattle.session_core.specs.Service.{invocation_in, invocation_kind};
+ghost use Rattle.session_core.specs.Service.{invocation_credentials, invocation_ask};
+ghost use Rattle.session_core.specs.Service.{with_invocation, invocation_of};
 
-use station_config::Service;
+use crate::standing::Standing;
+use assoc_core::PduKind;
+use sle_common::Credentials;
+use station_book::{Ask, BookReply};
+use station_config::{Service, Site};
 
 // What a bound user says to its service.
 #[derive(Drop)]
-pub(crate) enum Invocation {}
+pub(crate) enum Invocation<'a> {
+    // These octets, which the service doesn't decode.
+    Undecoded(&'a [u8]),
+}
 
-impl Invocation {
-    // What a PDU says to a service, if it decodes there.
-    pub(crate) fn read(service: &Service, octets: &[u8]) -> Option<Invocation>
-        ensures { result ≡ invocation_in service.now octets.now }
+impl<'a> Invocation<'a> {
+    // What a PDU says to a service.
+    pub(crate) fn read(service: &Service, octets: &'a [u8]) -> Invocation<'a>
+        ensures { invocation_of result ≡ invocation_in service.now octets.now }
     {
         match service {
-            Service::Raf { .. } | Service::Rcf { .. } | Service::Cltu { .. } => None,
+            Service::Raf { .. } | Service::Rcf { .. } | Service::Cltu { .. } => {
+                Invocation::Undecoded(octets)
+            }
+        }
+    }
+
+    // Its kind.
+    pub(crate) fn kind(&self) -> PduKind<'a>
+        ensures kind { kind_of result ≡ invocation_kind (invocation_of self.now) }
+        ensures initiator { initiator_of result ≡ [] }
+    {
+        match self {
+            Invocation::Undecoded(_) => PduKind::Undecoded,
+        }
+    }
+
+    // Its credentials; unused ones where it has none.
+    pub(crate) fn credentials(&self) -> Credentials<'a>
+        ensures { octets_of result ≡ invocation_credentials (invocation_of self.now) }
+    {
+        match self {
+            Invocation::Undecoded(_) => Credentials::Unused,
+        }
+    }
+
+    // What it asks the book, where it passes.
+    pub(crate) fn ask(&self) -> Ask
+        ensures { result ≡ invocation_ask (invocation_of self.now) }
+    {
+        match self {
+            Invocation::Undecoded(_) => Ask::Nothing,
+        }
+    }
+
+    // It passed, and leads to this where the book replied so.
+    pub(crate) fn conclude(&self, standing: &mut Standing, site: &Site, reply: BookReply)
+        ensures { standing.new ≡ with_invocation site.now standing.old
+            (invocation_of self.now) reply }
+    {
+        match self {
+            Invocation::Undecoded(_) => {}
         }
     }
 }

@@ -1,5 +1,5 @@
 // What a user's message says.
-ghost use Rattle.std.specs.Prelude.{◌≡◌, option_copied, option_and_then};
+ghost use Rattle.std.specs.Prelude.{◌≡◌, option_copied};
 ghost use Rattle.ber_shape.specs.Exact.{whole};
 ghost use Rattle.bind_pdu.specs.Aborting.{peer_abort};
 ghost use Rattle.bind_pdu.specs.Binding.{bind};
@@ -9,7 +9,6 @@ ghost use Rattle.isp1_tml.specs.Given.{content_of};
 ghost use Rattle.assoc_core.specs.Kind.{kind_of as kind_told, initiator_of as initiator_told};
 ghost use Rattle.session_core.specs.Message.{said_in, pdu_said, said_unbound, said_bound};
 ghost use Rattle.session_core.specs.Message.{bind_read, service_read, unbind_read, peer_abort_read};
-ghost use Rattle.session_core.specs.Service.{invocation_in};
 ghost use Rattle.session_core.specs.Message.{kind_of, initiator_of, credentials_of};
 ghost use Rattle.assoc_core.specs.OuterTag.{outer_tag};
 ghost use Rattle.session_core.specs.Seen.{said_of};
@@ -31,7 +30,7 @@ pub(crate) enum UserMessage<'a> {
     Unbind(Unbind<'a>),
     PeerAbort(PeerAbort),
     // What is said to the bound service.
-    Service(Invocation),
+    Service(Invocation<'a>),
     // Octets that don't decode.
     Undecoded,
     // A PDU that isn't decoded where it stands.
@@ -68,7 +67,7 @@ impl<'a> UserMessage<'a> {
             },
             UserMessage::Unbind(_) => PduKind::Unbind,
             UserMessage::PeerAbort(_) => PduKind::PeerAbort,
-            UserMessage::Service(invocation) => match *invocation {},
+            UserMessage::Service(invocation) => invocation.kind(),
             UserMessage::Undecoded => PduKind::Undecoded,
             UserMessage::OutOfPlace => PduKind::Other,
         }
@@ -81,7 +80,7 @@ impl<'a> UserMessage<'a> {
         match self {
             UserMessage::Bind(bind) => bind.credentials,
             UserMessage::Unbind(unbind) => unbind.credentials,
-            UserMessage::Service(invocation) => match *invocation {},
+            UserMessage::Service(invocation) => invocation.credentials(),
             _ => Credentials::Unused,
         }
     }
@@ -132,23 +131,19 @@ fn bind_read(octets: &[u8]) -> UserMessage<'_>
     }
 }
 
-// What is said to a service.
-fn service_read<'a>(service: Option<&Service>, octets: &[u8]) -> UserMessage<'a>
-    ensures { said_of result ≡ service_read
-        (option_and_then (λ bound. invocation_in bound octets.now) (option_copied service.entry)) }
+// What is said to the bound service.
+fn service_read<'a>(service: Option<&Service>, octets: &'a [u8]) -> UserMessage<'a>
+    ensures { said_of result ≡ service_read (option_copied service.entry) octets.now }
 {
-    let Some(service) = service else {
-        return UserMessage::Undecoded;
-    };
-    match Invocation::read(service, octets) {
-        Some(invocation) => UserMessage::Service(invocation),
+    match service {
+        Some(service) => UserMessage::Service(Invocation::read(service, octets)),
         None => UserMessage::Undecoded,
     }
 }
 
 fn unbind_read<'a>(service: Option<&Service>, octets: &'a [u8]) -> UserMessage<'a>
     ensures { said_of result ≡ unbind_read (whole unbind.read octets.now)
-        (option_and_then (λ bound. invocation_in bound octets.now) (option_copied service.entry)) }
+        (option_copied service.entry) octets.now }
 {
     match Unbind::decode(octets) {
         Ok(unbind) => UserMessage::Unbind(unbind),

@@ -1,5 +1,4 @@
 mod Leading
-mod Longer
 mod Turning
 mod Living
 mod Outcomes

@@ -91,7 +91,7 @@ quits door b None = []
 quits door b (Some why) = event_at b (quit door) ∷ []
 
 -- it isn't there any more
-abbrev pub left_by : Option EndWord → Connected → Option Connected
+abbrev pub left_by : {A : Type 0} → Option EndWord → A → Option A
 left_by None l = Some l
 left_by (Some why) l = None
 

@@ -13,7 +13,7 @@ use crate::asked::message_of;
 use drill_text::AskLine;
 use link_model::MemoryLink;
 use octet_core::{Memory, Octets};
-use session_core::Session;
+use session_core::{Session, laws};
 use std::alloc::Global;
 use std::marker::Model;
 
@@ -49,6 +49,7 @@ impl Connection {
         ensures { IfOk result (λ connection. (site : Site)
             → Lives (began site c entered) connection (opened c entered)) }
     {
+        laws::no_round_yet();
         let session = Session::new(alloc, c, DRAW, entered)?;
         let failing = Vec::new(alloc);
         let link = MemoryLink::new(alloc, failing);

@@ -1,8 +1,8 @@
 // What a connection says in the transcript.
 ghost use Rattle.std.specs.Prelude.{◌≡◌, ◌++◌, ◌∷◌, [], IfOk, OnOk};
 ghost use Rattle.drill_text.specs.Transcript.{said};
-ghost use Rattle.station_links.specs.Said.{lines_in, end_of, end_word, fault_number};
-ghost use Rattle.station_links.specs.Said.{says_of};
+ghost use Rattle.station_links.specs.Said.{lines_in, end_of, end_word, end_lines};
+ghost use Rattle.station_links.specs.Said.{fault_number, says_of};
 
 use drill_text::{EndWord, TranscriptLine};
 use isp1_tml::TmlFault;
@@ -69,6 +69,16 @@ pub(crate) fn lines_of(alloc: Global, calls: &[Call]) -> Result<Vec<LinkLine>, M
         put_call(&mut lines, call)?;
     }
     Ok(lines)
+}
+
+// How a connection ended, if it did, behind what others said.
+pub(crate) fn put_end(lines: &mut Vec<LinkLine>, end: Option<EndWord>) -> Result<(), Memory>
+    ensures { OnOk result (lines.new.items ≡ lines.old.items ++ end_lines end) }
+{
+    if let Some(word) = end {
+        lines.push(LinkLine::Ended(word))?;
+    }
+    Ok(())
 }
 
 // The number of a fault of the stream.

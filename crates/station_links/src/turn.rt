@@ -2,15 +2,18 @@
 ghost use Rattle.std.specs.Prelude.{◌≡◌, ◌<◌, IfOk, OnErr};
 ghost use Rattle.cds_time.specs.declared.cds.TheConstants.{MOMENT_END};
 ghost use Rattle.station_config.specs.Validity.{IsSite};
+ghost use Rattle.station_book.specs.History.{replay};
 ghost use Rattle.session_core.specs.Lists.{Began};
 ghost use Rattle.station_links.specs.Connected.{Connected};
 ghost use Rattle.station_links.specs.Lives.{Lives, Turned, Leaves};
-ghost use Rattle.station_links.specs.Rounds.{round_of};
+ghost use Rattle.station_links.specs.Rounds.{round_of, quits, left_by};
 
 use crate::connection::Connection;
-use crate::link_line::{LinkLine, end_of, lines_of};
+use crate::link_line::{LinkLine, end_of, lines_of, put_end};
 use crate::steered::make_round;
+use drill_text::EndWord;
 use octet_core::Memory;
+use session_core::laws;
 use station_book::Book;
 use station_config::Site;
 use std::alloc::Global;
@@ -21,6 +24,25 @@ use std::marker::Brand;
 pub struct Turn {
     pub said: Vec<LinkLine>,
     pub connection: Option<Connection>,
+}
+
+// A connection that ended quits its door.
+fn quit_door(book: &mut Book, c: u32, end: Option<EndWord>)
+    ensures { book.new ≡ replay book.old (quits c book.old end) }
+{
+    if end.is_some() {
+        book.quit(c);
+    }
+}
+
+// What is left of a connection: one that ended isn't there any more.
+fn left_by(end: Option<EndWord>, connection: Connection) -> Option<Connection>
+    ensures { result ≡ left_by end connection }
+{
+    match end {
+        None => Some(connection),
+        Some(_) => None,
+    }
 }
 
 impl Connection {
@@ -41,7 +63,7 @@ impl Connection {
             turn.said.items turn.connection) }
         ensures memory { OnErr result (Leaves book.old book.new) }
     {
-        session_core::laws::ends_repeat();
+        laws::one_round_more();
         let Connection {
             c,
             mut session,
@@ -52,15 +74,10 @@ impl Connection {
             return Err(Memory);
         };
         let mut said = lines_of(alloc, &calls)?;
-        let Some(word) = end_of(spoken) else {
-            let connection = Some(Connection { c, session, link });
-            return Ok(Turn { said, connection });
-        };
-        book.quit(c);
-        said.push(LinkLine::Ended(word))?;
-        Ok(Turn {
-            said,
-            connection: None,
-        })
+        let end = end_of(spoken);
+        put_end(&mut said, end)?;
+        quit_door(book, c, end);
+        let connection = left_by(end, Connection { c, session, link });
+        Ok(Turn { said, connection })
     }
 }

@@ -1,4 +1,4 @@
-use Rattle.std.proofs.Common.{◌+◌, ◌∙◌, ℕ, List, false, refl, sym, subst, arith}
+use Rattle.std.proofs.Common.{◌+◌, ◌∙◌, ℕ, List, false, length, refl, sym, subst, arith}
 use Rattle.std.proofs.lemmas.List.{take_more}
 use Rattle.link_model.specs.Counts.{CountsWhere}
 use Rattle.session_core.specs.declared.spoken.Spoken.{Spoken}
@@ -6,6 +6,7 @@ use Rattle.session_core.specs.Session.{is_fault}
 use Rattle.session_core.specs.Outcome.{FailsBy}
 use Rattle.session_core.specs.Serving.{began_of}
 use Rattle.session_core.proofs.Fates.{uncounted, both_count}
+use Rattle.session_core.proofs.Stalls.{stalls_first, stalls_on, stalls_within}
 use Rattle.session_core.proofs.Truths.{on_err}
 use Rattle.session_core.proofs.Serving.{Lasts, lasts_first, lasts_on, serves_by, breaks_first}
 use Rattle.session_core.proofs.Serving.{breaks_by}
@@ -24,6 +25,7 @@ loop-reading-init g c = record {
       (g.L.Link.faults c.args.link.now))
       (sym c.in_ok-session.ensures.going)
       (uncounted false (g.L.Link.faults c.args.link.now));
+  stalls = stalls_first (g.L.Link.stalls c.args.link.now);
 }
 
 pub loop-reading-preserved : goal.loop-reading-preserved
@@ -38,6 +40,7 @@ loop-reading-preserved g c = record {
       c.loop-reading.invariant.going c.in_ok-end.ensures.lists);
   going = sym c.in_ok-end.ensures.outcome ∙ c.in-Going.is;
   faults = both_count _ _ _ _ _ _ c.loop-reading.invariant.faults c.in_ok-end.ensures.faults;
+  stalls = stalls_on _ _ _ _ _ c.loop-reading.invariant.stalls c.in_ok-end.ensures.stalls;
 }
 
 pub returns-in_default-clause-session : goal.returns-in_default-clause-session
@@ -63,6 +66,11 @@ returns-in_default-clause-faults g c =
     (g.L.Link.faults c.round.new.link))
     (sym c.in_ok-end.ensures.outcome) h.counts
 
+pub returns-in_default-clause-stalls : goal.returns-in_default-clause-stalls
+returns-in_default-clause-stalls g c =
+    stalls_within (c.loop-reading.reading-index + 1) (length c.args.readings.now) _ _
+    (stalls_on _ _ _ _ _ c.loop-reading.invariant.stalls c.in_ok-end.ensures.stalls) (omega arith)
+
 pub returns-clause-session : goal.returns-clause-session
 returns-clause-session g c =
     serves_by (began_of c.args.start) _ _ _ _ c.args.readings.now c.loop-reading.reading-index _
@@ -76,6 +84,11 @@ returns-clause-faults g c =
     CountsWhere (is_fault s) (g.L.Link.faults c.args.link.now)
     (g.L.Link.faults c.loop-reading.link))
     c.loop-reading.invariant.going c.loop-reading.invariant.faults.counts
+
+pub returns-clause-stalls : goal.returns-clause-stalls
+returns-clause-stalls g c =
+    stalls_within c.loop-reading.reading-index (length c.args.readings.now) _ _
+    c.loop-reading.invariant.stalls (omega arith)
 
 pub returns-in_err-session-clause-memory : goal.returns-in_err-session-clause-memory
 returns-in_err-session-clause-memory g c =
