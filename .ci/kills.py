@@ -1,13 +1,14 @@
 #!/usr/bin/env python3
-"""Kills a program that stores entries in a file, a hundred times, and lists what the file holds then.
+"""Kills a program that stores entries in a file, a hundred times, and lists what the file holds.
 
 usage: kills.py PROVIDER STORE [SEED]
 
-STORE PATH MOST stores the entry of each number, one after the other, and writes how many are acknowledged after each.
-After a kill, `PROVIDER list PATH` must show the entries of the first numbers: all that were acknowledged, and one more
-at most, which was being stored. The file is new in every tenth round; in the others the store goes on where it was. A
-killed program leaves to the system what it has written, so this says nothing of a cut of power. The last line says how
-many checks passed.
+STORE PATH MOST stores the entry of each number, one after the other, and writes how many are
+acknowledged after each. After a kill, `PROVIDER list PATH` must show the entries of the first
+numbers: all that were acknowledged, and one more at most, which was being stored. The file is new
+in every tenth round; in the others the store goes on where it was. A killed program leaves to the
+system what it has written, so this says nothing of a cut of power. The last line says how many
+checks passed.
 """
 import os
 import random
@@ -67,8 +68,11 @@ def counts_from(first, lines):
 
 
 def killed(path, lines, pause):
-    """Starts a store, and kills it so many seconds after so many lines. Answers how it ended, and what it wrote."""
-    running = subprocess.Popen([STORE, path, MOST_ENTRIES], stdout=subprocess.PIPE, stderr=subprocess.PIPE)
+    """Starts a store, and kills it so many seconds after so many lines.
+
+    Answers how it ended, and what it wrote."""
+    running = subprocess.Popen([STORE, path, MOST_ENTRIES], stdout=subprocess.PIPE,
+                               stderr=subprocess.PIPE)
     watch = threading.Timer(PATIENCE, running.terminate)
     watch.start()
     head = b"".join(running.stdout.readline() for _ in range(lines))
@@ -120,6 +124,7 @@ def whole_runs(folder):
 with tempfile.TemporaryDirectory() as place:
     whole_runs(place)
     more = rounds(place)
-print(f"kills: seed {SEED}; in {more} of {ROUNDS} rounds the file held one entry more than was acknowledged")
+print(f"kills: seed {SEED}; in {more} of {ROUNDS} rounds the file held one entry more than was"
+      " acknowledged")
 print(f"{passed} passed, {failed} failed")
 sys.exit(failed > 0)

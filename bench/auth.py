@@ -1,4 +1,7 @@
-"""Times the built bench_auth at full size: the best of fifteen runs of each work by each hash, in processor time."""
+"""Times the built bench_auth at full size: the best of fifteen runs of each work by each hash.
+
+Times are of the processor.
+"""
 import os
 import subprocess
 import sys
@@ -8,7 +11,8 @@ RUNS = 15
 
 def run(program, work, digest, rounds):
     """The seconds of processor time that a run takes, and the sum that it tells."""
-    process = subprocess.Popen([program, work, digest, str(rounds)], stdout=subprocess.PIPE, text=True)
+    words = [program, work, digest, str(rounds)]
+    process = subprocess.Popen(words, stdout=subprocess.PIPE, text=True)
     told = process.stdout.read()
     _, status, usage = os.wait4(process.pid, 0)
     assert status == 0, f"{work} {digest} ended with {status}"

@@ -1,4 +1,7 @@
-"""Times the built bench_ber at full size: the best and the middle of fifteen runs of each way, in processor time."""
+"""Times the built bench_ber at full size: the best and the middle of fifteen runs of each way.
+
+Times are of the processor.
+"""
 import os
 import subprocess
 import sys

@@ -1,4 +1,4 @@
-"""Times the built bench_book: answers by their items, by their frames' octets, and by their scan."""
+"""Times the built bench_book: answers by their items, their frames' octets, and their scan."""
 import os
 import subprocess
 import sys
@@ -21,8 +21,8 @@ def answer(program, entries, octets, quality, place, room, rounds, items):
     for count in (1, 1 + rounds):
         runs = [run(program, entries, octets, quality, place, room, count) for _ in range(RUNS)]
         for _, told in runs:
-            want = f"{entries} entries, {count} answers, {items * count} items, {octets * count} octets\n"
-            assert told == want, told
+            counts = f"{count} answers, {items * count} items, {octets * count} octets"
+            assert told == f"{entries} entries, {counts}\n", told
         best.append(min(seconds for seconds, _ in runs))
     return (best[1] - best[0]) / rounds * 1e6
 
@@ -33,7 +33,8 @@ def main():
     for items in (1, 10, 100, 1_000, 10_000):
         rounds = 1_000_000 // (items + 10)
         taken = answer(program, entries, 1_115, 0, 0, items, rounds, items)
-        print(f"{items} items from place 0 on: {taken:,.2f} microseconds, {taken / items:.3f} an item")
+        each = taken / items
+        print(f"{items} items from place 0 on: {taken:,.2f} microseconds, {each:.3f} an item")
     for octets in (16, 1_115, 65_536):
         taken = answer(program, entries, octets, 0, 0, 10, 50_000, 10)
         print(f"10 items of {octets} octets: {taken:,.2f} microseconds")

@@ -1,4 +1,7 @@
-"""Makes scripts and times a built provider on them. Called by bench/drill; peak memory needs GNU time."""
+"""Makes scripts and times a built provider on them.
+
+Called by bench/drill; peak memory needs GNU time.
+"""
 import os
 import subprocess
 import sys
@@ -7,7 +10,7 @@ import time
 
 
 def script(frames):
-    """Frame i has the time 20000 days and 10 i milliseconds, and 1,115 octets that differ from place to place."""
+    """Frame i is of 20000 days and 10 i milliseconds; its 1,115 octets differ by their place."""
     lines = []
     for i in range(frames):
         octets = bytes([0x02, 0xA0 + 2 * (i % 8)] + [(i + k) % 256 for k in range(2, 1115)])
@@ -22,7 +25,8 @@ def run(command, path, want):
     """Seconds and what the command says on standard error; the number of messages is tested."""
     with open(path, "rb") as source, tempfile.TemporaryFile() as output:
         begun = time.perf_counter()
-        done = subprocess.run(command, stdin=source, stdout=output, stderr=subprocess.PIPE, text=True)
+        done = subprocess.run(command, stdin=source, stdout=output, stderr=subprocess.PIPE,
+                              text=True)
         seconds = time.perf_counter() - begun
         if done.returncode != 0:
             sys.exit(f"the program ended with {done.returncode}")
@@ -45,7 +49,8 @@ def main():
             want = (frames + 1) // 2 + 1
             seconds = min(run(program, file.name, want)[0] for _ in range(5))
             _, peak = run(["/usr/bin/time", "-f", "%M"] + program, file.name, want)
-            print(f"{frames:>7} {size:>11} {seconds:>8.4f} {frames / seconds:>9.0f} {peak.strip():>9}")
+            rate = frames / seconds
+            print(f"{frames:>7} {size:>11} {seconds:>8.4f} {rate:>9.0f} {peak.strip():>9}")
 
 
 main()

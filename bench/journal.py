@@ -1,4 +1,7 @@
-"""Times the built bench_journal at full size beside the same work in plain Rust: appends, and a recovery."""
+"""Times the built bench_journal at full size beside the same work in plain Rust.
+
+The work is appends, and a recovery.
+"""
 import os
 import subprocess
 import sys
@@ -10,7 +13,7 @@ ENTRY = 1_136
 
 
 def run(program, *words):
-    """What a run of the program writes, and the seconds that it takes: in real time, and of a processor."""
+    """What a run of the program writes, and its seconds: in real time, and of a processor."""
     begin = time.perf_counter()
     process = subprocess.Popen([program, *map(str, words)], stdout=subprocess.PIPE, text=True)
     told = process.stdout.read()
@@ -45,18 +48,22 @@ def recover(program, path):
 def in_turns(programs, work):
     """The best times of each program, which are run in turns."""
     times = [[work(program) for program in programs] for _ in range(RUNS)]
-    return [[min(run[which][kind] for run in times) for kind in range(2)] for which in range(len(programs))]
+    return [[min(run[which][kind] for run in times) for kind in range(2)]
+            for which in range(len(programs))]
 
 
 def told(what, ours, plain, say):
     for kind, name in enumerate(("real time", "processor time")):
-        print(f"{what}, {name}: {say(ours[kind])}, plain Rust {say(plain[kind])}, {ours[kind] / plain[kind]:.2f} times its time")
+        share = ours[kind] / plain[kind]
+        print(f"{what}, {name}: {say(ours[kind])}, plain Rust {say(plain[kind])},"
+              f" {share:.2f} times its time")
 
 
 def time_appends(programs, folder, entries, batches):
     path = os.path.join(folder, "appended")
     ours, plain = in_turns(programs, lambda program: append_anew(program, path, entries, batches))
-    told(f"batches of {entries}", ours, plain, lambda taken: f"{entries * batches / taken:,.0f} entries a second")
+    told(f"batches of {entries}", ours, plain,
+         lambda taken: f"{entries * batches / taken:,.0f} entries a second")
 
 
 def time_recovery(programs, folder):

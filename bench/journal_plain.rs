@@ -1,5 +1,6 @@
-// The work of bench_journal in plain Rust with std alone, to compare it with: the same words, the same
-// octets in the file and the same calls of it, and an answer in the same form. Entries are frames alone.
+// The work of bench_journal in plain Rust with std alone, to compare it with: the same words, the
+// same octets in the file and the same calls of it, and an answer in the same form. Entries are
+// frames alone.
 use std::fs::{File, OpenOptions};
 use std::os::unix::fs::FileExt;
 use std::path::Path;
@@ -21,7 +22,8 @@ impl Time {
         if self.millis >= 86_400_000 || self.micros >= 1_000 {
             return None;
         }
-        Some((u64::from(self.days) * 86_400_000 + u64::from(self.millis)) * 1_000 + u64::from(self.micros))
+        let millis = u64::from(self.days) * 86_400_000 + u64::from(self.millis);
+        Some(millis * 1_000 + u64::from(self.micros))
     }
 }
 
@@ -109,7 +111,8 @@ impl<'a> Fields<'a> {
     }
 }
 
-/// The frames of a file, which are in the order of their times, and how many of its octets are used.
+/// The frames of a file, which are in the order of their times, and how many of its octets are
+/// used.
 fn read(file: &[u8]) -> io::Result<(Vec<Frame>, usize)> {
     if file.get(..8) != Some(HEADER.as_slice()) {
         return Err(bad(0));
@@ -199,7 +202,9 @@ fn recover(path: &str) -> io::Result<()> {
 fn main() -> io::Result<()> {
     let words: Vec<String> = env::args().skip(1).collect();
     match words.iter().map(String::as_str).collect::<Vec<_>>()[..] {
-        ["append", path, entries, batches] => append(path, entries.parse().unwrap(), batches.parse().unwrap()),
+        ["append", path, entries, batches] => {
+            append(path, entries.parse().unwrap(), batches.parse().unwrap())
+        }
         ["recover", path] => recover(path),
         _ => Err(io::ErrorKind::InvalidInput.into()),
     }

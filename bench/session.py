@@ -1,4 +1,7 @@
-"""Times the built bench_session: rounds by what arrives in them, and the memory of sessions. It needs GNU time."""
+"""Times the built bench_session: rounds by what arrives in them, and the memory of sessions.
+
+It needs GNU time.
+"""
 import os
 import subprocess
 import sys
@@ -29,7 +32,8 @@ def peak(program, sessions):
 
 def rate(program, work, sessions, rounds):
     """How many rounds of this work a second has."""
-    least = [min(run(program, work, sessions, count) for _ in range(RUNS)) for count in (1, 1 + rounds)]
+    least = [min(run(program, work, sessions, count) for _ in range(RUNS))
+             for count in (1, 1 + rounds)]
     return sessions * rounds / (least[1] - least[0])
 
 
@@ -38,8 +42,8 @@ def main():
     rounds = int(sys.argv[2]) if len(sys.argv) > 2 else 4_000_000
     for work in HANDED:
         for sessions in (1, 16):
-            each = rounds // sessions
-            print(f"{work}, {sessions} sessions: {rate(program, work, sessions, each):,.0f} rounds a second")
+            told = rate(program, work, sessions, rounds // sessions)
+            print(f"{work}, {sessions} sessions: {told:,.0f} rounds a second")
     none, sixteen = (min(peak(program, sessions) for _ in range(RUNS)) for sessions in (0, 16))
     print(f"peak memory of 16 sessions: {sixteen - none:,} KiB")
     print("load: %.1f %.1f %.1f" % os.getloadavg())

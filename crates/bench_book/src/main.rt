@@ -1,10 +1,10 @@
 // Publishes frames to a book and has it answer looks at them, so that the answers can be timed.
 //
-// The words are `ENTRIES OCTETS QUALITY PLACE ROOM ROUNDS`: so many frames are published, each of so
-// many octets, of which the last one alone is erred; then so many answers look from a place on for so
-// many frames, good ones for the quality 0, and erred ones for 1. A line tells how many items the
-// answers gave, and how many octets their last ones have. With no words that is done for few frames,
-// both ways.
+// The words are `ENTRIES OCTETS QUALITY PLACE ROOM ROUNDS`: so many frames are published, each of
+// so many octets, of which the last one alone is erred; then so many answers look from a place on
+// for so many frames, good ones for the quality 0, and erred ones for 1. A line tells how many
+// items the answers gave, and how many octets their last ones have. With no words that is done for
+// few frames, both ways.
 #![tactic(auto)]
 
 use cds_time::{Cds, Rest};

@@ -4,7 +4,7 @@ ghost use Rattle.std.specs.Prelude.{length, drop, max, [], ◌∷◌, Some, opti
 ghost use Rattle.std.specs.Prelude.{MatchOption, OnOk, OnErr, IfOk, IfErr, IsOk, IsErrOf, IsSome};
 ghost use Rattle.std.specs.Prelude.{◌↔◌, ◌/◌};
 ghost use Rattle.octet_core.specs.Fault.{FailsOnlyByFault, Rose};
-ghost use Rattle.disk_model.specs.Images.{with_range, all_synced};
+ghost use Rattle.disk_model.specs.Images.{with_range, written_and_synced};
 ghost use Rattle.disk_model.specs.Moments.{IsImageOf, HoldsThroughout};
 ghost use Rattle.disk_model.specs.Calls.{AllMade, FailedAtOne, RunsCalls};
 ghost use Rattle.disk_model.specs.MemoryDisk.{steered};
@@ -170,7 +170,38 @@ fn put<D: Disk>(disk: &mut D, gate: u64, octet: u8) -> Result<(), Failed>
     ensures calls { RunsCalls D.makes D.fails disk.old (adding gate octet) disk.new result }
     ensures cause { FailsOnlyByFault (D.faults disk.old) (D.faults disk.new) result }
 {
-    write_synced(disk, gate + 1, &[octet, CLOSED])?;
+    write_octet(disk, gate, octet)?;
+    open_gate(disk, gate)
+}
+
+// Writes an octet behind the gate at this place, and a closed gate behind it, and syncs both.
+fn write_octet<D: Disk>(disk: &mut D, gate: u64, octet: u8) -> Result<(), Failed>
+    requires size { gate < D.extent disk.old }
+    requires room { gate + 3 < 2 ^ 64 }
+    ensures written { OnOk result (D.pending disk.new ≡ option_map
+        (written_and_synced (gate + 1) (octet ∷ 0 ∷ [])) (D.pending disk.old)) }
+    ensures size { OnOk result (D.extent disk.new ≡ max (D.extent disk.old) (gate + 3)) }
+    ensures any_moment { HoldsThroughout D.moment D.images_since disk.old disk.new (IsImageOf
+        (option_map (with_range (gate + 1) 2 []) (D.pending disk.old))) }
+    ensures calls { RunsCalls D.makes D.fails disk.old
+        (Write (gate + 1) (octet ∷ 0 ∷ []) ∷ Sync ∷ []) disk.new result }
+    ensures cause { FailsOnlyByFault (D.faults disk.old) (D.faults disk.new) result }
+{
+    write_synced(disk, gate + 1, &[octet, CLOSED])
+}
+
+// Opens the gate at this place, and syncs it.
+fn open_gate<D: Disk>(disk: &mut D, gate: u64) -> Result<(), Failed>
+    requires { gate ≤ D.extent disk.old }
+    ensures written { OnOk result (D.pending disk.new ≡ option_map
+        (written_and_synced gate (165 ∷ [])) (D.pending disk.old)) }
+    ensures size { OnOk result (D.extent disk.new ≡ max (D.extent disk.old) (gate + 1)) }
+    ensures any_moment { HoldsThroughout D.moment D.images_since disk.old disk.new (IsImageOf
+        (option_map (with_range gate 1 []) (D.pending disk.old))) }
+    ensures calls { RunsCalls D.makes D.fails disk.old (Write gate (165 ∷ []) ∷ Sync ∷ []) disk.new
+        result }
+    ensures cause { FailsOnlyByFault (D.faults disk.old) (D.faults disk.new) result }
+{
     write_synced(disk, gate, &[OPEN])
 }
 

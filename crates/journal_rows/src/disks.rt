@@ -22,50 +22,23 @@ state = 0 faults, stopped false, memory refused false;";
 // stop left is the only image then, whatever the next pick.
 #[test]
 fn a_stop_leaves_what_its_pick_says(rt: HostRuntime) -> Result<(), Fail> {
-    for rows in [STOPPED_OLD, STOPPED_NEW, STOPPED_TORN] {
-        check(&rt, rt.alloc(), b"abcdef", rows)?;
+    for (pick, told, left) in [
+        ("old", "Old", "abcde"),
+        ("new", "New", "xyc12345"),
+        ("torn", "Torn", "xZc12ZZZ"),
+    ] {
+        let rows = format!(in rt.alloc();
+            "stop 3 {pick};{}log = cut 5 write 0 2 write 3 5 {told};content = {left};old = {left};\
+            new = {left};torn = {left};sync = ok;",
+            STOPPED
+        )?;
+        check(&rt, rt.alloc(), b"abcdef", rows.as_str())?;
     }
     Ok(())
 }
 
-const STOPPED_OLD: &str = "
-stop 3 old;
-cut 5 = ok;
-write 0 xy = ok;
-write 3 12345 = failed;
-state = 1 faults, stopped true, memory refused false;
-read = failed;
-sync = failed;
-state = 3 faults, stopped true, memory refused false;
-restart = ok;
-state = 3 faults, stopped false, memory refused false;
-content = abcde;
-log = cut 5 write 0 2 write 3 5 Old;
-old = abcde;
-new = abcde;
-torn = abcde;
-sync = ok;";
-
-const STOPPED_NEW: &str = "
-stop 3 new;
-cut 5 = ok;
-write 0 xy = ok;
-write 3 12345 = failed;
-state = 1 faults, stopped true, memory refused false;
-read = failed;
-sync = failed;
-state = 3 faults, stopped true, memory refused false;
-restart = ok;
-state = 3 faults, stopped false, memory refused false;
-content = xyc12345;
-log = cut 5 write 0 2 write 3 5 New;
-old = xyc12345;
-new = xyc12345;
-torn = xyc12345;
-sync = ok;";
-
-const STOPPED_TORN: &str = "
-stop 3 torn;
+// Up to the restart no pick but those that are asked for shows.
+const STOPPED: &str = "
 cut 5 = ok;
 write 0 xy = ok;
 write 3 12345 = failed;
@@ -77,13 +50,7 @@ read = failed;
 sync = failed;
 state = 3 faults, stopped true, memory refused false;
 restart = ok;
-state = 3 faults, stopped false, memory refused false;
-content = xZc12ZZZ;
-log = cut 5 write 0 2 write 3 5 Torn;
-old = xZc12ZZZ;
-new = xZc12ZZZ;
-torn = xZc12ZZZ;
-sync = ok;";
+state = 3 faults, stopped false, memory refused false;";
 
 // The second write is still pending after the sync, so a stop may take it back.
 #[test]

@@ -181,6 +181,19 @@ impl Plain {
         Ok(Ok(self.room()))
     }
 
+    // The latest time of the first CLTU is over: all that wait are discarded, and it is told.
+    fn expire(&mut self, id: u32) -> Result<(), AllocError> {
+        self.waiting.clear();
+        self.blocked = true;
+        self.counts[1] = self.counts[1].saturating_add(1);
+        self.processed = Processed::Some {
+            id,
+            start: None,
+            status: 1,
+        };
+        self.notify(1)
+    }
+
     fn take(&mut self, now: u128) -> Result<Taken, AllocError>
         requires { now < MOMENT_END }
     {
@@ -197,15 +210,7 @@ impl Plain {
         let latest = head.latest.and_then(|time| time.moment());
         let earliest = head.earliest.and_then(|time| time.moment());
         if latest.unwrap_or(u128::MAX) < now {
-            self.waiting.clear();
-            self.blocked = true;
-            self.counts[1] = self.counts[1].saturating_add(1);
-            self.processed = Processed::Some {
-                id,
-                start: None,
-                status: 1,
-            };
-            self.notify(1)?;
+            self.expire(id)?;
             return Ok(Taken::Expired { id });
         }
         let until = earliest.unwrap_or(0).max(self.rest);

@@ -11,8 +11,8 @@ use station_book::{Ask, Book, PublishFault};
 use station_config::Site;
 use std::alloc::{AllocError, Global};
 
-// Instance 0 returns all frames, 1 is the forward service's with three octets of room, and 2 returns
-// a channel's frames.
+// Instance 0 returns all frames, 1 is the forward service's with three octets of room, and 2
+// returns a channel's frames.
 const SITE: &[u8] = b"\
 peer MOC none sha1 60 000000000000\n\
 raf sagr=1.spack=P.rsl-fg=1.raf=onlt1 MOC timely 10 5 60\n\

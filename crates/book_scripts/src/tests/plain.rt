@@ -1,5 +1,5 @@
-// The book as a plain program, in which all is a list, and a line is a sentence of the rules. A CLTU
-// has one octet and no window.
+// The book as a plain program, in which all is a list, and a line is a sentence of the rules. A
+// CLTU has one octet and no window.
 use super::call::{Call, Desk, Told, What};
 use cltu_queue::{BookReply, Room};
 use octet_core::Memory;
