@@ -7,4 +7,7 @@ pub mod Read
 pub mod Outcomes
 pub mod Promises
 pub mod Lists
+pub mod Frames
+pub mod Blocks
 pub mod Rehearsals
+pub mod Sessions

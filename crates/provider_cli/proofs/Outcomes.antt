@@ -45,8 +45,8 @@ ran_by true false = refl
 ends_ran : (s : Script) → ended (status_of s) ≡ ran
 ends_ran (bad_site refusal) = refl
 ends_ran (no_end number) = refl
-ends_ran (runs capacity lines) =
-    ran_by (in_order step_text (start capacity) lines) (all_fine step_text (start capacity) lines)
+ends_ran (runs site lines) =
+    ran_by (in_order step_text (start site) lines) (all_fine step_text (start site) lines)
 
 module _ (left left_now before after : Option (List ℕ)) (r s f g : ℕ) (script : List ℕ)
     (read : IfSome left (λ octets. script ≡ octets)) (short : length script ≤ most_octets)

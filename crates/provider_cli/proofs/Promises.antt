@@ -13,11 +13,14 @@ use Rattle.archive_terms.specs.Archive.{IsArchive, is_closed}
 use Rattle.archive_terms.specs.Selection.{picked}
 use Rattle.archive_terms.specs.Delivery.{Item, all_items}
 use Rattle.archive_terms.specs.Rounds.{to_hand_over}
-use Rattle.station_law.specs.State.{moment, start as new_world}
-use Rattle.station_law.specs.Said.{Told, Handed, handed, buffer_message, texts, handed_by}
+use Rattle.station_desk.specs.Start.{moment}
+use Rattle.station_law.specs.State.{start as new_world}
+use Rattle.station_desk.specs.Told.{Told, buffer_message}
+use Rattle.station_law.specs.Said.{Handed, handed, texts, handed_by}
 use Rattle.archive_terms.specs.Continuity.{told_buffers}
 use Rattle.station_law.specs.Sound.{IsRight, AreRight, items_of, handed_items}
-use Rattle.station_law.specs.Desk.{selection, terms, desk, handed_at_start}
+use Rattle.station_desk.specs.Start.{selection, terms}
+use Rattle.station_law.specs.Desk.{desk, handed_at_start}
 use Rattle.station_law.specs.Lines.{step_text}
 use Rattle.station_law.specs.Runs.{IsAnswered, after, transcript, transcript_from, handed_after}
 use Rattle.provider_cli.specs.declared.status.Status.{Status}
@@ -66,15 +69,15 @@ few_begin (suc few) (buffer ∷ buffers) =
 
 -- what is promised of any line, at this one
 at_line : Laws → (script : List ℕ) (s : Start) (is : IsStartOf script s)
-    → IsAnswered step_text (new_world s.capacity) s.earlier s.later is.line
+    → IsAnswered step_text (new_world s.site) s.earlier s.later is.line
 at_line laws script s is =
-    laws.headline s.capacity (s.earlier ++ is.line ∷ s.later) s.earlier s.later is.line refl is.good
+    laws.headline s.site (s.earlier ++ is.line ∷ s.later) s.earlier s.later is.line refl is.good
 
 not_before : (a b : ℕ) → a ≤ b → nat_lt b a ≡ false
 not_before a b le = grind arith
 
 module _ (laws : Laws) (script : List ℕ) (s : Start) (is : IsStartOf script s) where
-  abbrev answered : IsAnswered step_text (new_world s.capacity) s.earlier s.later is.line
+  abbrev answered : IsAnswered step_text (new_world s.site) s.earlier s.later is.line
   answered = at_line laws script s is
 
   -- what it has handed over
@@ -82,7 +85,7 @@ module _ (laws : Laws) (script : List ℕ) (s : Start) (is : IsStartOf script s)
   its = handed_at_start (archive_at s) s.start s.stop s.quality
 
   abbrev starts : List Handed
-  starts = handed_after step_text (new_world s.capacity) [] s.earlier
+  starts = handed_after step_text (new_world s.site) [] s.earlier
 
   -- the published entries are an archive at its line and later
   archive_later : (some : ℕ) → IsArchive (archive_then s (take some s.later))
@@ -92,10 +95,10 @@ module _ (laws : Laws) (script : List ℕ) (s : Start) (is : IsStartOf script s)
   right_later : (some : ℕ) → IsRight (archive_then s (take some s.later)) its
   right_later some =
       let all : AreRight (archive_then s (take some s.later))
-      (handed_by starts (desk (world_at s) s.start s.stop s.quality).said) =
+      (handed_by starts (desk (world_at s).store s.start s.stop s.quality).said) =
       rw is.says at (answered.right some) in
       (subst (AreRight (archive_then s (take some s.later)))
-      (laws.hands (world_at s) s.start s.stop s.quality starts is.ordered) all).0
+      (laws.hands (world_at s).store s.start s.stop s.quality starts is.ordered) all).0
 
   -- its buffers
   items_are : items_of its.buffers ≡ buffers_of s
@@ -166,10 +169,10 @@ module _ (laws : Laws) (script : List ℕ) (s : Start) (is : IsStartOf script s)
       (messages_sent (told_by (archive_at s) s)))
 
   pub stands_sent : script_text (script_of (lines_of script))
-      ≡ transcript step_text (new_world s.capacity) s.earlier ++ flat_map sent (messages_of s)
+      ≡ transcript step_text (new_world s.site) s.earlier ++ flat_map sent (messages_of s)
       ++ transcript_from step_text (length s.earlier + 2) (world_at s) s.later
   stands_sent =
-      let before = transcript step_text (new_world s.capacity) s.earlier in
+      let before = transcript step_text (new_world s.site) s.earlier in
       let count : length s.earlier + 1 + 1 ≡ length s.earlier + 2 = omega arith in
       ap script_text is.stands ∙ answered.text
       ∙ ap (λ text. before ++ text)
@@ -212,7 +215,7 @@ each_start (Some script) IsSo so = λ s is. so script s is
 
 pub has_headline : Laws → (input : Option (List ℕ)) → HasHeadline input
 has_headline laws None = tt
-has_headline laws (Some script) = λ capacity lines _. laws.headline capacity lines
+has_headline laws (Some script) = λ site lines _. laws.headline site lines
 
 -- ---- completeness
 

@@ -1,13 +1,14 @@
 -- The lines of a script, run one after another.
 use Rattle.std.proofs.Common.{◌≡◌, ℕ, zero, suc, ◌+◌, ◌<◌, Bool, true, false, ◌&&◌, List, []}
-use Rattle.std.proofs.Common.{◌∷◌, ◌++◌, length, Option, Some, None, Ok, Err, refl, sym, ap, ◌∙◌}
-use Rattle.std.proofs.Common.{append-nil, arith}
+use Rattle.std.proofs.Common.{◌∷◌, ◌++◌, length, Option, Some, None, Result, Ok, Err, IfOk, refl}
+use Rattle.std.proofs.Common.{sym, ap, ◌∙◌, append-nil, arith}
 use Rattle.station_law.specs.declared.step_done.StepDone.{StepDone}
 use Rattle.station_law.specs.declared.step_done.StepDone.TheVariants.{Fine, Full, WrongState}
 use Rattle.station_config.specs.Drafts.{Refusal}
 use Rattle.station_config.specs.declared.site.Site.{Site}
 use Rattle.station_law.specs.State.{State, start}
 use Rattle.station_law.specs.Said.{texts}
+use Rattle.station_law.specs.Standing.{Seen, Stands}
 use Rattle.station_law.specs.Output.{Wrote}
 use Rattle.station_law.specs.Lines.{step_text}
 use Rattle.station_law.specs.Runs.{bad_line, text_behind, transcript_from, is_in_order, is_fine}
@@ -91,6 +92,21 @@ module _ (state next : State) (text line behind : List ℕ) (done : StepDone)
       (text_later done (text_from (number + 1) next behind)) value
       (behind_as start now f g whole (text_from number state text) _ (on_line number) so_far) wrote
 
+-- From a state for which the world stood at first, the lines so far led to one for which it stands:
+-- the text of the lines to come is what is still to be written, and the status is theirs.
+pub record Goes (first : State) (world : Seen) (start now : Option (List ℕ)) (f g : ℕ)
+    (number next_number : ℕ) (text rest : List ℕ) (fine : Bool) : Type 0 where
+  pub state : State
+  pub stands : Stands world state
+  pub behind : Behind start now f g (text_from number first text) (text_from next_number state rest)
+  pub ends : status_from true first text ≡ status_from fine state rest
+
+-- what holds of an answer follows from what holds of it for each state
+pub if_ok : {T E : Type 0} (result : Result T E) (P Q : T → Type 0) → ((t : T) → P t → Q t)
+    → IfOk result P → IfOk result Q
+if_ok (Ok t) P Q so is = so t is
+if_ok (Err e) P Q so is = tt
+
 -- behind the last line
 pub text_end : (number : ℕ) (state : State) (text : List ℕ) → length text ≡ 0
     → text_from number state text ≡ []
@@ -128,13 +144,13 @@ status_skipped (suc count) state lines = status_skipped count state lines
 module _ (lines rest : List (List ℕ)) (site : Site) (count : ℕ) (says : site_of lines ≡ Ok site)
     (runs : running lines ≡ Some (empty_lines count ++ rest)) where
   pub runs_text : script_text (script_of lines)
-      ≡ transcript_from step_text (count + 1) (start site.capacity) rest
-  runs_text = rw (says, runs) (text_skipped count 1 (start site.capacity) rest)
+      ≡ transcript_from step_text (count + 1) (start site) rest
+  runs_text = rw (says, runs) (text_skipped count 1 (start site) rest)
 
   pub runs_status : status_of (script_of lines)
-      ≡ status_by (in_order step_text (start site.capacity) rest)
-      (all_fine step_text (start site.capacity) rest)
-  runs_status = rw (says, runs) (status_skipped count (start site.capacity) rest)
+      ≡ status_by (in_order step_text (start site) rest)
+      (all_fine step_text (start site) rest)
+  runs_status = rw (says, runs) (status_skipped count (start site) rest)
 
 module _ (lines : List (List ℕ)) (site : Site) (count : ℕ) (says : site_of lines ≡ Ok site)
     (none : (running lines ≡ None) × (length lines ≡ count)) where

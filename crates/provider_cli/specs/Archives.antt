@@ -1,6 +1,6 @@
 -- What `init` and `list` do with the file of a disk. This product's own rules.
 use Rattle.std.specs.Prelude.{◌≡◌, ◌⊎◌, ℕ, ◌<◌, Option, IfSome, IsSomeAnd, List, [], ◌∷◌, ◌++◌}
-use Rattle.std.specs.Prelude.{codes}
+use Rattle.std.specs.Prelude.{codes, Result}
 use Rattle.std.specs.Fmt.{decimal}
 use Rattle.std.specs.List.{flat_map}
 use Rattle.octet_core.specs.Fault.{Rose}
@@ -15,6 +15,8 @@ use Rattle.gate_journal.specs.File.{StandsFor}
 use Rattle.gate_journal.specs.Kept.{Keeps}
 use Rattle.gate_journal.specs.Reading.{IsNoJournal, IsDamagedAt}
 use Rattle.drill_text.specs.Reading.{entry_text}
+use Rattle.station_law.specs.Output.{Wrote}
+use Rattle.station_law.specs.declared.stop.Stop.{Stop}
 use Rattle.provider_cli.specs.declared.status.Status.{Status}
 use Rattle.provider_cli.specs.declared.status.Status.TheVariants as ends
 use Rattle.provider_cli.specs.Command.{Closes}
@@ -73,6 +75,14 @@ offered (seal at) = entries.Seal at
 -- entries as lines that offer them
 abbrev pub entries_text : List Entry → List ℕ
 entries_text entries = flat_map (λ entry. entry_text (offered entry)) entries
+
+-- Of the octets that a block held, those that it holds no more were written, or the output failed
+-- at them.
+pub record Empties (before after : Option (List ℕ)) (faults_before faults_after : ℕ)
+    (held left : List ℕ) (result : Result (Unit {0}) Stop) : Type 0 where
+  pub text : List ℕ
+  pub splits : held ≡ text ++ left
+  pub wrote : Wrote before after faults_before faults_after text result
 
 -- these entries were read; the file is refused at a place; the disk failed; or memory was refused
 -- before all was read

@@ -10,10 +10,12 @@ use Rattle.archive_terms.specs.Selection.{picked}
 use Rattle.archive_terms.specs.Delivery.{Item, Terms, offline, started, entries_of, archived_items}
 use Rattle.archive_terms.specs.Delivery.{end_of_data, is_end_of_data}
 use Rattle.archive_terms.specs.Rounds.{free_round, outcomes, handed_buffers}
+use Rattle.station_config.specs.declared.site.Site.{Site}
 use Rattle.provider_cli.specs.declared.status.Status.{Status}
-use Rattle.station_law.specs.State.{moment, start as new_world}
+use Rattle.station_desk.specs.Start.{moment}
+use Rattle.station_law.specs.State.{start as new_world}
 use Rattle.station_law.specs.Said.{sent_text}
-use Rattle.station_law.specs.Desk.{selection}
+use Rattle.station_desk.specs.Start.{selection}
 use Rattle.station_law.specs.Lines.{step_text}
 use Rattle.station_law.specs.Runs.{transcript, transcript_from, Headline}
 use Rattle.provider_cli.specs.Lines.{lines_of}
@@ -21,16 +23,16 @@ use Rattle.provider_cli.specs.Script.{script_of, runs}
 use Rattle.provider_cli.specs.Outside.{Outside}
 use Rattle.provider_cli.specs.Start.{Start, world_at, archive_at, archive_then, buffers_of}
 use Rattle.provider_cli.specs.Start.{told_by, messages_by, messages_of}
-use Rattle.station_law.specs.Readable.{AreReadable}
+use Rattle.station_desk.specs.Readable.{AreReadable}
 use Rattle.provider_cli.specs.Drilled.{GainsAll, GainsSome, Ended, ran, cut_off, given_up, ended}
 
 -- What station_law promises of any lines holds of those that run: at each line behind others in
 -- order, whatever its form is.
 abbrev pub HasHeadline : Option (List ℕ) → Type 0
 HasHeadline input =
-    IfSome input (λ script. (capacity : ℕ) (lines : List (List ℕ))
-    → script_of (lines_of script) ≡ runs capacity lines
-    → Headline step_text (new_world capacity) lines)
+    IfSome input (λ script. (site : Site) (lines : List (List ℕ))
+    → script_of (lines_of script) ≡ runs site lines
+    → Headline step_text (new_world site) lines)
 
 -- what a START of the desk asks for, in buffers of two items
 abbrev pub terms_of : ℕ → Start → Terms
@@ -66,7 +68,7 @@ sent message = sent_text 0 (spelling message)
 abbrev pub IsSent : Outside → Outside → Status → Start → Type 0
 IsSent before after status s =
     HasRun before after
-    (transcript step_text (new_world s.capacity) s.earlier ++ flat_map sent (messages_of s)
+    (transcript step_text (new_world s.site) s.earlier ++ flat_map sent (messages_of s)
     ++ transcript_from step_text (length s.earlier + 2) (world_at s) s.later)
     (ended status)
 

@@ -12,13 +12,20 @@ use Rattle.archive_terms.specs.Delivery.{Item, Terms, is_online, started, entrie
 use Rattle.archive_terms.specs.Delivery.{archived_items, all_items, end_of_data, is_end_of_data}
 use Rattle.archive_terms.specs.Delivery.{offline_buffers}
 use Rattle.archive_terms.specs.Rounds.{free_round, picked_at, outcomes, handed_buffers}
-use Rattle.station_law.specs.State.{State, moment, start as new_world}
-use Rattle.station_law.specs.Said.{Told, Handed, handed_by, buffer_message}
-use Rattle.station_law.specs.Readable.{AreReadable}
+use Rattle.station_config.specs.declared.site.Site.{Site}
+use Rattle.station_law.specs.Store.{Store}
+use Rattle.station_desk.specs.Start.{moment}
+use Rattle.station_law.specs.State.{start as new_world}
+use Rattle.station_desk.specs.Told.{Told, buffer_message}
+use Rattle.station_law.specs.Said.{Handed, handed_by}
+use Rattle.station_desk.specs.Readable.{AreReadable}
 use Rattle.station_law.specs.Sound.{items_of}
-use Rattle.station_law.specs.Desk.{desk, desk_buffers, told_desk, handed_at_start}
+use Rattle.station_desk.specs.Start.{desk_buffers, told_desk}
+use Rattle.station_law.specs.Desk.{desk, handed_at_start}
 use Rattle.station_law.specs.Lines.{step_text}
 use Rattle.station_law.specs.Runs.{Headline}
+use Rattle.station_law.specs.Connections.{AreSessions}
+use Rattle.drill_text.specs.Reading.{reading}
 
 pub record Laws : Type 0 where
   pub begins : (entries : List (ℕ × Entry)) (closed : Bool) (items : List Item)
@@ -33,9 +40,9 @@ pub record Laws : Type 0 where
       → handed_buffers (outcomes t entries (map (free_round front) moments) started)
       ≡ take (length moments) (offline_buffers t.size (picked_at t entries front)
       (is_stop_closed t.selection (take front entries)))
-  pub headline : (capacity : ℕ) (lines : List (List ℕ))
-      → Headline step_text (new_world capacity) lines
-  pub hands : (state : State) (start stop : Cds) (quality : ℕ) (starts : List Handed)
+  pub headline : (site : Site) (lines : List (List ℕ))
+      → Headline step_text (new_world site) lines
+  pub hands : (state : Store) (start stop : Cds) (quality : ℕ) (starts : List Handed)
       → moment start ≤ moment stop
       → handed_by starts (desk state start stop quality).said
       ≡ handed_at_start state.published start stop quality ∷ starts
@@ -46,5 +53,6 @@ pub record Laws : Type 0 where
       → AreReadable (told_desk entries start stop quality)
   pub messages : (told : List Told) → AreReadable told
       → AllByRecursion IsMessage (map buffer_message told)
+  pub connections : AreSessions reading
   pub streams : (place : ℕ) (messages : List Content) → AllByRecursion IsMessage messages
       → IsStream place (spellings messages) messages [] None

@@ -7,6 +7,7 @@ pub mod Outside
 pub mod Drilled
 pub mod Start
 pub mod Headline
+pub mod Connection
 pub mod Laws
 pub mod Promise
 pub mod Archives

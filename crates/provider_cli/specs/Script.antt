@@ -5,7 +5,7 @@ use Rattle.std.specs.Prelude.{[], ◌∷◌, ◌++◌, length, codes}
 use Rattle.std.specs.Fmt.{decimal}
 use Rattle.station_config.specs.Drafts.{Refusal}
 use Rattle.station_config.specs.declared.site.Site.{Site}
-use Rattle.station_law.specs.State.{start}
+use Rattle.station_law.specs.State.{State, start}
 use Rattle.station_law.specs.Said.{texts}
 use Rattle.station_law.specs.Answer.{Answer}
 use Rattle.station_law.specs.Lines.{step_text}
@@ -19,16 +19,16 @@ abbrev pub most_octets : ℕ
 most_octets = 16777216
 
 -- A line of the head is refused; the head isn't ended, and a line of this number is missing; or
--- lines run, in a world with an archive of this capacity.
+-- lines run, in the world of this site.
 pub data Script : Type 0 where
   bad_site : Refusal → Script
   no_end : ℕ → Script
-  runs : ℕ → List (List ℕ) → Script
+  runs : Site → List (List ℕ) → Script
 
 abbrev pub by_site : Result Site Refusal → Option (List (List ℕ)) → ℕ → Script
 by_site (Err refusal) lines next = bad_site refusal
 by_site (Ok site) None next = no_end next
-by_site (Ok site) (Some lines) next = runs site.capacity lines
+by_site (Ok site) (Some lines) next = runs site lines
 
 -- the script of these lines
 abbrev pub script_of : List (List ℕ) → Script
@@ -41,14 +41,14 @@ bad_site_line number cause =
 
 -- the text of the line of a number, by its answer: what it says, and that it is a bad one where it
 -- is
-abbrev pub text_at : ℕ → Answer → List ℕ
+abbrev pub text_at : ℕ → Answer State → List ℕ
 text_at number answer = texts answer.said ++ text_behind answer.done number []
 
 -- its text: the transcript of the lines that run, up to the first bad one
 abbrev pub script_text : Script → List ℕ
 script_text (bad_site refusal) = bad_site_line refusal.number refusal.cause
 script_text (no_end number) = bad_line number
-script_text (runs capacity lines) = transcript step_text (start capacity) lines
+script_text (runs site lines) = transcript step_text (start site) lines
 
 -- the status, by whether each line is in the grammar and in a right state, and whether none has an
 -- entry that is refused as Full
@@ -60,6 +60,5 @@ status_by true false = Full
 abbrev pub status_of : Script → Status
 status_of (bad_site refusal) = BadSite
 status_of (no_end number) = BadLine
-status_of (runs capacity lines) =
-    status_by (in_order step_text (start capacity) lines)
-    (all_fine step_text (start capacity) lines)
+status_of (runs site lines) =
+    status_by (in_order step_text (start site) lines) (all_fine step_text (start site) lines)

@@ -6,20 +6,22 @@ use Rattle.isp1_tml.specs.Message.{Content}
 use Rattle.archive_terms.specs.Archive.{Entry}
 use Rattle.archive_terms.specs.Delivery.{Item}
 use Rattle.archive_terms.specs.Continuity.{told_buffers}
+use Rattle.station_config.specs.declared.site.Site.{Site}
 use Rattle.drill_text.specs.Reading.{reading}
 use Rattle.drill_text.specs.declared.script_line.ScriptLine.TheVariants.{Desk}
-use Rattle.station_law.specs.State.{State, moment, start as new_world}
-use Rattle.station_law.specs.Said.{Told, buffer_message}
-use Rattle.station_law.specs.Desk.{desk_buffers}
+use Rattle.station_desk.specs.Start.{moment}
+use Rattle.station_law.specs.State.{State, start as new_world}
+use Rattle.station_desk.specs.Told.{Told, buffer_message}
+use Rattle.station_desk.specs.Start.{desk_buffers}
 use Rattle.station_law.specs.Lines.{step_text}
 use Rattle.station_law.specs.Runs.{after, in_order}
 use Rattle.provider_cli.specs.Lines.{lines_of}
 use Rattle.provider_cli.specs.Script.{script_of, runs}
 
--- a START: the capacity of its archive, the lines before it and those behind it, and the times and
--- the quality that it asks for
+-- a START: the site at which it is taken, the lines before it and those behind it, and the times
+-- and the quality that it asks for
 pub record Start : Type 0 where
-  pub capacity : ℕ
+  pub site : Site
   pub earlier : List (List ℕ)
   pub later : List (List ℕ)
   pub start : Cds
@@ -28,14 +30,14 @@ pub record Start : Type 0 where
 
 -- the world that it finds
 abbrev pub world_at : Start → State
-world_at s = after step_text (new_world s.capacity) s.earlier
+world_at s = after step_text (new_world s.site) s.earlier
 
 -- it is one of the lines that a script runs, behind lines in order, and its stop doesn't lie before
 -- its start
 pub record IsStartOf (script : List ℕ) (s : Start) : Type 0 where
   pub line : List ℕ
-  pub stands : script_of (lines_of script) ≡ runs s.capacity (s.earlier ++ line ∷ s.later)
-  pub good : IsTrue (in_order step_text (new_world s.capacity) s.earlier)
+  pub stands : script_of (lines_of script) ≡ runs s.site (s.earlier ++ line ∷ s.later)
+  pub good : IsTrue (in_order step_text (new_world s.site) s.earlier)
   pub says : reading line ≡ Some (Desk s.start s.stop s.quality)
   pub ordered : moment s.start ≤ moment s.stop
 
@@ -45,10 +47,10 @@ EachStart input IsSo = IfSome input (λ script. (s : Start) → IsStartOf script
 
 -- the archived entries when it is taken, and after some of the later lines
 abbrev pub archive_at : Start → List Entry
-archive_at s = (world_at s).published
+archive_at s = (world_at s).store.published
 
 abbrev pub archive_then : Start → List (List ℕ) → List Entry
-archive_then s lines = (after step_text (world_at s) lines).published
+archive_then s lines = (after step_text (world_at s) lines).store.published
 
 -- the buffers that it hands over, and their messages by an archive
 abbrev pub buffers_of : Start → List (List Item)

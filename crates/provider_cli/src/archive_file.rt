@@ -1,22 +1,21 @@
 // `init` and `list`: an archive file is made, or its entries are written.
-ghost use Rattle.std.specs.Prelude.{◌≡◌, [], ◌∷◌};
+ghost use Rattle.std.specs.Prelude.{◌≡◌};
 ghost use Rattle.std.specs.List.{filter};
 ghost use Rattle.archive_terms.specs.Archive.{is_storable};
-ghost use Rattle.record_form.specs.Entry.{entry_of, entries_of};
-ghost use Rattle.station_law.specs.Output.{Wrote};
 ghost use Rattle.provider_cli.specs.Command.{Closes, closed, code};
 ghost use Rattle.provider_cli.specs.Archives.{IsInit, IsList, IsOfReading, listed_by, listed_text};
 ghost use Rattle.provider_cli.specs.Archives.{listed_status, entries_text};
 
+use crate::listing::put_entries;
 use crate::put::{put_line, put_refused};
 use crate::status::Status;
 use disk_model::Disk;
-use drill_text::write_entry_line;
 use gate_journal::{Journal, JournalFault};
-use octet_core::{Octets, Sink};
-use record_form::{Entries, Entry};
+use octet_core::Sink;
+use record_form::Entries;
 use station_law::Stop;
 use std::alloc::Global;
+use std::mem;
 
 /// Makes a new archive file on an empty disk, and says so. Answers the exit code, and hands the
 /// disk back.
@@ -54,6 +53,8 @@ pub fn list_archive<D: Disk, O: Sink>(alloc: Global, disk: D, output: &mut O) ->
     match Journal::recover(alloc, disk) {
         Ok((journal, entries)) => {
             let exit = list_entries(alloc, &entries, output);
+            // The system takes the memory of all entries at once, where the program ends.
+            mem::forget(entries);
             (exit, journal.into_disk())
         }
         Err((fault, disk)) => (tell_fault(alloc, fault, output), disk),
@@ -108,32 +109,4 @@ fn list_entries<O: Sink>(alloc: Global, entries: &Entries, output: &mut O) -> u8
         (entries_text (filter is_storable entries.now)) Status.Done result }
 {
     close(put_entries(alloc, entries.as_slice(), output), Status::Done)
-}
-
-// Writes the lines that offer entries.
-fn put_entries<O: Sink>(alloc: Global, entries: &[Entry], output: &mut O) -> Result<(), Stop>
-    ensures { Wrote (O.written output.old) (O.written output.new)
-        (O.faults output.old) (O.faults output.new)
-        (entries_text (filter is_storable (entries_of entries.now))) result }
-{
-    for entry in entries {
-        put_entry(alloc, entry, output)?;
-    }
-    Ok(())
-}
-
-// Writes the line of an entry. One outside the ranges of an archive has none.
-fn put_entry<O: Sink>(alloc: Global, entry: &Entry, output: &mut O) -> Result<(), Stop>
-    ensures { Wrote (O.written output.old) (O.written output.new)
-        (O.faults output.old) (O.faults output.new)
-        (entries_text (filter is_storable (entry_of entry.now ∷ []))) result }
-{
-    if !entry.is_storable() {
-        return Ok(());
-    }
-    let mut line = Octets::new(alloc);
-    if write_entry_line(alloc, entry, &mut line).is_err() {
-        return Err(Stop::Memory);
-    }
-    put_line(line.as_slice(), output)
 }

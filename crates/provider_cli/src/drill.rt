@@ -15,8 +15,9 @@ use crate::status::Status;
 use archive_terms::laws::{offline_rounds, prefix_of_all_items};
 use isp1_tml::laws::spelled_is_read;
 use octet_core::{Sink, Source};
+use station_desk::laws::a_start_is_read;
 use station_law::Stop;
-use station_law::laws::{a_start_hands_over, a_start_is_read, headline_law};
+use station_law::laws::{a_start_hands_over, connections_are_sessions, headline_law};
 use std::alloc::{AllocError, Global};
 
 /// The most octets that a script may have.
@@ -39,11 +40,12 @@ pub fn drill<I: Source, O: Sink>(alloc: Global, input: &mut I, output: &mut O) -
     read_and_run(alloc, input, output).code()
 }
 
-// The laws that the promise of each START rests on.
+// The laws that the promise of each START and each connection rests on.
 fn laws()
     ensures { Laws }
 {
     headline_law();
+    connections_are_sessions();
     a_start_hands_over();
     a_start_is_read();
     offline_rounds();

@@ -13,9 +13,12 @@ ghost use Rattle.provider_cli.specs.Command.{plan_of, NeedsDisk};
 
 mod archive_file;
 mod command;
+mod digits;
 mod drill;
+mod entry_line;
 mod head;
 mod lines;
+mod listing;
 mod number;
 #[cfg(test)]
 mod plain;

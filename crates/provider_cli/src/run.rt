@@ -4,6 +4,8 @@ ghost use Rattle.station_law.specs.Lines.{step_text};
 ghost use Rattle.station_law.specs.Output.{Wrote};
 ghost use Rattle.station_law.specs.Runs.{transcript_from, text_behind, in_order, all_fine};
 ghost use Rattle.station_law.specs.Said.{texts};
+ghost use Rattle.station_law.specs.Standing.{Stands};
+ghost use Rattle.station_law.specs.State.{State};
 ghost use Rattle.provider_cli.specs.Lines.{lines_of};
 ghost use Rattle.provider_cli.specs.Script.{most_octets, script_of, script_text, status_of};
 ghost use Rattle.provider_cli.specs.Script.{status_by, text_at};
@@ -53,12 +55,13 @@ fn run_lines<O: Sink>(
     output: &mut O,
 ) -> Result<Status, Stop>
     requires { before + length text.now ≤ most_octets }
-    ensures written { Wrote (O.written output.old) (O.written output.new)
+    ensures written { (state : State) → Stands world state
+        → Wrote (O.written output.old) (O.written output.new)
         (O.faults output.old) (O.faults output.new)
-        (transcript_from step_text (before + 1) world.state (lines_of text.now)) result }
-    ensures status { IfOk result (λ status. status
-        ≡ status_by (in_order step_text world.state (lines_of text.now))
-        (all_fine step_text world.state (lines_of text.now))) }
+        (transcript_from step_text (before + 1) state (lines_of text.now)) result }
+    ensures status { IfOk result (λ status. (state : State) → Stands world state
+        → status ≡ status_by (in_order step_text state (lines_of text.now))
+        (all_fine step_text state (lines_of text.now))) }
 {
     let mut world = world;
     let mut rest = text;
@@ -101,11 +104,14 @@ fn run_line<O: Sink>(
     line: &[u8],
     output: &mut O,
 ) -> Result<StepDone, Stop>
-    ensures written { Wrote (O.written output.old) (O.written output.new)
+    ensures written { (state : State) → Stands world.old state
+        → Wrote (O.written output.old) (O.written output.new)
         (O.faults output.old) (O.faults output.new)
-        (text_at number (step_text world.old.state line.now)) result }
-    ensures next { OnOk result (world.new.state ≡ (step_text world.old.state line.now).next) }
-    ensures done { IfOk result (λ done. done ≡ (step_text world.old.state line.now).done) }
+        (text_at number (step_text state line.now)) result }
+    ensures next { OnOk result ((state : State) → Stands world.old state
+        → Stands world.new (step_text state line.now).next) }
+    ensures done { IfOk result (λ done. (state : State) → Stands world.old state
+        → done ≡ (step_text state line.now).done) }
 {
     let done = do_line(alloc, world, line, output)?;
     tell_bad_line(alloc, number, done, output)?;
@@ -136,11 +142,14 @@ fn do_line<O: Sink>(
     line: &[u8],
     output: &mut O,
 ) -> Result<StepDone, Stop>
-    ensures written { Wrote (O.written output.old) (O.written output.new)
+    ensures written { (state : State) → Stands world.old state
+        → Wrote (O.written output.old) (O.written output.new)
         (O.faults output.old) (O.faults output.new)
-        (texts (step_text world.old.state line.now).said) result }
-    ensures next { OnOk result (world.new.state ≡ (step_text world.old.state line.now).next) }
-    ensures done { IfOk result (λ done. done ≡ (step_text world.old.state line.now).done) }
+        (texts (step_text state line.now).said) result }
+    ensures next { OnOk result ((state : State) → Stands world.old state
+        → Stands world.new (step_text state line.now).next) }
+    ensures done { IfOk result (λ done. (state : State) → Stands world.old state
+        → done ≡ (step_text state line.now).done) }
 {
     match parse_line(alloc, line) {
         Ok(says) => world.step(&says, output),

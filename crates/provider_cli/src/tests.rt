@@ -23,7 +23,7 @@ sent 0 0100000000000008a806a10480008300
 ";
 
 // A script, the exit code, and what is written.
-const SCRIPTS: [(&[u8], u8, &[u8]); 11] = [
+const SCRIPTS: [(&[u8], u8, &[u8]); 14] = [
     (FIRST_PASS, 0, FIRST_PASS_SENT),
     (b"", 0, b""),
     // End of data alone, where the archive has only a seal.
@@ -102,12 +102,26 @@ fly
 sent 0 0100000000000008a806a10480008300
 ",
     ),
-    // A line whose event isn't built.
-    (b"mark 0/0/0\nopen 1\n", 3, b"bad line 2\n"),
+    // A line whose event isn't built, and one in a wrong state.
+    (b"mark 0/0/0\ntake\n", 3, b"bad line 2\n"),
+    (b"open 1\nopen 1\n", 3, b"bad line 2\n"),
+    // A heartbeat is due once.
+    (
+        b"open 1\nask 1 context 30 5\nclock 0/29999/999\nround 1 1\nclock 0/30000/0\nround 1 2\n",
+        0,
+        b"sent 1 0300000000000000\n",
+    ),
+    // A power failure ends a connection without a word, and its stalls.
+    (
+        b"open 1\nask 1 context 30 5\nstall 1 9\ncrash 0 old
+open 1\nask 1 context 5 5\nclock 0/5000/0\nround 1 1\n",
+        0,
+        b"crash\narchive 0\nsent 1 0300000000000000\n",
+    ),
 ];
 
 // Scripts with a head.
-const HEADS: [(&[u8], u8, &[u8]); 12] = [
+const HEADS: [(&[u8], u8, &[u8]); 13] = [
     (b"site\nend\nmark 0/0/0\n", 0, b""),
     (
         b"site\ncapacity 71\nend
@@ -140,6 +154,16 @@ fly
     (b"site\ncapacity 64\n", 3, b"bad line 3\n"),
     (b"site\ncapacity 64", 3, b"bad line 3\n"),
     (b"site", 3, b"bad line 2\n"),
+    // A peer of the site binds its instance, and gives it back.
+    (
+        b"site\npeer MOC none sha1 60 000000000000\nraf raf=1 MOC complete 1 5 60\nend
+open 1\nask 1 context 30 5\nask 1 bind MOC 0 5 raf=1\nask 1 unbind\n",
+        0,
+        b"sent 1 0100000000000011bf650e80001a0753544154494f4e800105
+sent 1 0100000000000007bf670480008000
+ended 1 unbound
+",
+    ),
     // A head stands first, and once.
     (b"\nsite\nend\n", 3, b"bad line 2\n"),
     (b"site\nend\nend\n", 3, b"bad line 3\n"),

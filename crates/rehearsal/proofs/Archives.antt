@@ -1,16 +1,16 @@
 -- The entries of a rehearsal are an archive.
 use Rattle.std.proofs.Common.{◌≡◌, ℕ, zero, suc, ◌+◌, ◌-◌, ◌*◌, ◌%◌, ◌==◌, ◌≤◌, ◌<◌, Bool, true}
 use Rattle.std.proofs.Common.{false}
-use Rattle.std.proofs.Common.{cond, ◌&&◌, nat_le, nat_lt, if◌then◌else◌, Option, Some, None, List}
+use Rattle.std.proofs.Common.{cond, ◌&&◌, nat_le, nat_lt, Some, List}
 use Rattle.std.proofs.Common.{[]}
 use Rattle.std.proofs.Common.{◌∷◌, ◌++◌, length, map, refl, sym, ap, ◌∙◌, add-one, arith}
-use Rattle.std.proofs.lemmas.Bool.{and_from, le-leb, lt-leb}
+use Rattle.std.proofs.lemmas.Bool.{and_from, le-leb}
 use Rattle.std.proofs.lemmas.Bool.Decides.{nat_tests}
 use Rattle.std.proofs.lemmas.List.FromFn.{map-range_with_len_more}
 use Rattle.std.specs.List.{list_all, range_with_len}
-use Rattle.cds_time.specs.Moment.{names_moment, moment_of}
-use Rattle.archive_terms.specs.Archive.{Entry, seal, frame_time, is_moment, is_valid, is_short}
-use Rattle.archive_terms.specs.Archive.{is_valid_frame, is_storable, may_precede, keeps_order}
+use Rattle.cds_time.specs.Moment.{moment_of}
+use Rattle.archive_terms.specs.Archive.{Entry, seal, is_moment, is_valid, is_short}
+use Rattle.archive_terms.specs.Archive.{is_storable, may_precede, keeps_order}
 use Rattle.archive_terms.specs.Archive.{is_archive, may_follow}
 use Rattle.rehearsal.specs.Frames.{time_at, quality_at, octets_at, length-octets_at, entry_at}
 use Rattle.rehearsal.specs.Frames.{frames, archive}

@@ -1,9 +1,7 @@
 -- How many octets of a file the entries of a rehearsal want.
-use Rattle.std.proofs.Common.{◌≡◌, ℕ, zero, suc, ◌+◌, ◌*◌, List, [], ◌∷◌, ◌++◌, length, map, refl}
-use Rattle.std.proofs.Common.{ap}
-use Rattle.std.proofs.Common.{◌∙◌, length-append, arith}
-use Rattle.std.specs.Int.{w16, w32, to_be_bytes}
-use Rattle.cds_time.specs.Moment.{octets_of}
+use Rattle.std.proofs.Common.{◌≡◌, ℕ, [], ◌∷◌, ◌++◌, length, refl}
+use Rattle.std.proofs.Common.{length-append, arith}
+use Rattle.std.specs.Int.{w32, to_be_bytes}
 use Rattle.archive_terms.specs.Archive.{seal}
 use Rattle.record_form.specs.Spelling.{entry_octets, time_octets, antenna_octets, content_octets}
 use Rattle.rehearsal.specs.Frames.{time_at, quality_at, octets_at, length-octets_at, entry_at}

@@ -1,9 +1,6 @@
-pub mod Started
-pub mod Looks
 pub mod Octets
-pub mod Rounds
 pub mod Archives
 pub mod Lengths
-pub mod Spelled
 pub mod Told
+pub mod Started
 pub mod Script

@@ -1,99 +1,110 @@
--- The rounds of a START over the whole archive, by what the delivery stands for.
-use Rattle.std.proofs.Common.{◌≡◌, ℕ, ◌+◌, ◌<◌, ◌≤◌, true, false, List, [], ◌∷◌, ◌++◌, length, map}
-use Rattle.std.proofs.Common.{take, refl, sym, ap, subst, ◌∙◌, arith}
-use Rattle.std.proofs.lemmas.List.{length-map}
-use Rattle.std.specs.List.{AllByRecursion}
-use Rattle.cds_time.specs.declared.cds.Cds.{Cds}
-use Rattle.archive_terms.specs.Archive.{Entry}
-use Rattle.archive_terms.specs.Rounds.{whole}
+-- What is counted of a START, buffer by buffer.
+use Rattle.std.proofs.Common.{◌≡◌, ℕ, ◌+◌, ◌-◌, ◌*◌, ◌<◌, ◌≤◌, Bool, true, false, cond, nat_lt}
+use Rattle.std.proofs.Common.{List, [], ◌∷◌, ◌++◌, length, map, take, get_or, refl, sym, ap, subst}
+use Rattle.std.proofs.Common.{◌∙◌, arith}
+use Rattle.std.proofs.lemmas.List.{take_more, take_all, length-map}
+use Rattle.std.proofs.lemmas.List.Sums.{count_by-le-length}
+use Rattle.std.proofs.lemmas.Bool.Decides.{nat_tests}
+use Rattle.std.specs.List.{count_by, list_any}
+use Rattle.sha1.specs.Sha1.{Holds}
 use Rattle.frame_select.specs.declared.item.Item.{Item}
 use Rattle.frame_select.specs.Item.{items_of, item_of, said_of}
-use Rattle.return_core.specs.Course.{Course, is_offering, held_of}
-use Rattle.return_core.specs.Standing.{StandsFor, Steps, Settles, due_told}
-use Rattle.station_law.specs.Said.{Told}
-use Rattle.station_law.specs.Desk.{told_desk, terms}
-use Rattle.station_law.specs.Readable.{IsHanded, IsReadable, AreReadable}
+use Rattle.station_desk.specs.Told.{Told, message_octets}
+use Rattle.station_desk.specs.Cursor.{Cursor, at_next, current}
 use Rattle.rehearsal.specs.declared.tally.Tally.{Tally}
-use Rattle.rehearsal.specs.Counts.{Counts}
-use Rattle.rehearsal.proofs.Rounds.{OfflineRounds, rounds, rounds-more, all_told, next_told}
-use Rattle.rehearsal.proofs.Rounds.{told_then}
-use Rattle.rehearsal.proofs.Told.{handed_said, counts_said, next_readable}
+use Rattle.rehearsal.specs.Counts.{Counts, tells_frame, tells_end}
+use Rattle.rehearsal.proofs.Told.{count_said, any_said, said_frame, said_end, counts_more}
+use Rattle.rehearsal.proofs.Told.{frames_in, has_frame, ends_in}
 
--- after so many rounds the delivery stands for these, and as many buffers are counted
-pub record HasCounted (start stop : Cds) (quality : ℕ) (entries : List Entry) (n : ℕ) (c : Course)
-    (tally : Tally) : Type 0 where
-  pub stands : StandsFor c (terms start stop quality) entries (rounds (length entries) n)
-  pub counts : Counts tally (take n (told_desk entries start stop quality))
+-- the buffers so far are counted
+pub record HasCounted (told : List Told) (cursor : Cursor) (tally : Tally) : Type 0 where
+  pub of_told : cursor.buffers ≡ told
+  pub within : cursor.count ≤ length told
+  pub counts : Counts tally (take cursor.count told)
+  pub frames : tally.frames ≤ 2 * cursor.count
+  pub buffers : tally.buffers ≤ cursor.count
+  pub ends : tally.ends ≤ 2 * cursor.count
 
-module _ (law : OfflineRounds) (start stop : Cds) (quality : ℕ) (entries : List Entry) where
-  -- a round's step, behind so many rounds
-  abbrev pub StepsAt : ℕ → Course → Type 0
-  StepsAt n c = Steps c (terms start stop quality) entries (rounds (length entries) n)
-      (length entries) 0
+at_most_one : (b : Bool) → cond b 1 0 ≤ 1
+at_most_one true = omega arith
+at_most_one false = omega arith
 
-  abbrev told : List Told
-  told = told_desk entries start stop quality
+few_of : (test : _) (items : List Item) → length items ≤ 2 → count_by test (items_of items) ≤ 2
+few_of test items few = omega (
+  arith,
+  count_by-le-length test (items_of items),
+  length-map items item_of,
+  few,
+)
 
-  abbrev due : ℕ → Told
-  due n = due_told (terms start stop quality) entries (rounds (length entries) n) (length entries) 0
-
-  some : 0 < 2
-  some = omega arith
-
-  -- where nothing is offered, all was counted
-  pub counted_all : (n : ℕ) (c : Course) (tally : Tally) → StepsAt n c → is_offering c ≡ false
-      → Counts tally (take n (told_desk entries start stop quality))
-      → Counts tally (told_desk entries start stop quality)
-  counted_all n c tally steps free counts =
-      subst (Counts tally) (all_told law (terms start stop quality) entries some refl n
-      (sym steps.offers ∙ free)) counts
-
-  -- and after a round for each entry and one more
-  pub counted_then : (n : ℕ) (tally : Tally) → length entries + 1 ≤ n
-      → Counts tally (take n (told_desk entries start stop quality))
-      → Counts tally (told_desk entries start stop quality)
-  counted_then n tally past counts =
-      subst (Counts tally) (told_then law (terms start stop quality) entries some refl n past)
-      counts
-
-  next : (n : ℕ) (c : Course) → StepsAt n c → is_offering c ≡ true
-      → take (n + 1) told ≡ take n told ++ due n ∷ []
-  next n c steps offers =
-      next_told law (terms start stop quality) entries some refl n (sym steps.offers ∙ offers)
-
-  module _ (readable : AreReadable (told_desk entries start stop quality)) (n : ℕ) (c : Course)
-      (steps : StepsAt n c) (offers : is_offering c ≡ true) (items : List Item)
-      (held : items_of items ≡ held_of c) where
-    said : items_of items ≡ map said_of (due n)
-    said = held ∙ steps.items offers
-
-    is_readable : IsReadable (due n)
-    is_readable = next_readable n told (due n) readable (next n c steps offers)
-
-    -- what is offered has at most two items, and those of an offline delivery
-    pub few_offered : length items ≤ 2
-    few_offered = omega (
-      arith,
-      length-map items item_of,
-      ap length said,
-      length-map (due n) said_of,
-      is_readable.few,
+-- where a next one is found, it is the one behind those so far
+pub next_count : (told : List Told) (old new : Cursor) → old.buffers ≡ told → new ≡ at_next old
+    → new.has_current ≡ true
+    → (new.buffers ≡ told) × (new.count ≡ old.count + 1) × (old.count < length told)
+next_count told old new is next has =
+    let more : nat_lt old.count (length old.buffers) ≡ true =
+    sym (ap (λ (c : Cursor). c.has_current) next) ∙ has in
+    let count : new.count ≡ cond (nat_lt old.count (length old.buffers)) (old.count + 1) old.count =
+    ap (λ (c : Cursor). c.count) next in
+    let same : length old.buffers ≡ length told = ap length is in (
+      ap (λ (c : Cursor). c.buffers) next ∙ is,
+      count ∙ rw more refl,
+      grind (arith, nat_tests),
     )
 
-    pub handed_offered : AllByRecursion IsHanded (items_of items)
-    handed_offered = subst (AllByRecursion IsHanded) (sym said)
-        (handed_said (due n) is_readable.handed)
+pub none_left : (told : List Told) (old new : Cursor) (tally : Tally) → HasCounted told old tally
+    → new ≡ at_next old → new.has_current ≡ false → Counts tally told
+none_left told old new tally counted next has =
+    let none : nat_lt old.count (length old.buffers) ≡ false =
+    sym (ap (λ (c : Cursor). c.has_current) next) ∙ has in
+    let same : length old.buffers ≡ length told = ap length counted.of_told in
+    let past : length told ≤ old.count = grind (arith, nat_tests) in
+    subst (Counts tally) (take_all old.count told past) counted.counts
 
-    -- once it was counted and taken, the delivery stands for one round more
-    pub counted_more : (after : Course) (tally : Tally)
-        → Settles c after (terms start stop quality) entries (rounds (length entries) n)
-        (length entries) 0 whole
-        → Counts tally (take n (told_desk entries start stop quality) ++ items_of items ∷ [])
-        → HasCounted start stop quality entries (n + 1) after tally
-    counted_more after tally settles counts = record {
-      stands = subst (StandsFor after (terms start stop quality) entries)
-          (rounds-more (length entries) n) (settles.stands refl);
-      counts = subst (Counts tally) (sym (next n c steps offers))
-          (counts_said tally (take n told) (due n)
-          (subst (λ buffer. Counts tally (take n told ++ buffer ∷ [])) said counts));
+pub counted_more : (told : List Told) (old new : Cursor) (before after : Tally)
+    (items : List Item) (message : List ℕ) → HasCounted told old before → new ≡ at_next old
+    → new.has_current ≡ true → items_of items ≡ map said_of (current new) → length items ≤ 2
+    → message ≡ message_octets (current new)
+    → after.frames ≡ before.frames + count_by tells_frame (items_of items)
+    → after.buffers ≡ before.buffers + cond (list_any tells_frame (items_of items)) 1 0
+    → after.ends ≡ before.ends + count_by tells_end (items_of items)
+    → ((octets : List ℕ) → Holds before.hasher octets → Holds after.hasher (octets ++ message))
+    → HasCounted told new after
+counted_more told old new before after items message counted next has said few sent frames buffers
+    ends hashed =
+    let is = next_count told old new counted.of_told next has in
+    let place : new.count - 1 ≡ old.count = omega (arith, is.1) in
+    let here : current new ≡ get_or told old.count [] =
+    ap (λ (bs : List Told). get_or bs (new.count - 1) []) is.0
+    ∙ ap (λ (i : ℕ). get_or told i []) place in
+    let buffer : Told = get_or told old.count [] in
+    let same : items_of items ≡ map said_of buffer = said ∙ ap (map said_of) here in
+    let more : take new.count told ≡ take old.count told ++ buffer ∷ [] =
+    ap (λ (n : ℕ). take n told) is.1 ∙ take_more told old.count [] is.2 in
+    let f : count_by tells_frame (items_of items) ≡ frames_in buffer =
+    ap (count_by tells_frame) same ∙ count_said tells_frame said_frame buffer in
+    let b : cond (list_any tells_frame (items_of items)) 1 0 ≡ has_frame buffer =
+    ap (λ (xs : Told). cond {A = ℕ} (list_any tells_frame xs) 1 0) same
+    ∙ ap (λ (x : Bool). cond {A = ℕ} x 1 0) (any_said buffer) in
+    let e : count_by tells_end (items_of items) ≡ ends_in buffer =
+    ap (count_by tells_end) same ∙ count_said tells_end said_end buffer in
+    record {
+      of_told = is.0;
+      within = omega (arith, is.1, is.2);
+      counts = subst (Counts after) (sym more)
+          (counts_more before after (take old.count told) buffer counted.counts
+          (frames ∙ ap (λ (n : ℕ). before.frames + n) f)
+          (buffers ∙ ap (λ (n : ℕ). before.buffers + n) b)
+          (ends ∙ ap (λ (n : ℕ). before.ends + n) e)
+          (λ octets holds. subst (λ (m : List ℕ). Holds after.hasher (octets ++ m))
+          (sent ∙ ap message_octets here) (hashed octets holds)));
+      frames = omega (arith, frames, few_of tells_frame items few, counted.frames, is.1);
+      buffers = omega (
+        arith,
+        buffers,
+        at_most_one (list_any tells_frame (items_of items)),
+        counted.buffers,
+        is.1,
+      );
+      ends = omega (arith, ends, few_of tells_end items few, counted.ends, is.1);
     }

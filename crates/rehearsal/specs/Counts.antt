@@ -2,8 +2,7 @@
 use Rattle.std.specs.Prelude.{◌≡◌, ℕ, Bool, false, ℤ, Option, List}
 use Rattle.std.specs.List.{count_by, sum_by, list_any, flat_map}
 use Rattle.archive_terms.specs.Delivery.{Item, archived, is_end_of_data}
-use Rattle.isp1_tml.specs.Message.{spelling}
-use Rattle.station_law.specs.Said.{Told, buffer_message}
+use Rattle.station_desk.specs.Told.{Told, message_octets}
 use Rattle.sha1.specs.Sha1.{Holds}
 use Rattle.rehearsal.specs.declared.tally.Tally.{Tally}
 use Rattle.rehearsal.specs.Frames.{is_frame}
@@ -27,9 +26,6 @@ abbrev pub ends_sent : List Told → ℕ
 ends_sent told = sum_by (λ buffer. count_by tells_end buffer) told
 
 -- the octets of their messages, one after the other
-abbrev pub message_octets : Told → List ℕ
-message_octets buffer = spelling (buffer_message buffer)
-
 abbrev pub octets_sent : List Told → List ℕ
 octets_sent told = flat_map message_octets told
 

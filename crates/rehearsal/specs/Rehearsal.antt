@@ -4,8 +4,8 @@ use Rattle.std.specs.Fmt.{decimal}
 use Rattle.hex.specs.Hex.{encode_lower}
 use Rattle.sha1.specs.Sha1.{sha1}
 use Rattle.archive_terms.specs.Archive.{Entry}
-use Rattle.station_law.specs.Said.{Told}
-use Rattle.station_law.specs.Desk.{told_desk}
+use Rattle.station_desk.specs.Told.{Told}
+use Rattle.station_desk.specs.Start.{told_desk}
 use Rattle.rehearsal.specs.Frames.{time_at, frames_stored, archive}
 use Rattle.rehearsal.specs.Counts.{frames_sent, buffers_sent, ends_sent, octets_sent}
 

@@ -5,12 +5,13 @@ use Rattle.record_form.specs.declared.entry.Entry as form
 use Rattle.record_form.specs.declared.entry.Entry.TheVariants as entries
 use Rattle.drill_text.specs.declared.script_line.ScriptLine.{ScriptLine}
 use Rattle.drill_text.specs.declared.script_line.ScriptLine.TheVariants.{Offer, Desk}
-use Rattle.station_law.specs.State.{State, start}
-use Rattle.station_law.specs.Said.{Told, sent_text}
+use Rattle.station_config.specs.declared.site.Site.{Site}
+use Rattle.station_law.specs.State.{start}
+use Rattle.station_desk.specs.Told.{Told, message_octets}
+use Rattle.station_law.specs.Said.{sent_text}
 use Rattle.station_law.specs.Lines.{step}
 use Rattle.station_law.specs.Runs.{transcript, after}
 use Rattle.rehearsal.specs.Frames.{time_at, quality_at, octets_at, archive}
-use Rattle.rehearsal.specs.Counts.{message_octets}
 use Rattle.rehearsal.specs.Rehearsal.{told}
 
 -- a line that offers frame i
@@ -26,15 +27,18 @@ script n =
     map line_at (range_with_len 0 n)
     ++ Offer (entries.Seal (time_at (n - 1))) ∷ Desk (time_at 0) (time_at (n - 1)) 0 ∷ []
 
--- a world whose archive has the capacity of a station that says none
-abbrev pub first : State
-first = start 268435456
+-- the capacity of a station that says none
+abbrev pub capacity : ℕ
+capacity = 268435456
 
 -- connection 0 was handed a buffer
 abbrev pub sent : Told → List ℕ
 sent buffer = sent_text 0 (message_octets buffer)
 
--- The world stores each frame and the seal, and its transcript is a line for each message.
+-- The world of a site with this capacity stores each frame and the seal, and its transcript is a
+-- line for each message.
 pub record IsOfScript (n : ℕ) : Type 0 where
-  pub stored : (after step first (script n)).published ≡ archive n
-  pub transcript : transcript step first (script n) ≡ flat_map sent (told n)
+  pub stored : (site : Site) → site.capacity ≡ capacity
+      → (after step (start site) (script n)).store.published ≡ archive n
+  pub transcript : (site : Site) → site.capacity ≡ capacity
+      → transcript step (start site) (script n) ≡ flat_map sent (told n)

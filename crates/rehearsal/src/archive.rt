@@ -1,24 +1,24 @@
 // The archive of a rehearsal.
-ghost use Rattle.std.specs.Prelude.{◌≡◌, ◌≤◌, [], ◌∷◌, ◌++◌, length, IsTrue, IfOk, OnOk, OnErr};
+ghost use Rattle.std.specs.Prelude.{◌≡◌, ◌≤◌, ◌-◌, [], ◌∷◌, ◌++◌, IsTrue, IfOk, OnOk, OnErr};
 ghost use Rattle.archive_terms.specs.Archive.{is_valid};
-ghost use Rattle.archive_terms.specs.Glimpse.{glimpse};
+ghost use Rattle.archive_terms.specs.Archive as terms;
 ghost use Rattle.record_form.specs.Entry.{entry_of, entries_of};
-ghost use Rattle.frame_select.specs.Want.{want_of};
-ghost use Rattle.frame_select.specs.Glimpse.{glimpse_of, as_said};
 ghost use Rattle.rehearsal.specs.Frames as rehearsal;
-ghost use Rattle.rehearsal.specs.Frames.{frames_stored};
+ghost use Rattle.rehearsal.specs.Frames.{frames_stored, time_at};
 
 use crate::frames::{Parts, time};
 use archive_index::Index;
 use frame_select::{Glimpse, Want};
 use octet_core::Memory;
 use record_form::Entry;
+use station_desk::Looks;
 use std::alloc::Global;
 use std::marker::Model;
 
 /// Entries in their order, with the index of them.
 #[derive(Debug, Drop)]
 pub struct Archive {
+    alloc: Global,
     entries: Vec<Entry>,
     index: Index,
 }
@@ -42,6 +42,7 @@ impl Archive {
         ensures { IfOk result (λ archive. archive ≡ []) }
     {
         Ok(Archive {
+            alloc,
             entries: Vec::new(alloc),
             index: Index::new(alloc)?,
         })
@@ -58,7 +59,7 @@ impl Archive {
         for i in 0..n {
             archive.store(parts.frame(i)?)?;
         }
-        archive.store(Entry::Seal { at: time(n - 1) })?;
+        archive.store(seal(n))?;
         Ok(archive)
     }
 
@@ -77,26 +78,29 @@ impl Archive {
         }
     }
 
-    /// How many entries there are.
-    pub fn len(&self) -> usize
-        ensures { result ≡ length self.now }
-    {
-        self.entries.len()
-    }
-
     /// How many frames there are.
     pub fn frames(&self) -> usize
         ensures { result ≡ frames_stored self.now }
     {
         count_frames(&self.entries)
     }
+}
 
-    /// What a look gives.
-    pub fn glimpse(&self, alloc: Global, want: &Want) -> Result<Glimpse, Memory>
-        ensures { IfOk result (λ g. glimpse_of g ≡ as_said (glimpse self.now (want_of want.now))) }
-    {
-        self.index.glimpse(alloc, &self.entries, want)
+impl Looks for Archive {
+    ghost entries = { λ archive. archive };
+
+    fn look(&self, want: &Want) -> Result<Glimpse, Memory> {
+        self.index.glimpse(self.alloc, &self.entries, want)
     }
+}
+
+// The seal behind `n` frames.
+fn seal(n: u32) -> Entry
+    requires some { 1 ≤ n }
+    requires few { n ≤ 20000 }
+    ensures { entry_of result ≡ terms.seal (time_at (n - 1)) }
+{
+    Entry::Seal { at: time(n - 1) }
 }
 
 fn count_frames(entries: &[Entry]) -> usize

@@ -1,9 +1,13 @@
 // What a rehearsal writes.
-ghost use Rattle.std.specs.Prelude.{◌≡◌, ◌≤◌, ◌++◌, IfOk, OnOk, List, string_bytes};
+ghost use Rattle.std.specs.Prelude.{◌≡◌, ◌≤◌, ◌<◌, ◌^◌, ◌-◌, ◌++◌, IfOk, OnOk, List, length};
+ghost use Rattle.std.specs.Prelude.{string_bytes};
 ghost use Rattle.std.specs.Fmt.{decimal};
 ghost use Rattle.hex.specs.Hex.{encode_lower};
 ghost use Rattle.sha1.specs.Sha1.{sha1};
-ghost use Rattle.station_law.specs.Said.{Told};
+ghost use Rattle.archive_terms.specs.Archive.{IsArchive};
+ghost use Rattle.station_desk.specs.Told.{Told};
+ghost use Rattle.station_desk.specs.Start.{told_desk};
+ghost use Rattle.rehearsal.specs.Frames.{time_at};
 ghost use Rattle.rehearsal.specs.Counts.{Counts, frames_sent, buffers_sent, ends_sent};
 ghost use Rattle.rehearsal.specs.Counts.{octets_sent};
 ghost use Rattle.rehearsal.specs.Rehearsal.{text, line, lines};
@@ -32,8 +36,21 @@ pub fn rehearse(alloc: Global, n: u32) -> Result<String, Memory>
 {
     archive_grows();
     let archive = Archive::rehearsed(alloc, n)?;
-    let tally = count_start(alloc, &archive, &time(0), &time(n - 1), GOOD)?;
+    let tally = count_good(alloc, &archive, n)?;
     Ok(report(alloc, archive.frames(), tally)?)
+}
+
+// Counts what a START hands over of the good frames, from the first one's time to that of frame
+// `n` - 1.
+fn count_good(alloc: Global, archive: &Archive, n: u32) -> Result<Tally, Memory>
+    requires archive { IsArchive archive.now }
+    requires few { length archive.now < 2 ^ 32 }
+    requires some { 1 ≤ n }
+    requires few_frames { n ≤ 20000 }
+    ensures { IfOk result (λ tally. Counts tally
+        (told_desk archive.now (time_at 0) (time_at (n - 1)) 0)) }
+{
+    count_start(alloc, archive, &time(0), &time(n - 1), GOOD)
 }
 
 // The lines of a tally.

@@ -1,16 +1,13 @@
 // What is counted of the buffers that are handed over.
-ghost use Rattle.std.specs.Prelude.{◌≡◌, ◌≤◌, ◌<◌, ◌+◌, ◌^◌, [], ◌∷◌, ◌++◌, length, List, OnOk};
-ghost use Rattle.std.specs.List.{AllByRecursion, count_by};
+ghost use Rattle.std.specs.Prelude.{◌≡◌, ℕ, ◌≤◌, ◌<◌, ◌+◌, ◌^◌, if◌then◌else◌, List, [], ◌++◌};
+ghost use Rattle.std.specs.Prelude.{length};
+ghost use Rattle.std.specs.List.{count_by, list_any};
+ghost use Rattle.sha1.specs.Sha1.{Holds};
 ghost use Rattle.frame_select.specs.Item.{item_of, items_of};
-ghost use Rattle.station_law.specs.Readable.{IsHanded};
-ghost use Rattle.station_law.specs.Said.{Told};
 ghost use Rattle.rehearsal.specs.Counts.{Counts, tells_frame, tells_end};
 
-use crate::message::message;
 use frame_select::Item;
-use octet_core::Memory;
 use sha1::Sha1;
-use std::alloc::Global;
 
 /// Counts of buffers, and the octets of their messages as a hash function took them.
 #[derive(Debug, Drop)]
@@ -40,27 +37,34 @@ impl Tally {
         }
     }
 
-    /// Counts a buffer of these items.
-    pub fn add(&mut self, alloc: Global, items: &[Item]) -> Result<(), Memory>
-        requires few { length items.now ≤ 2 }
-        requires handed { AllByRecursion IsHanded (items_of items.now) }
-        requires frames { self.old.frames + 2 < 2 ^ 64 }
+    /// Counts a buffer of these items, which this message handed over.
+    pub fn add(&mut self, items: &[Item], message: &[u8])
+        requires frames { self.old.frames + length items.now < 2 ^ 64 }
         requires buffers { self.old.buffers + 1 < 2 ^ 64 }
-        requires ends { self.old.ends + 2 < 2 ^ 64 }
-        ensures counts { OnOk result ((told : List Told) → Counts self.old told
-            → Counts self.new (told ++ items_of items.now ∷ [])) }
-        ensures frames { self.new.frames ≤ self.old.frames + 2 }
-        ensures buffers { self.new.buffers ≤ self.old.buffers + 1 }
-        ensures ends { self.new.ends ≤ self.old.ends + 2 }
+        requires ends { self.old.ends + length items.now < 2 ^ 64 }
+        ensures frames { self.new.frames
+            ≡ self.old.frames + count_by tells_frame (items_of items.now) }
+        ensures buffers { self.new.buffers
+            ≡ self.old.buffers + (if list_any tells_frame (items_of items.now) then 1 else 0) }
+        ensures ends { self.new.ends ≡ self.old.ends + count_by tells_end (items_of items.now) }
+        ensures octets { (octets : List ℕ) → Holds self.old.hasher octets
+            → Holds self.new.hasher (octets ++ message.now) }
     {
-        let sent = message(alloc, items)?;
-        self.hasher.update(sent.octets());
-        let frames = count_frames(items);
-        self.frames += frames;
-        self.buffers += u64::from(0 < frames);
+        self.hasher.update(message);
+        self.frames += count_frames(items);
+        self.buffers += u64::from(has_frame(items));
         self.ends += count_ends(items);
-        Ok(())
     }
+}
+
+fn has_frame(items: &[Item]) -> bool
+    ensures { result ≡ list_any tells_frame (items_of items.now) }
+{
+    let mut has = false;
+    for item in items {
+        has = has || is_frame(item);
+    }
+    has
 }
 
 fn count_frames(items: &[Item]) -> u64

@@ -1,5 +1,5 @@
 -- Disks in memory: what calls and restarts leave of one without orders, and of its images.
-use Rattle.std.proofs.Common.{◌≡◌, ℕ, ◌≤◌, Option, Some, None, MatchOption, List, [], ◌∷◌, length}
+use Rattle.std.proofs.Common.{◌≡◌, ℕ, Option, Some, None, MatchOption, List, [], ◌∷◌, length}
 use Rattle.std.proofs.Common.{false, refl, sym, ap, subst, ◌∙◌}
 use Rattle.std.specs.Option.{option_or}
 use Rattle.std.proofs.lemmas.List.Sums.{fold-append}
@@ -14,7 +14,6 @@ use Rattle.disk_model.specs.declared.call.Call.{Call}
 use Rattle.disk_model.specs.declared.event.Event.TheVariants.{Restarted}
 use Rattle.disk_model.specs.declared.orders.Pick.{Pick}
 use Rattle.disk_model.specs.declared.orders.Pick.TheVariants.{Old, New, Torn}
-use Rattle.disk_model.specs.declared.orders.Stop.{Stop}
 use Rattle.station_law.specs.Held.{IsUnsteered}
 
 -- a disk that runs and has no orders

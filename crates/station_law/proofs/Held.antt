@@ -1,8 +1,8 @@
 -- What holds of an archive on a disk in memory and of what is published, step by step.
-use Rattle.std.proofs.Common.{◌≡◌, ◌⊎◌, inl, inr, zero, suc, ℕ, ◌+◌, ◌-◌, ◌≤◌, Bool, true, false}
+use Rattle.std.proofs.Common.{◌≡◌, inl, inr, ℕ, ◌+◌, ◌-◌, ◌≤◌, Bool, true, false}
 use Rattle.std.proofs.Common.{not}
 use Rattle.std.proofs.Common.{nat_le, nat_lt, if◌then◌else◌, IsTrue, Option, Some, None, option_map}
-use Rattle.std.proofs.Common.{List, [], ◌∷◌, ◌++◌, length, take, refl, sym, ap, subst, ◌∙◌, arith}
+use Rattle.std.proofs.Common.{List, [], ◌∷◌, ◌++◌, length, refl, sym, ap, subst, ◌∙◌, arith}
 use Rattle.std.proofs.Common.{Result, Ok, Err, OnErr}
 use Rattle.std.proofs.lemmas.Bool.{and_parts}
 use Rattle.std.proofs.lemmas.List.{append-nil}
@@ -19,7 +19,6 @@ use Rattle.disk_model.specs.Calls.{AllMade}
 use Rattle.disk_model.specs.MemoryDisk.{DiskState, IsMadeCall, IsImageSince, pending_of, steered}
 use Rattle.disk_model.specs.declared.call.Call.{Call}
 use Rattle.disk_model.specs.declared.orders.Orders.{Orders}
-use Rattle.std.specs.Option.{IfSome}
 use Rattle.gate_journal.specs.File.{IsBatch, gated, joined, StandsAt, StandsFor, entries_octets}
 use Rattle.gate_journal.specs.Kept.{Keeps, IsOldOrNew, HasBatch}
 use Rattle.gate_journal.specs.declared.order.Times.{Times}
@@ -28,14 +27,14 @@ use Rattle.frame_archive.specs.declared.fault.OfferFault.TheVariants as faults
 use Rattle.frame_archive.specs.State as archives
 use Rattle.frame_archive.specs.State.{ArchiveState, with_waiting, with_stored, with_failed}
 use Rattle.frame_archive.specs.State.{times_of, failed_batch, at_rest}
-use Rattle.frame_archive.specs.Held.{Acknowledges, Uses}
+use Rattle.frame_archive.specs.Held.{Acknowledges}
 use Rattle.frame_archive.specs.Faults.{IsRefusal}
 use Rattle.station_law.specs.declared.refusal.Refusal.{Refusal}
 use Rattle.station_law.specs.declared.refusal.Refusal.TheVariants as refusals
-use Rattle.station_law.specs.State.{State}
+use Rattle.station_law.specs.Store.{Store}
 use Rattle.station_law.specs.Entries.{need, used, free, refusal}
-use Rattle.station_law.specs.Held.{told_by, IsAt, Rests, Takes, Waits, HoldsAllOrNone, fault_of}
-use Rattle.station_law.specs.Held.{IsOfOffer, IsUnsteered}
+use Rattle.station_law.specs.Held.{told_by, IsAt, Rests, Waits, HoldsAllOrNone, fault_of}
+use Rattle.station_law.specs.Held.{IsOfOffer}
 use Rattle.station_law.proofs.Disks.{IsCalm, calm_after, at_end}
 
 -- ---- a file of no entries
@@ -147,7 +146,7 @@ room_of : (archive : ArchiveState DiskState) (count capacity octets : ℕ) → a
 room_of archive count capacity octets rests counted capacity_is used_is =
     rw (rests, counted, capacity_is, used_is, none_more, no_less) refl
 
-pub same_refusal : OrderIsSeen → (archive : ArchiveState DiskState) (state : State)
+pub same_refusal : OrderIsSeen → (archive : ArchiveState DiskState) (state : Store)
     → Rests archive state.published → archive.capacity ≡ state.capacity → (entry : Entry)
     → archives.refusal archive entry ≡ option_map fault_of (refusal state entry)
 same_refusal seen archive state rests capacity entry =
@@ -215,7 +214,7 @@ taken_so None e = refl
 taken_so (Some found) e = absurd cc
 
 -- why the archive refused an entry is why the world does
-pub cause_of : OrderIsSeen → (archive : ArchiveState DiskState) (state : State)
+pub cause_of : OrderIsSeen → (archive : ArchiveState DiskState) (state : Store)
     → Rests archive state.published → archive.capacity ≡ state.capacity
     → (given entry : form.Entry) → given ≡ entry → (fault : OfferFault)
     → IsRefusal (archives.refusal archive (entry_of given)) fault
@@ -225,7 +224,7 @@ cause_of seen archive state rests capacity given entry same fault is =
     (same_refusal seen archive state rests capacity (entry_of entry))
     (subst (λ (e : form.Entry). IsRefusal (archives.refusal archive (entry_of e)) fault) same is)
 
-pub none_of : OrderIsSeen → (archive : ArchiveState DiskState) (state : State)
+pub none_of : OrderIsSeen → (archive : ArchiveState DiskState) (state : Store)
     → Rests archive state.published → archive.capacity ≡ state.capacity
     → (given entry : form.Entry) → given ≡ entry
     → archives.refusal archive (entry_of given) ≡ None → None ≡ refusal state (entry_of entry)

@@ -1,6 +1,6 @@
 -- What an archive is once it is opened again.
-use Rattle.std.proofs.Common.{◌≡◌, ◌⊎◌, inl, inr, ℕ, ◌+◌, ◌-◌, ◌≤◌, Bool, true, false, Option, Some}
-use Rattle.std.proofs.Common.{None, MatchOption, if◌then◌else◌, List, [], ◌∷◌, ◌++◌, length, take}
+use Rattle.std.proofs.Common.{◌≡◌, ℕ, ◌+◌, ◌-◌, Bool, true, false, Some}
+use Rattle.std.proofs.Common.{MatchOption, if◌then◌else◌, List, [], ◌∷◌, ◌++◌, length, take}
 use Rattle.std.proofs.Common.{drop, nat_lt, refl, sym, ap, subst, ◌∙◌, arith}
 use Rattle.std.proofs.lemmas.List.{append-nil}
 use Rattle.std.proofs.lemmas.Bool.Decides.{nat_tests}
@@ -9,13 +9,10 @@ use Rattle.archive_terms.specs.Archive.{Entry}
 use Rattle.record_form.specs.Entry.{entry_of}
 use Rattle.record_form.specs.declared.entry.Entry as form
 use Rattle.disk_model.specs.Calls.{AllMade}
-use Rattle.disk_model.specs.MemoryDisk.{DiskState, IsMadeCall, pending_of, content_of, restarted}
-use Rattle.disk_model.specs.declared.call.Call.{Call}
+use Rattle.disk_model.specs.MemoryDisk.{DiskState, IsMadeCall, content_of, restarted}
 use Rattle.disk_model.specs.declared.call.Call.TheVariants.{Sync}
-use Rattle.disk_model.specs.declared.orders.Pick.{Pick}
-use Rattle.gate_journal.specs.File.{StandsAt, StandsFor}
+use Rattle.gate_journal.specs.File.{StandsAt}
 use Rattle.gate_journal.specs.Kept.{holds_batch, IsOldOrNew}
-use Rattle.gate_journal.specs.declared.order.Times.{Times}
 use Rattle.frame_archive.specs.State as archives
 use Rattle.frame_archive.specs.State.{ArchiveState, at_rest, times_of, failed_batch}
 use Rattle.frame_archive.specs.Held.{Acknowledges, Uses}
@@ -23,7 +20,7 @@ use Rattle.station_law.specs.declared.order.Order.{Order}
 use Rattle.station_law.specs.declared.order.Strike.{Strike}
 use Rattle.station_law.specs.declared.order.Strike.TheVariants.{Fail}
 use Rattle.station_law.specs.declared.storing.Settled.TheVariants.{Failed}
-use Rattle.station_law.specs.State.{State}
+use Rattle.station_law.specs.Store.{Store}
 use Rattle.station_law.specs.Said.{told, fault}
 use Rattle.station_law.specs.Said as notices
 use Rattle.station_law.specs.Answer.{Answer}
@@ -210,7 +207,7 @@ failed_so order archive published entry again fails same struck =
     (subst (λ (s : Strike). IsStruck s order.calls archive published (entry_of entry)) fails struck)
 
 -- it is told as the line of its entry says
-pub settled_failed : (state : State) (entry again : form.Entry) (archive : ArchiveState DiskState)
+pub settled_failed : (state : Store) (entry again : form.Entry) (archive : ArchiveState DiskState)
     (order : Order) (entries : ℕ) → state.order ≡ Some order → IsTrue (is_hit order)
     → order.strike ≡ Fail → again ≡ entry
     → entries ≡ length (if holds_batch order.calls then state.published ++ entry_of again ∷ []
@@ -232,10 +229,10 @@ settled_failed state entry again archive order entries is hit fail same count re
     then state.published ++ one ∷ [] else state.published)) (sym fail) in
     record {
       said = ap (λ (n : ℕ). told fault ∷ told (notices.archive n) ∷ []) long
-          ∙ ap (λ (a : Answer). a.said) (sym answer);
-      rests = subst (λ (a : Answer). Rests archive a.next.published) (sym answer)
+          ∙ ap (λ (a : Answer Store). a.said) (sym answer);
+      rests = subst (λ (a : Answer Store). Rests archive a.next.published) (sym answer)
           (subst (λ (e : form.Entry). Rests archive (state.published ++ entry_of e ∷ [])) same rests);
-      published = ap (λ (a : Answer). a.next.published) (sym answer);
+      published = ap (λ (a : Answer Store). a.next.published) (sym answer);
     }
 
 -- what holds where an error comes

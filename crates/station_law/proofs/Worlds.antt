@@ -1,8 +1,7 @@
 -- What the lines of an entry leave of a world.
-use Rattle.std.proofs.Common.{◌≡◌, ◌⊎◌, inl, inr, ℕ, ◌<◌, ◌-◌, Bool, true, false, IsTrue, nat_le, nat_lt}
-use Rattle.std.proofs.Common.{if◌then◌else◌, Option, Some, None, option_map, List, [], ◌∷◌, ◌++◌}
+use Rattle.std.proofs.Common.{◌≡◌, ◌⊎◌, inl, inr, ℕ, ◌<◌, ◌-◌, Bool, true, false, nat_le, nat_lt}
+use Rattle.std.proofs.Common.{if◌then◌else◌, Option, Some, None, List, [], ◌∷◌, ◌++◌}
 use Rattle.std.proofs.Common.{length, refl, sym, ap, subst, ◌∙◌, arith}
-use Rattle.std.proofs.lemmas.List.{append-nil}
 use Rattle.std.proofs.lemmas.Bool.Decides.{nat_tests}
 use Rattle.std.specs.Option.{IfSome, option_or}
 use Rattle.std.proofs.lemmas.List.Sums.{fold_push}
@@ -14,7 +13,7 @@ use Rattle.disk_model.specs.Images.{Pending}
 use Rattle.disk_model.specs.Calls.{AllMade}
 use Rattle.disk_model.specs.MemoryDisk.{DiskState, IsMadeCall, pending_of, fresh}
 use Rattle.disk_model.specs.declared.call.Call.TheVariants.{Sync}
-use Rattle.gate_journal.specs.Kept.{Keeps, IsOldOrNew, creating, leaves_batch, holds_batch}
+use Rattle.gate_journal.specs.Kept.{Keeps, IsOldOrNew, creating}
 use Rattle.gate_journal.specs.File.{StandsAt, StandsFor}
 use Rattle.gate_journal.specs.declared.order.Times.{Times}
 use Rattle.frame_archive.specs.State.{ArchiveState, at_rest, times_of, times_after}
@@ -24,12 +23,12 @@ use Rattle.station_law.specs.declared.order.Strike.{Strike}
 use Rattle.station_law.specs.declared.order.Strike.TheVariants.{Stop, Fail}
 use Rattle.station_law.specs.declared.refusal.Refusal.{Refusal}
 use Rattle.station_law.specs.declared.step_done.StepDone.TheVariants.{Fine}
-use Rattle.station_law.specs.State.{State, Seen}
+use Rattle.station_law.specs.Store.{Store}
 use Rattle.station_law.specs.Answer.{Answer}
 use Rattle.station_law.specs.Orders.{is_hit, behind_store, order_behind, leaves_entry, found}
-use Rattle.station_law.specs.Entries.{used, refusal, stores, struck, stores_under, by_refusal, offer}
-use Rattle.station_law.specs.Held.{told_by, Rests, Waits, HoldsAllOrNone, begun_list, IsReady, IsHeld}
-use Rattle.station_law.specs.Stopped.{IsDone, IsLeft}
+use Rattle.station_law.specs.Entries.{refusal, stores, struck, stores_under, by_refusal, offer}
+use Rattle.station_law.specs.Held.{told_by, Rests, HoldsAllOrNone, begun_list, IsHeld}
+use Rattle.station_law.specs.Stopped.{IsLeft}
 use Rattle.station_law.proofs.Disks.{IsCalm, calm_after}
 use Rattle.station_law.proofs.Held.{AtRestStands, none_stored, alone, empty_place}
 use Rattle.station_law.proofs.Reopening.{one_more}
@@ -96,7 +95,7 @@ held_new finds stands blank made opened is_blank create same keeps capacity entr
 
 -- ---- an entry's store
 
-module _ (state : State) (entry : Entry) where
+module _ (state : Store) (entry : Entry) where
   -- what is published behind it
   abbrev IsNext : List Entry → Type 0
   IsNext p = (p ≡ state.published ++ entry ∷ []) ⊎ (p ≡ state.published)
@@ -121,7 +120,7 @@ module _ (state : State) (entry : Entry) where
   next_published (Some order) = after_hit order (is_hit order)
 
   -- the state behind it has what is published and the order that is left
-  abbrev next_as : State → Option Order → Type 0
+  abbrev next_as : Store → Option Order → Type 0
   next_as next order = next ≡ record state { published = next.published; order = order }
 
   state_strike : (there : List Entry) (strike : Strike)
@@ -193,10 +192,10 @@ module _ (state : State) (entry : Entry) where
   stored_so is = ap (by_refusal state entry) is
 
   pub given_is : None ≡ refusal state entry → entry ∷ [] ≡ (offer state entry).given
-  given_is is = sym (given_one state.order) ∙ ap (λ (a : Answer). a.given) (stored_so is)
+  given_is is = sym (given_one state.order) ∙ ap (λ (a : Answer Store). a.given) (stored_so is)
 
   pub done_is : None ≡ refusal state entry → Fine ≡ (offer state entry).done
-  done_is is = sym (done_fine state.order) ∙ ap (λ (a : Answer). a.done) (stored_so is)
+  done_is is = sym (done_fine state.order) ∙ ap (λ (a : Answer Store). a.done) (stored_so is)
 
   -- a refused one changes nothing
   pub refused_so : (why : Refusal) → Some why ≡ refusal state entry
@@ -213,22 +212,20 @@ module _ (state : State) (entry : Entry) where
         published = published;
         unsettled = unsettled;
         order = order;
-        clock = state.clock;
       } ≡ (offer state entry).next
   done_now capacity published unsettled order taken capacity_is published_is unsettled_is order_is =
-      let make : ℕ → List Entry → List Entry → Option Order → State = λ c p u o. record {
+      let make : ℕ → List Entry → List Entry → Option Order → Store = λ c p u o. record {
         capacity = c;
         published = p;
         unsettled = u;
         order = o;
-        clock = state.clock;
       } in
       let there = (stores_under state entry state.order).next.published in
       ap (λ c. make c published unsettled order) capacity_is
       ∙ ap (λ p. make state.capacity p unsettled order) published_is
       ∙ ap (λ u. make state.capacity there u order) unsettled_is
       ∙ ap (λ o. make state.capacity there state.unsettled o) order_is
-      ∙ sym (next_state state.order refl) ∙ ap (λ (a : Answer). a.next) (stored_so taken)
+      ∙ sym (next_state state.order refl) ∙ ap (λ (a : Answer Store). a.next) (stored_so taken)
 
 -- the order behind a store is for a call to come
 past : (order : Order) (hits : Bool) → nat_le order.calls 4 ≡ hits
@@ -294,13 +291,15 @@ held_spent archive published times begun order images to_come = record {
 
 -- a world whose power failed between two calls
 pub held_found : (archive : ArchiveState DiskState) (published found : List Entry) (times : Times)
-    (begun : Option form.Entry) → AtRestStands → found ≡ published → Rests archive published
-    → times ≡ times_of published → begun ≡ None → IsHeld archive found times begun None false
-held_found archive published found times begun stands same rests times_are none = rw same (record {
-  ready = λ _. record { rests = rests; times_are = times_are; none_begun = none };
-  images = none_stored stands archive published [] rests (begun_list begun);
-  to_come = tt;
-})
+    (begun : Option form.Entry) (order : Option Order) → AtRestStands → found ≡ published
+    → Rests archive published → times ≡ times_of published → begun ≡ None
+    → IfSome order (λ o. 0 < o.calls) → IsHeld archive found times begun order false
+held_found archive published found times begun order stands same rests times_are none to_come =
+    rw same (record {
+      ready = λ _. record { rests = rests; times_are = times_are; none_begun = none };
+      images = none_stored stands archive published [] rests (begun_list begun);
+      to_come = to_come;
+    })
 
 -- behind a store the file holds all or nothing of its entry
 all_or_none : (published next : List Entry) (entry : Entry) (image : List ℕ)
@@ -311,7 +310,7 @@ all_or_none published next entry image (inl more) stands =
 all_or_none published next entry image (inr same) stands =
     inl (subst (λ (es : List Entry). StandsFor es image) same stands)
 
-pub settled_images : AtRestStands → (archive : ArchiveState DiskState) (state : State)
+pub settled_images : AtRestStands → (archive : ArchiveState DiskState) (state : Store)
     (one entry : form.Entry) → one ≡ entry
     → Rests archive (stores_under state (entry_of entry) state.order).next.published
     → HoldsAllOrNone archive.disk state.published (entry_of one ∷ [])
@@ -324,7 +323,7 @@ settled_images stands archive state one entry same rests =
     image is))
 
 -- what is left where the store of an entry, or its publishing, wants memory
-pub left_begun : (state : State) (disk after : DiskState) (was_spent : Bool) (capacity : ℕ)
+pub left_begun : (state : Store) (disk after : DiskState) (was_spent : Bool) (capacity : ℕ)
     (one entry : form.Entry) → capacity ≡ state.capacity → one ≡ entry
     → None ≡ refusal state (entry_of entry)
     → IsLeft (record { state = state; disk = disk; is_spent = was_spent })
@@ -334,7 +333,6 @@ pub left_begun : (state : State) (disk after : DiskState) (was_spent : Bool) (ca
         published = state.published;
         unsettled = entry_of one ∷ [];
         order = state.order;
-        clock = state.clock;
       };
       disk = after;
       is_spent = true;
@@ -343,7 +341,6 @@ left_begun state disk after was_spent capacity one entry capacity_is same taken 
   published = refl;
   capacity = capacity_is;
   order = refl;
-  clock = refl;
   unsettled = inr (ap (λ (e : form.Entry). entry_of e ∷ []) same
       ∙ given_is state (entry_of entry) taken);
 }

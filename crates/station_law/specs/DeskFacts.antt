@@ -11,13 +11,16 @@ use Rattle.archive_terms.specs.Selection.{Selection, picked}
 use Rattle.archive_terms.specs.Delivery.{Item, Terms, all_items, offline_buffers}
 use Rattle.archive_terms.specs.Rounds.{to_hand_over}
 use Rattle.archive_terms.specs.Continuity.{told_items, told_buffers, last_frame}
-use Rattle.station_law.specs.State.{State, moment}
-use Rattle.station_law.specs.Said.{Told, Handed, told, refused, handed, handed_by}
+use Rattle.station_desk.specs.Start.{moment}
+use Rattle.station_law.specs.Store.{Store}
+use Rattle.station_desk.specs.Told.{Told}
+use Rattle.station_law.specs.Said.{Handed, told, refused, handed, handed_by}
 use Rattle.station_law.specs.Said.{begun, buffers_handed, told_once, buffers_told}
 use Rattle.station_law.specs.Answer.{says}
 use Rattle.station_law.specs.Sound.{IsSound, IsRight, items_of, Keeps}
 use Rattle.station_law.specs.EntriesFacts.{leaves_all}
-use Rattle.station_law.specs.Desk.{selection, terms, desk_buffers, told_desk, said_at_start, desk}
+use Rattle.station_desk.specs.Start.{selection, terms, desk_buffers, told_desk}
+use Rattle.station_law.specs.Desk.{said_at_start, desk}
 use Rattle.station_law.specs.Desk.{handed_at_start}
 
 -- The laws of what is handed over: buffers hold a prefix of what their START is to hand over; that
@@ -71,7 +74,7 @@ not_before : (a b : ℕ) → a ≤ b → nat_lt b a ≡ false
 not_before a b le = grind arith
 
 -- a START that isn't refused is the last one then, with all that it hands over
-pub hands_over : (state : State) (start stop : Cds) (quality : ℕ) (starts : List Handed)
+pub hands_over : (state : Store) (start stop : Cds) (quality : ℕ) (starts : List Handed)
     → moment start ≤ moment stop
     → handed_by starts (desk state start stop quality).said
     ≡ handed_at_start state.published start stop quality ∷ starts
@@ -79,7 +82,7 @@ hands_over state start stop quality starts ordered =
     rw (not_before (moment start) (moment stop) ordered)
     (hands_more (terms start stop quality) [] (told_desk state.published start stop quality) starts)
 
-module _ (laws : Delivers) (state : State) (start stop : Cds) (quality : ℕ) where
+module _ (laws : Delivers) (state : Store) (start stop : Cds) (quality : ℕ) where
   began : Handed
   began = handed_at_start state.published start stop quality
 

@@ -12,7 +12,7 @@ use Rattle.station_law.specs.declared.step_done.StepDone.TheVariants.{Fine, Full
 use Rattle.station_law.specs.declared.order.Order.{Order}
 use Rattle.station_law.specs.declared.order.Strike.{Strike}
 use Rattle.station_law.specs.declared.order.Strike.TheVariants.{Stop, Fail}
-use Rattle.station_law.specs.State.{State}
+use Rattle.station_law.specs.Store.{Store}
 use Rattle.station_law.specs.Orders.{is_hit, behind_store, found}
 use Rattle.station_law.specs.Said.{told, Notice, backward, too_long, full, fault, crash, archive}
 use Rattle.station_law.specs.Said.{Said}
@@ -29,12 +29,12 @@ used entries = 9 + sum_by need entries
 
 -- how many octets are free below the capacity, or none where as many entries are stored as an
 -- archive holds
-abbrev pub free : State → ℕ
+abbrev pub free : Store → ℕ
 free state =
     if nat_le 4194304 (length state.published) then 0 else state.capacity - used state.published
 
 -- why an entry isn't taken
-abbrev pub refusal : State → Entry → Option Refusal
+abbrev pub refusal : Store → Entry → Option Refusal
 refusal state entry =
     if not (keeps_order state.published entry) then Some refusals.Backward
     else if not (is_short entry) then Some refusals.TooLong
@@ -56,7 +56,7 @@ abbrev pub opened : Notice → List Entry → List Said
 opened why entries = told why ∷ told (archive (length entries)) ∷ []
 
 -- the entry is acknowledged and published
-abbrev pub stores : State → Entry → Answer
+abbrev pub stores : Store → Entry → Answer Store
 stores state entry = record {
   said = [];
   given = entry ∷ [];
@@ -67,7 +67,7 @@ stores state entry = record {
 
 -- The power fails in the entry's store. What the file holds once the archive is opened again is all
 -- that is published: the entry isn't offered again.
-abbrev pub crashes : State → Entry → List Entry → Answer
+abbrev pub crashes : Store → Entry → List Entry → Answer Store
 crashes state entry there = record {
   said = opened crash there;
   given = entry ∷ [];
@@ -78,7 +78,7 @@ crashes state entry there = record {
 
 -- A call of the entry's store fails. The archive is opened again, and the entry is acknowledged,
 -- since it is offered and stored once more where the file doesn't hold it.
-abbrev pub fails : State → Entry → List Entry → Answer
+abbrev pub fails : Store → Entry → List Entry → Answer Store
 fails state entry there = record {
   said = opened fault there;
   given = entry ∷ [];
@@ -87,21 +87,21 @@ fails state entry there = record {
   next = record state { published = state.published ++ entry ∷ []; order = None };
 }
 
-abbrev pub struck : State → Entry → List Entry → Strike → Answer
+abbrev pub struck : Store → Entry → List Entry → Strike → Answer Store
 struck state entry there (Stop pick) = crashes state entry there
 struck state entry there Fail = fails state entry there
 
 -- the entry is stored while this order stands for the disk
-abbrev pub stores_under : State → Entry → Option Order → Answer
+abbrev pub stores_under : Store → Entry → Option Order → Answer Store
 stores_under state entry None = stores state entry
 stores_under state entry (Some order) =
     if is_hit order then struck state entry (found order state.published entry) order.strike
     else stores (record state { order = behind_store order }) entry
 
-abbrev pub by_refusal : State → Entry → Option Refusal → Answer
+abbrev pub by_refusal : Store → Entry → Option Refusal → Answer Store
 by_refusal state entry None = stores_under state entry state.order
 by_refusal state entry (Some why) = ends (done_of why) (told (notice_of why) ∷ []) state
 
 -- what the line of an entry answers
-abbrev pub offer : State → Entry → Answer
+abbrev pub offer : Store → Entry → Answer Store
 offer state entry = by_refusal state entry (refusal state entry)

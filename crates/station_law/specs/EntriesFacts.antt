@@ -1,7 +1,7 @@
 -- The facts of an entry's line.
 use Rattle.std.proofs.Common.{◌≡◌, Bool, true, false, ◌&&◌, not, if◌then◌else◌, Some, None}
 use Rattle.std.proofs.Common.{Option}
-use Rattle.std.proofs.Common.{IsTrue, List, [], ◌∷◌, ◌++◌, ◌+◌, refl, sym, ap, ◌∙◌, arith}
+use Rattle.std.proofs.Common.{IsTrue, List, [], ◌∷◌, ◌++◌, refl, sym, ap, ◌∙◌, arith}
 use Rattle.std.proofs.lemmas.List.{append-nil}
 use Rattle.archive_terms.specs.Archive.{Entry, is_archive, IsArchive, is_valid, is_short}
 use Rattle.archive_terms.specs.Archive.{keeps_order, may_follow}
@@ -13,7 +13,7 @@ use Rattle.station_law.specs.declared.step_done.StepDone.{StepDone}
 use Rattle.station_law.specs.declared.step_done.StepDone.TheVariants.{Fine}
 use Rattle.station_law.specs.declared.refusal.Refusal.{Refusal}
 use Rattle.station_law.specs.declared.refusal.Refusal.TheVariants as refusals
-use Rattle.station_law.specs.State.{State}
+use Rattle.station_law.specs.Store.{Store}
 use Rattle.station_law.specs.Orders.{is_hit, behind_store, leaves_entry, found}
 use Rattle.station_law.specs.Said.{Said, Handed, handed_by, told, buffers_handed, buffers_told}
 use Rattle.station_law.specs.Said.{fault}
@@ -28,7 +28,7 @@ abbrev pub Grows : Type 0
 Grows = (a : List Entry) (e : Entry) → is_archive (a ++ e ∷ []) ≡ (is_archive a && may_follow a e)
 
 -- a line that hands nothing over and changes nothing that is published
-pub leaves_all : (before next : State) (done : StepDone) (said : List Said)
+pub leaves_all : (before next : Store) (done : StepDone) (said : List Said)
     → next.published ≡ before.published → next.unsettled ≡ before.unsettled
     → ((starts : List Handed) → handed_by starts said ≡ starts) → buffers_told said ≡ 0
     → IsSound before → Keeps before (ends done said next)
@@ -43,14 +43,14 @@ leaves_all before next done said same settled hands none sound = record {
 }
 
 -- an entry that isn't refused may follow
-module _ (grows : Grows) (state : State) (entry : Entry) (sound : IsSound state)
+module _ (grows : Grows) (state : Store) (entry : Entry) (sound : IsSound state)
     (valid : IsTrue (is_valid entry)) where
   longer : keeps_order state.published entry ≡ true → is_short entry ≡ true
       → IsArchive (state.published ++ entry ∷ [])
   longer ordered short = rw grows (grind (arith, sound.archive, valid, ordered, short))
 
   -- it is published, and nothing is handed over
-  adds : (next : State) (said : List Said) → IsArchive (state.published ++ entry ∷ [])
+  adds : (next : Store) (said : List Said) → IsArchive (state.published ++ entry ∷ [])
       → next.published ≡ state.published ++ entry ∷ [] → next.unsettled ≡ state.unsettled
       → ((starts : List Handed) → handed_by starts said ≡ starts) → buffers_told said ≡ 0
       → Keeps state (record {

@@ -1,3 +1,5 @@
+pub mod Store
+pub mod Doors
 pub mod State
 pub mod Orders
 pub mod Said
@@ -14,11 +16,11 @@ pub mod Power
 pub mod PowerFacts
 pub mod Desk
 pub mod DeskFacts
-pub mod Buffers
-pub mod Readable
-pub mod Pass
 pub mod Held
 pub mod Storing
 pub mod Stopped
+pub mod Standing
 pub mod Lines
 pub mod LinesFacts
+pub mod Shown
+pub mod Connections

@@ -1,33 +1,90 @@
 -- The lines of a script: what each answers. A line whose events don't run yet is outside the
 -- grammar, as is one that can't be read, or whose entry isn't valid.
-use Rattle.std.specs.Prelude.{ℕ, if◌then◌else◌, List, [], Option, Some, None}
-use Rattle.archive_terms.specs.Archive.{is_valid}
+use Rattle.std.specs.Prelude.{ℕ, Bool, true, false, if◌then◌else◌, List, [], ◌∷◌, map, Option, Some}
+use Rattle.std.specs.Prelude.{None}
+use Rattle.archive_terms.specs.Archive.{Entry, is_valid}
 use Rattle.record_form.specs.Entry.{entry_of}
+use Rattle.station_book.specs.State.{Event, publish}
+use Rattle.station_book.specs.State as books
+use Rattle.station_book.specs.History.{after, event_at, replay}
 use Rattle.drill_text.specs.declared.script_line.ScriptLine.{ScriptLine}
 use Rattle.drill_text.specs.declared.script_line.ScriptLine.TheVariants.{Skip, Offer, Desk, Clock}
 use Rattle.drill_text.specs.declared.script_line.ScriptLine.TheVariants.{Crash, Fault}
 use Rattle.drill_text.specs.Reading.{reading}
-use Rattle.station_law.specs.State.{State, moment}
+use Rattle.station_law.specs.declared.outcome.Outcome.{Outcome}
+use Rattle.station_law.specs.declared.outcome.Outcome.TheVariants.{Stored, Refused, Crashed, Failed}
+use Rattle.station_law.specs.Store.{Store}
+use Rattle.station_law.specs.Doors.{Doors, anew, Acted, act, doors_after}
+use Rattle.station_desk.specs.Start.{moment}
+use Rattle.station_law.specs.State.{State}
+use Rattle.station_law.specs.Said.{linked}
 use Rattle.station_law.specs.Answer.{Answer, says, is_wrong}
 use Rattle.station_law.specs.Entries.{offer}
 use Rattle.station_law.specs.Desk.{desk}
 use Rattle.station_law.specs.Orders.{pick_of}
 use Rattle.station_law.specs.Power.{crash_line, fault_line}
 
-abbrev pub step : State → ScriptLine → Answer
+-- ---- what is stored, and the book
+
+-- the event of a book to which entries are published, if any are
+abbrev pub publishing : books.State → List Entry → List Event
+publishing b [] = []
+publishing b (entry ∷ entries) = event_at b (publish (entry ∷ entries)) ∷ []
+
+-- A recovery makes the book new, over what it found, and no connection outlives it. Else the book
+-- gets what was given to stores.
+abbrev pub doors_behind : Bool → Doors → List Entry → List Entry → Doors
+doors_behind true d given found = anew d.site found
+doors_behind false d given found = record d { book = replay d.book (publishing d.book given) }
+
+-- a line that concerns what is stored
+abbrev pub recorded : State → Answer Store → Answer State
+recorded state a = record {
+  said = a.said;
+  given = a.given;
+  recovers = a.recovers;
+  done = a.done;
+  next = record state {
+    store = a.next;
+    doors = doors_behind a.recovers state.doors a.given a.next.published;
+  };
+}
+
+-- an entry is offered
+abbrev pub offered : State → Entry → Answer State
+offered state entry = recorded state (offer state.store entry)
+
+-- the doors behind what became of an entry
+abbrev pub doors_by : Outcome → Entry → List Entry → Doors → Doors
+doors_by (Refused why) entry published d = d
+doors_by Stored entry published d =
+    record d { book = after d.book (publish (entry ∷ [])) }
+doors_by (Failed count) entry published d =
+    record d { book = after d.book (publish (entry ∷ [])) }
+doors_by (Crashed count) entry published d = anew d.site published
+
+-- a line of a connection
+abbrev pub connected : State → Option Acted → Answer State
+connected state None = is_wrong state
+connected state (Some a) =
+    says (map (linked a.c) a.said) (record state { doors = doors_after state.doors a })
+
+-- ---- the lines
+
+abbrev pub step : State → ScriptLine → Answer State
 step state Skip = says [] state
 step state (Offer entry) =
-    if is_valid (entry_of entry) then offer state (entry_of entry) else is_wrong state
-step state (Desk start stop quality) = desk state start stop quality
+    if is_valid (entry_of entry) then offered state (entry_of entry) else is_wrong state
+step state (Desk start stop quality) = recorded state (desk state.store start stop quality)
 step state (Clock at) = says [] (record state { clock = moment at })
-step state (Crash k pick) = crash_line state k (pick_of pick)
-step state (Fault k) = fault_line state k
-step state _ = is_wrong state
+step state (Crash k pick) = recorded state (crash_line state.store k (pick_of pick))
+step state (Fault k) = recorded state (fault_line state.store k)
+step state line = connected state (act state.doors state.clock line)
 
 -- what a line of octets answers, its end left away
-abbrev pub step_read : State → Option ScriptLine → Answer
+abbrev pub step_read : State → Option ScriptLine → Answer State
 step_read state None = is_wrong state
 step_read state (Some line) = step state line
 
-abbrev pub step_text : State → List ℕ → Answer
+abbrev pub step_text : State → List ℕ → Answer State
 step_text state text = step_read state (reading text)

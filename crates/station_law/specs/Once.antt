@@ -7,18 +7,22 @@ use Rattle.std.proofs.Math.Seq.{take-append-add}
 use Rattle.archive_terms.specs.Archive.{Entry}
 use Rattle.station_law.specs.declared.step_done.StepDone.{StepDone}
 use Rattle.station_law.specs.declared.step_done.StepDone.TheVariants.{Fine, Full, WrongState}
+use Rattle.station_law.specs.Store.{Store}
 use Rattle.station_law.specs.State.{State}
 use Rattle.station_law.specs.Said.{Handed, texts, handed_by}
 use Rattle.station_law.specs.Answer.{Answer}
 use Rattle.station_law.specs.Sound.{Begins, IsSound, Moves, IsRight, AreRight, Keeps}
 use Rattle.station_law.specs.Runs.{text_behind, ending_behind, is_fine}
-use Rattle.station_law.specs.Runs.{is_in_order, Course, course_by, course_behind, transcript_from}
+use Rattle.station_law.specs.Runs.{in_store, is_in_order, Course, course_by, course_behind}
+use Rattle.station_law.specs.Runs.{transcript_from}
 use Rattle.station_law.specs.Runs.{ending, in_order, all_fine, after, handed_after, course_after}
 use Rattle.station_law.specs.Runs.{ending_of, IsFound, Headline}
 
 -- each line brings its facts
-abbrev pub IsLawful : {L : Type 0} → (State → L → Answer) → Type 0
-IsLawful {L} step = (state : State) (line : L) → IsSound state → Keeps state (step state line)
+abbrev pub IsLawful : {L : Type 0} → (State → L → Answer State) → Type 0
+IsLawful {L} step =
+    (state : State) (line : L) → IsSound state.store
+    → Keeps state.store (in_store (step state line))
 
 -- ---- archives that grow
 
@@ -108,7 +112,7 @@ ending_on WrongState good fine = refl
 
 -- ---- how a script ends
 
-module _ {L : Type 0} (step : State → L → Answer) where
+module _ {L : Type 0} (step : State → L → Answer State) where
   pub ending_is : (state : State) (lines : List L)
       → ending step state lines ≡ ending_of (in_order step state lines) (all_fine step state lines)
   ending_is state [] = refl
@@ -119,42 +123,42 @@ module _ {L : Type 0} (step : State → L → Answer) where
 
 -- ---- the world behind any lines
 
-module _ {L : Type 0} (step : State → L → Answer) (lawful : IsLawful step) where
+module _ {L : Type 0} (step : State → L → Answer State) (lawful : IsLawful step) where
   -- what stands behind any lines
-  record Stands (before now : State) (starts : List Handed) : Type 0 where
+  record Stands (before now : Store) (starts : List Handed) : Type 0 where
     sound : IsSound now
     published : Begins before.published now.published
     right : AreRight now.published starts
 
-  stands : (state : State) (starts : List Handed) (lines : List L) → IsSound state
-      → AreRight state.published starts
-      → Stands state (after step state lines) (handed_after step state starts lines)
+  stands : (state : State) (starts : List Handed) (lines : List L) → IsSound state.store
+      → AreRight state.store.published starts
+      → Stands state.store (after step state lines).store (handed_after step state starts lines)
   stands state starts [] sound right =
-      record { sound = sound; published = all_of_it state.published; right = right }
+      record { sound = sound; published = all_of_it state.store.published; right = right }
   stands state starts (line ∷ lines) sound right =
       let one = lawful state line sound in
       let rest = stands (step state line).next (handed_by starts (step state line).said) lines
       one.sound (one.right starts right) in
       record {
         sound = rest.sound;
-        published = joined state.published (step state line).next.published
-            (after step (step state line).next lines).published
-            (grown (step state line).recovers state.published (step state line).given
-            (step state line).next.published one.moves)
+        published = joined state.store.published (step state line).next.store.published
+            (after step (step state line).next lines).store.published
+            (grown (step state line).recovers state.store.published (step state line).given
+            (step state line).next.store.published one.moves)
             rest.published;
         right = rest.right;
       }
 
-  course_stands : (state : State) (course : Course) (lines : List L) → IsSound state
-      → state.published ≡ course.found ++ course.given
-      → (after step state lines).published ≡ (course_after step state course lines).found
+  course_stands : (state : State) (course : Course) (lines : List L) → IsSound state.store
+      → state.store.published ≡ course.found ++ course.given
+      → (after step state lines).store.published ≡ (course_after step state course lines).found
       ++ (course_after step state course lines).given
   course_stands state course [] sound is = is
   course_stands state course (line ∷ lines) sound is =
       let one = lawful state line sound in
       course_stands (step state line).next (course_behind course (step state line)) lines one.sound
-      (course_on (step state line).recovers course state.published (step state line).given
-      (step state line).next.published is one.moves)
+      (course_on (step state line).recovers course state.store.published (step state line).given
+      (step state line).next.store.published is one.moves)
 
   -- ---- the text
 
@@ -181,14 +185,15 @@ module _ {L : Type 0} (step : State → L → Answer) (lawful : IsLawful step) w
 
   -- ---- the headline
 
-  pub headline : (first : State) (lines : List L) → IsSound first → Headline step first lines
+  pub headline : (first : State) (lines : List L) → IsSound first.store → Headline step first lines
   headline first lines sound = λ earlier later line are good.
       let before = after step first earlier in
       let here = stands first [] earlier sound tt in
       let one = lawful before line here.sound in
       let starts = handed_after step first [] earlier in
-      let begun : Course = record { found = first.published; given = [] } in
-      let stored = course_stands first begun earlier sound (sym (append-nil first.published)) in
+      let begun : Course = record { found = first.store.published; given = [] } in
+      let stored =
+      course_stands first begun earlier sound (sym (append-nil first.store.published)) in
       record {
         text = split 1 first earlier (line ∷ later) good;
         archive = λ some.
@@ -197,14 +202,15 @@ module _ {L : Type 0} (step : State → L → Answer) (lawful : IsLawful step) w
         right = λ some.
             let then = stands (step before line).next (handed_by starts (step before line).said)
             (take some later) one.sound (one.right starts here.right) in
-            are_right_later (step before line).next.published
-            (after step (step before line).next (take some later)).published
+            are_right_later (step before line).next.store.published
+            (after step (step before line).next (take some later)).store.published
             (handed_by starts (step before line).said) then.published
             (one.right starts here.right);
         whole = one.whole starts;
         found = λ count. found_with count (course_after step first begun earlier)
-            before.published (step before line).given stored;
+            before.store.published (step before line).given stored;
         recovered = found_by (step before line).recovers (course_after step first begun earlier)
-            before.published (step before line).given (step before line).next.published stored
+            before.store.published (step before line).given
+            (step before line).next.store.published stored
             one.moves;
       }

@@ -1,5 +1,6 @@
 -- Orders for the disk: which store they hit, and what its file holds then. This product's own.
-use Rattle.std.specs.Prelude.{ℕ, ◌-◌, Bool, nat_le, if◌then◌else◌, Option, Some, None, List, [], ◌∷◌}
+use Rattle.std.specs.Prelude.{ℕ, ◌-◌, Bool, nat_le, if◌then◌else◌, Option, Some, None, List, []}
+use Rattle.std.specs.Prelude.{◌∷◌}
 use Rattle.std.specs.Prelude.{◌++◌}
 use Rattle.archive_terms.specs.Archive.{Entry}
 use Rattle.disk_model.specs.declared.orders.Pick.{Pick}

@@ -1,18 +1,18 @@
 -- The facts of the lines that order the disk.
-use Rattle.std.proofs.Common.{◌≡◌, ℕ, ◌==◌, Bool, true, false, if◌then◌else◌, List, [], refl, sym}
+use Rattle.std.proofs.Common.{ℕ, ◌==◌, Bool, true, false, if◌then◌else◌, [], refl, sym}
 use Rattle.std.proofs.Common.{arith}
 use Rattle.std.proofs.lemmas.List.{append-nil}
 use Rattle.disk_model.specs.declared.orders.Pick.{Pick}
 use Rattle.station_law.specs.declared.order.Strike.{Strike}
 use Rattle.station_law.specs.declared.order.Strike.TheVariants.{Stop, Fail}
-use Rattle.station_law.specs.State.{State}
+use Rattle.station_law.specs.Store.{Store}
 use Rattle.station_law.specs.Answer.{is_wrong}
 use Rattle.station_law.specs.Sound.{IsSound, Keeps}
 use Rattle.station_law.specs.EntriesFacts.{leaves_all}
 use Rattle.station_law.specs.Power.{fails_now, orders, crash_line, fault_line}
 
-module _ (state : State) (sound : IsSound state) where
-  recovers : Keeps state (fails_now state)
+module _ (state : Store) (sound : IsSound state) where
+  pub recovers : Keeps state (fails_now state)
   recovers = record {
     sound = record { archive = sound.archive; settled = sound.settled };
     moves = (0, sym (append-nil state.published));

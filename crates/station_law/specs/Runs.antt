@@ -5,6 +5,7 @@ use Rattle.std.specs.Fmt.{decimal}
 use Rattle.archive_terms.specs.Archive.{Entry, IsArchive}
 use Rattle.station_law.specs.declared.step_done.StepDone.{StepDone}
 use Rattle.station_law.specs.declared.step_done.StepDone.TheVariants.{Fine, Full, WrongState}
+use Rattle.station_law.specs.Store.{Store}
 use Rattle.station_law.specs.State.{State}
 use Rattle.station_law.specs.Said.{Handed, texts, handed_by, buffers_handed, buffers_told}
 use Rattle.station_law.specs.Answer.{Answer}
@@ -49,6 +50,16 @@ abbrev pub is_in_order : StepDone → Bool
 is_in_order WrongState = false
 is_in_order _ = true
 
+-- the part of an answer that concerns what is stored
+abbrev pub in_store : Answer State → Answer Store
+in_store a = record {
+  said = a.said;
+  given = a.given;
+  recovers = a.recovers;
+  done = a.done;
+  next = a.next.store;
+}
+
 -- What was stored since the last recovery: the entries that it found, and those given to stores
 -- since then, without those that a reopen named lost.
 pub record Course : Type 0 where
@@ -61,10 +72,11 @@ abbrev pub course_by : Bool → List Entry → List Entry → Course → Course
 course_by true given published course = record { found = published; given = [] }
 course_by false given published course = record course { given = course.given ++ given }
 
-abbrev pub course_behind : Course → Answer → Course
-course_behind course answer = course_by answer.recovers answer.given answer.next.published course
+abbrev pub course_behind : Course → Answer State → Course
+course_behind course answer =
+    course_by answer.recovers answer.given answer.next.store.published course
 
-module _ {L : Type 0} (step : State → L → Answer) where
+module _ {L : Type 0} (step : State → L → Answer State) where
   -- what is written for lines from a number on
   abbrev pub transcript_from : ℕ → State → List L → List ℕ
   transcript_from number state [] = []
@@ -121,14 +133,15 @@ pub record IsFound (course : Course) (before answer_given found : List Entry) : 
 -- buffer that it tells is one that a START handed over; what is published and a front of what the
 -- line gives to stores is what a recovery may find; and what it found, where it recovers the
 -- archive.
-pub record IsAnswered {L : Type 0} (step : State → L → Answer) (first : State)
+pub record IsAnswered {L : Type 0} (step : State → L → Answer State)
+    (first : State)
     (earlier later : List L) (line : L) : Type 0 where
   pub text : transcript step first (earlier ++ line ∷ later) ≡ transcript step first earlier
       ++ transcript_from step (length earlier + 1) (after step first earlier) (line ∷ later)
   pub archive : (some : ℕ) → IsArchive
-      (after step (step (after step first earlier) line).next (take some later)).published
+      (after step (step (after step first earlier) line).next (take some later)).store.published
   pub right : (some : ℕ) → AreRight
-      (after step (step (after step first earlier) line).next (take some later)).published
+      (after step (step (after step first earlier) line).next (take some later)).store.published
       (handed_by (handed_after step first [] earlier)
       (step (after step first earlier) line).said)
   pub whole : buffers_handed (handed_by (handed_after step first [] earlier)
@@ -136,17 +149,19 @@ pub record IsAnswered {L : Type 0} (step : State → L → Answer) (first : Stat
       ≡ buffers_handed (handed_after step first [] earlier)
       + buffers_told (step (after step first earlier) line).said
   pub found : (count : ℕ)
-      → IsFound (course_after step first (record { found = first.published; given = [] }) earlier)
-      (after step first earlier).published (step (after step first earlier) line).given
-      ((after step first earlier).published
+      → IsFound (course_after step first
+      (record { found = first.store.published; given = [] }) earlier)
+      (after step first earlier).store.published (step (after step first earlier) line).given
+      ((after step first earlier).store.published
       ++ take count (step (after step first earlier) line).given)
   pub recovered : IsTrue (step (after step first earlier) line).recovers
-      → IsFound (course_after step first (record { found = first.published; given = [] }) earlier)
-      (after step first earlier).published (step (after step first earlier) line).given
-      (step (after step first earlier) line).next.published
+      → IsFound (course_after step first
+      (record { found = first.store.published; given = [] }) earlier)
+      (after step first earlier).store.published (step (after step first earlier) line).given
+      (step (after step first earlier) line).next.store.published
 
 -- so it is at each line behind others in order
-abbrev pub Headline : {L : Type 0} → (State → L → Answer) → State → List L → Type 0
+abbrev pub Headline : {L : Type 0} → (State → L → Answer State) → State → List L → Type 0
 Headline {L} step first lines =
     (earlier later : List L) (line : L) → lines ≡ earlier ++ line ∷ later
     → IsTrue (in_order step first earlier) → IsAnswered step first earlier later line

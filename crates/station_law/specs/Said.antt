@@ -1,23 +1,15 @@
 -- What a line of a script says: the lines of the transcript that it makes, and what it hands over.
 -- The text, and what each START handed over, are functions of one list, so they can't differ.
-use Rattle.std.specs.Prelude.{ℕ, ℤ, ◌==◌, if◌then◌else◌, Option, Some, List, [], ◌∷◌, ◌++◌, map}
-use Rattle.std.specs.Prelude.{length}
+use Rattle.std.specs.Prelude.{ℕ, ◌==◌, if◌then◌else◌, List, [], ◌∷◌, ◌++◌, length}
 use Rattle.std.specs.List.{flat_map, sum_by}
-use Rattle.ber_core.specs.Tree.{Tree}
-use Rattle.ber_core.specs.Spelling.{canonical}
-use Rattle.isp1_tml.specs.Message.{Content, spelling, pdu}
-use Rattle.return_pdu.specs.Items.{frame_of, absent, transfer_buffer}
-use Rattle.return_pdu.specs.Items as items
-use Rattle.archive_terms.specs.Archive.{frame}
-use Rattle.archive_terms.specs.Delivery.{Item, archived, end_of_data, Terms}
+use Rattle.archive_terms.specs.Delivery.{Terms}
+use Rattle.station_desk.specs.Told.{Told, message_octets}
 use Rattle.words.specs.Line as line
 use Rattle.words.specs.Table.{Says}
 use Rattle.drill_text.specs.Transcript.{transcript, lines, sent}
 use Rattle.drill_text.specs.Transcript as forms
-
--- a buffer as it is told: its items, each frame with its continuity
-abbrev pub Told : Type 0
-Told = List (Item × Option ℤ)
+use Rattle.station_links.specs.declared.link_line.LinkLine.{LinkLine}
+use Rattle.station_links.specs.Said as links
 
 -- a line of the transcript that hands nothing over: why an entry or a START is refused; that a store
 -- failed; that the power did; and how many entries the archive has once it is opened again
@@ -39,24 +31,13 @@ says_of crash = (forms.crash, tt)
 says_of (archive entries) = (forms.archive, entries)
 says_of refused = (forms.refused, tt)
 
--- such a line; a START begins on a connection; or an offer of a buffer was taken whole on it. The
--- desk is connection 0.
+-- such a line; what a connection says; a START begins on a connection; or an offer of a buffer was
+-- taken whole on it. The desk is connection 0.
 pub data Said : Type 0 where
   told : Notice → Said
+  linked : ℕ → LinkLine → Said
   begun : ℕ → Terms → Said
   handed : ℕ → Told → Said
-
--- an item as it is told: a frame with its fields as it was received, and its continuity; or the end
--- of data. An offline delivery has no other.
-abbrev pub item_tree : Item × Option ℤ → Tree
-item_tree (archived place (frame f), Some continuity) =
-    items.frame (frame_of f.ert f.antenna continuity f.quality f.octets)
-item_tree (end_of_data, _) = items.end_of_data
-item_tree _ = absent
-
--- the message of a buffer
-abbrev pub buffer_message : Told → Content
-buffer_message buffer = pdu (canonical (transfer_buffer (map item_tree buffer)))
 
 -- a line of the transcript, with its end
 abbrev pub line_text : Says transcript → List ℕ
@@ -69,8 +50,9 @@ sent_text connection octets = line_text (sent, (connection, octets))
 -- the text of what is said
 abbrev pub text_of : Said → List ℕ
 text_of (told notice) = line_text (says_of notice)
+text_of (linked connection says) = line_text (links.says_of connection says)
 text_of (begun connection terms) = []
-text_of (handed connection buffer) = sent_text connection (spelling (buffer_message buffer))
+text_of (handed connection buffer) = sent_text connection (message_octets buffer)
 
 abbrev pub texts : List Said → List ℕ
 texts said = flat_map text_of said
@@ -92,6 +74,7 @@ with_buffer connection buffer (last ∷ earlier) =
 -- the STARTs so far, the last one first, each with all that it has handed over
 abbrev pub handed_with : List Handed → Said → List Handed
 handed_with starts (told notice) = starts
+handed_with starts (linked connection says) = starts
 handed_with starts (begun connection terms) =
     record { connection = connection; terms = terms; buffers = [] } ∷ starts
 handed_with starts (handed connection buffer) = with_buffer connection buffer starts

@@ -7,8 +7,9 @@ use Rattle.archive_terms.specs.Archive.{Entry, IsArchive}
 use Rattle.archive_terms.specs.Delivery.{Item}
 use Rattle.archive_terms.specs.Rounds.{to_hand_over}
 use Rattle.archive_terms.specs.Continuity.{told_buffers}
-use Rattle.station_law.specs.State.{State}
-use Rattle.station_law.specs.Said.{Told, Handed, handed_by, buffers_handed, buffers_told}
+use Rattle.station_law.specs.Store.{Store}
+use Rattle.station_desk.specs.Told.{Told}
+use Rattle.station_law.specs.Said.{Handed, handed_by, buffers_handed, buffers_told}
 use Rattle.station_law.specs.Answer.{Answer}
 
 -- a list stands before another
@@ -17,7 +18,7 @@ Begins front whole = (more : List Entry) × (whole ≡ front ++ more)
 
 -- What is kept from line to line: the published entries are an archive, and the file stands for
 -- them alone.
-pub record IsSound (state : State) : Type 0 where
+pub record IsSound (state : Store) : Type 0 where
   pub archive : IsArchive state.published
   pub settled : state.unsettled ≡ []
 
@@ -50,7 +51,7 @@ AreRight archive starts = AllByRecursion (IsRight archive) starts
 -- The facts of a line, beside its text: the invariant holds behind it; the published entries only
 -- grow, or are what a recovery found; what each START has handed over so far is right; and each
 -- buffer that the line tells as handed over is a START's.
-pub record Keeps (before : State) (answer : Answer) : Type 0 where
+pub record Keeps (before : Store) (answer : Answer Store) : Type 0 where
   pub sound : IsSound answer.next
   pub moves : Moves answer.recovers before.published answer.given answer.next.published
   pub right : (starts : List Handed) → AreRight before.published starts

@@ -1,5 +1,5 @@
 -- Stores under orders: what the disk is told, and what the archive is then.
-use Rattle.std.specs.Prelude.{◌≡◌, ℕ, ◌-◌, if◌then◌else◌, Option, Some, None, List, [], ◌∷◌, ◌++◌}
+use Rattle.std.specs.Prelude.{◌≡◌, ℕ, ◌-◌, if◌then◌else◌, Some, None, List, [], ◌∷◌, ◌++◌}
 use Rattle.archive_terms.specs.Archive.{Entry}
 use Rattle.octet_core.specs.FailingCalls.{Calls}
 use Rattle.disk_model.specs.MemoryDisk.{DiskState, restarted, content_of}
@@ -14,7 +14,7 @@ use Rattle.station_law.specs.declared.order.Strike.{Strike}
 use Rattle.station_law.specs.declared.order.Strike.TheVariants.{Stop, Fail}
 use Rattle.station_law.specs.declared.storing.Settled.{Settled}
 use Rattle.station_law.specs.declared.storing.Settled.TheVariants.{Stored, Crashed, Failed}
-use Rattle.station_law.specs.State.{State}
+use Rattle.station_law.specs.Store.{Store}
 use Rattle.station_law.specs.Said.{Said, told, crash, fault}
 use Rattle.station_law.specs.Said as notices
 use Rattle.station_law.specs.Entries.{used, opened, stores_under}
@@ -85,7 +85,7 @@ published_by (Failed entries) published entry = with_entry published entry
 
 -- A store is over: it is told as the entry's line says, and the archive rests with what is published
 -- behind that line.
-pub record IsSettled (state : State) (entry : Entry) (archive : ArchiveState DiskState)
+pub record IsSettled (state : Store) (entry : Entry) (archive : ArchiveState DiskState)
     (settled : Settled) : Type 0 where
   pub said : said_by settled ≡ (stores_under state entry state.order).said
   pub rests : Rests archive (stores_under state entry state.order).next.published

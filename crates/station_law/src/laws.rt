@@ -1,29 +1,32 @@
 // The promises of every script, each the contract of an empty function: a caller has it by the
 // call. They follow from the facts of each line alone.
-ghost use Rattle.std.specs.Prelude.{◌≡◌, ℕ, ◌≤◌, List, ◌∷◌, map};
-ghost use Rattle.std.specs.List.{AllByRecursion};
+ghost use Rattle.std.specs.Prelude.{◌≡◌, ℕ, ◌≤◌, List, ◌∷◌, Some};
 ghost use Rattle.cds_time.specs.declared.cds.Cds.{Cds};
 ghost use Rattle.drill_text.specs.declared.script_line.ScriptLine.{ScriptLine};
-ghost use Rattle.station_law.specs.State.{State, start, moment};
-ghost use Rattle.isp1_tml.specs.Message.{IsMessage};
-ghost use Rattle.station_law.specs.Said.{Told, Handed, handed_by, buffer_message};
-ghost use Rattle.station_law.specs.Readable.{AreReadable};
-ghost use Rattle.station_law.specs.Desk.{desk, desk_buffers, told_desk, handed_at_start};
+ghost use Rattle.station_config.specs.declared.site.Site.{Site};
+ghost use Rattle.station_law.specs.Store.{Store};
+ghost use Rattle.station_desk.specs.Start.{moment, desk_buffers};
+ghost use Rattle.station_law.specs.State.{State, start};
+ghost use Rattle.station_law.specs.Said.{Handed, handed_by};
+ghost use Rattle.station_law.specs.Desk.{desk, handed_at_start};
 ghost use Rattle.station_law.specs.Sound.{items_of};
-ghost use Rattle.archive_terms.specs.Archive.{Entry, IsArchive};
+ghost use Rattle.station_law.specs.Doors.{act};
+ghost use Rattle.archive_terms.specs.Archive.{Entry};
 ghost use Rattle.station_law.specs.Runs.{Headline, ending, ending_of, in_order, all_fine};
-ghost use Rattle.station_law.specs.Lines.{step, step_text};
+ghost use Rattle.station_law.specs.Lines.{connected, step, step_text};
 ghost use Rattle.station_law.specs.LinesFacts.{Laws};
+ghost use Rattle.station_law.specs.Connections.{AreSessions};
+ghost use Rattle.station_law.specs.Shown.{HasWhatIsStored, HasOneArchive};
+ghost use Rattle.drill_text.specs.Reading.{reading};
 
 /// The headline: at each line of a script, behind others that are in order, its text stands between
 /// theirs and that of the later lines; what is published is an archive then and after any further
 /// lines, and what each START has handed over up to it is right for it; and where it recovers the
 /// archive, it finds all that was acknowledged, and of the rest what was given first.
 pub fn headline_law()
-    ensures lines { (capacity : ℕ) (lines : List ScriptLine)
-        → Headline step (start capacity) lines }
-    ensures texts { (capacity : ℕ) (lines : List (List ℕ))
-        → Headline step_text (start capacity) lines }
+    ensures lines { (site : Site) (lines : List ScriptLine) → Headline step (start site) lines }
+    ensures texts { (site : Site) (lines : List (List ℕ))
+        → Headline step_text (start site) lines }
 {
     lines_rest_on();
 }
@@ -31,7 +34,7 @@ pub fn headline_law()
 /// A START of the desk that isn't refused is the last one behind its line, with the buffers of its
 /// definition.
 pub fn a_start_hands_over()
-    ensures last { (state : State) (first last : Cds) (quality : ℕ) (starts : List Handed)
+    ensures last { (state : Store) (first last : Cds) (quality : ℕ) (starts : List Handed)
         → moment first ≤ moment last
         → handed_by starts (desk state first last quality).said
         ≡ handed_at_start state.published first last quality ∷ starts }
@@ -40,31 +43,42 @@ pub fn a_start_hands_over()
         ≡ desk_buffers entries first last quality }
 {}
 
-/// A user reads of each buffer that a START of the desk hands over just what it says, and each is a
-/// message of the transport.
-pub fn a_start_is_read()
-    ensures readable { (entries : List Entry) (first last : Cds) (quality : ℕ) → IsArchive entries
-        → AreReadable (told_desk entries first last quality) }
-    ensures messages { (told : List Told) → AreReadable told
-        → AllByRecursion IsMessage (map buffer_message told) }
+/// Each connection of a script is *Session*: what is said of it, from the line that opens it for as
+/// long as it is there, and its events of the book, are those of the rounds that the script's lines
+/// fix, each on the one book of the world. And that book has one legal history: each line goes on
+/// where the one before left it, and a recovery begins a new one.
+pub fn connections_are_sessions()
+    ensures lines { AreSessions (λ (line : ScriptLine). Some line) }
+    ensures texts { AreSessions reading }
 {
-    archive_terms::laws::cut_into_buffers();
-    archive_terms::laws::offline_buffers_hold_a_prefix();
-    ber_core::laws::canonical_spells();
-    return_pdu::laws::buffers_are_exact();
-    return_pdu::laws::end_is_plain();
-    return_pdu::laws::frames_are_plain();
-    return_pdu::laws::frames_are_short();
+    station_links::laws::runs_are_sessions();
+}
+
+/// What is published in the book behind a script is what is stored.
+pub fn the_book_has_what_is_stored()
+    ensures { HasWhatIsStored }
+{
+    lines_rest_on();
 }
 
 /// How a script ends: with a bad line exactly where one is in no right state or outside the
 /// grammar, else with an entry refused as Full exactly where one was, else with all done.
 pub fn ending_law()
-    ensures { (capacity : ℕ) (lines : List (List ℕ)) →
-        ending step_text (start capacity) lines
-        ≡ ending_of (in_order step_text (start capacity) lines)
-        (all_fine step_text (start capacity) lines) }
+    ensures { (site : Site) (lines : List (List ℕ)) →
+        ending step_text (start site) lines
+        ≡ ending_of (in_order step_text (start site) lines)
+        (all_fine step_text (start site) lines) }
 {}
+
+/// Each line leaves the book with what is stored, an archive, where it had it before.
+pub(crate) fn one_archive_stays()
+    ensures lines { (state : State) (line : ScriptLine) → HasOneArchive state
+        → HasOneArchive (step state line).next }
+    ensures doors { (state : State) (line : ScriptLine) → HasOneArchive state
+        → HasOneArchive (connected state (act state.doors state.clock line)).next }
+{
+    lines_rest_on();
+}
 
 // The laws of the archive and of deliveries.
 fn lines_rest_on()

@@ -6,17 +6,25 @@
 // line (`specs/Sound.antt`) the promises of whole scripts follow once, for any lines
 // (`specs/Once.antt`).
 //
-// An entry's line costs one batch of the archive, a START's one pass over the published entries. An
-// entry is shared by the archive and the published ones, and its octets aren't copied for that.
+// In code a world is a `Recorder`, which stores, and `Doors`, a book with the connections over it.
+// Which world of the definitions it stands for is a relation (`specs/Standing.antt`).
+//
+// An entry's line costs one batch of the archive, a START's one pass over the published entries, and
+// a connection's its rounds. An entry is shared by the archive, the published ones and the book, and
+// its octets aren't copied for that.
 #![tactic(auto)]
 
 mod desk;
+mod doors;
 pub mod laws;
 mod moment;
 mod order;
 mod outcome;
 mod put;
+mod recorder;
 mod refusal;
+mod said;
+mod shared;
 mod step_done;
 mod stop;
 mod storing;

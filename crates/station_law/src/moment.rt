@@ -1,6 +1,6 @@
 // The moments of a script's times.
 ghost use Rattle.std.specs.Prelude.{◌≡◌, ◌<◌};
-ghost use Rattle.station_law.specs.State.{moment};
+ghost use Rattle.station_desk.specs.Start.{moment};
 
 use cds_time::{Cds, MOMENT_END};
 

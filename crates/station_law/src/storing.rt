@@ -2,18 +2,19 @@
 // and the archive is opened again. After want of memory the file holds what was stored or not.
 ghost use Rattle.std.specs.Prelude.{◌≡◌, ◌<◌, ℕ, true, false, List, [], ◌∷◌, Option, Some, IfOk};
 ghost use Rattle.std.specs.Prelude.{OnOk, OnErr};
-ghost use Rattle.std.specs.Prelude.{IfSome, IsTrue, if◌then◌else◌, length};
+ghost use Rattle.std.specs.Prelude.{IfSome, IsTrue, if◌then◌else◌, length, nat_lt};
 ghost use Rattle.archive_terms.specs.Archive.{Entry, is_valid};
 ghost use Rattle.archive_terms.specs.Archive as terms;
 ghost use Rattle.record_form.specs.Entry.{entry_of};
 ghost use Rattle.gate_journal.specs.Kept.{holds_batch};
-ghost use Rattle.station_law.specs.State.{State};
+ghost use Rattle.station_law.specs.Store.{Store};
 ghost use Rattle.station_law.specs.Orders.{is_hit};
 ghost use Rattle.frame_archive.specs.declared.fault.OfferFault.TheVariants as OfferFault;
 ghost use Rattle.station_law.specs.Held.{Rests, Waits, Takes, HoldsAllOrNone};
 ghost use Rattle.station_law.specs.Storing.{IsDown, HasFailed, IsStruck, IsSettled, with_entry};
 
 use crate::order::{Order, Strike, no_orders, stop_at_once};
+use crate::shared::share;
 use disk_model::{MemoryDisk, Pick};
 use frame_archive::{ArchiveFault, FrameArchive, OfferFault};
 use octet_core::Memory;
@@ -42,7 +43,7 @@ pub fn store_under(
     requires to_come { IfSome order (λ o. 0 < o.calls) }
     requires waits { (published : List terms.Entry)
         × Waits archive.old published (entry_of entry.now) }
-    ensures settled { IfOk result (λ settled. (state : State) → state.order ≡ order
+    ensures settled { IfOk result (λ settled. (state : Store) → state.order ≡ order
         → Waits archive.old state.published (entry_of entry.now)
         → IsSettled state (entry_of entry.now) archive.new settled) }
     ensures images { OnErr result ((published : List terms.Entry)
@@ -73,7 +74,7 @@ fn store_struck(
     requires hit { IsTrue (is_hit order) }
     requires waits { (published : List terms.Entry)
         × Waits archive.old published (entry_of entry.now) }
-    ensures settled { IfOk result (λ settled. (state : State) → state.order ≡ Some order
+    ensures settled { IfOk result (λ settled. (state : Store) → state.order ≡ Some order
         → Waits archive.old state.published (entry_of entry.now)
         → IsSettled state (entry_of entry.now) archive.new settled) }
     ensures images { OnErr result ((published : List terms.Entry)
@@ -135,11 +136,18 @@ fn strike(archive: &mut FrameArchive<MemoryDisk>, alloc: Global, order: Order) -
         Err(ArchiveFault::DiskFault) => {}
         Err(_) => return Err(Memory),
     }
-    if archive.disk().memory_refused() {
+    if wants_memory(archive) {
         return Err(Memory);
     }
     archive.steer(no_orders(alloc));
     Ok(())
+}
+
+// Whether memory was refused to an archive's disk.
+fn wants_memory(archive: &FrameArchive<MemoryDisk>) -> bool
+    ensures { result ≡ archive.now.disk.memory_refused }
+{
+    archive.disk().memory_refused()
 }
 
 // The power fails between two calls of the disk.
@@ -203,7 +211,14 @@ fn reopen(archive: &mut FrameArchive<MemoryDisk>) -> Result<(u64, bool), Memory>
     let Ok(landing) = archive.reopen() else {
         return Err(Memory);
     };
-    Ok((archive.count(), landing.lost.len() > 0))
+    Ok((archive.count(), are_any(&landing.lost)))
+}
+
+// Whether there are entries.
+fn are_any(entries: &Entries) -> bool
+    ensures { result ≡ nat_lt 0 (length entries.now) }
+{
+    entries.len() > 0
 }
 
 // Offers an entry that was lost and stores it once more.
@@ -262,11 +277,4 @@ fn settle(archive: &mut FrameArchive<MemoryDisk>, again: Entry) -> Result<u64, M
     }
     store_again(archive, again)?;
     Ok(opened.0)
-}
-
-// A second holder of an entry's octets.
-pub fn share(entry: &Entry) -> Result<Entry, Memory>
-    ensures { IfOk result (λ second. second ≡ entry.now) }
-{
-    Ok(entry.clone()?)
 }

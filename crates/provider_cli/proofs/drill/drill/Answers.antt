@@ -1,6 +1,7 @@
 use Rattle.provider_cli.specs.Outside.{Outside, showing}
 use Rattle.provider_cli.proofs.Promises.{delivered, read_of, streamed, stays_right, stays_told}
 use Rattle.provider_cli.proofs.Promises.{each_start, each_sent, has_headline, completes}
+use Rattle.provider_cli.proofs.Sessions.{each_connection, is_session, has_history}
 use Rattle.provider_cli.proofs.drill.drill.Goals as goal
 
 pub returns : goal.returns
@@ -27,4 +28,6 @@ returns g c =
       read = each_start before.left _ (read_of laws);
       stays_right = each_start before.left _ (stays_right laws);
       stays_told = each_start before.left _ (stays_told laws);
+      sessions = each_connection before.left _ (is_session laws);
+      history = has_history laws before.left;
     }

@@ -1,11 +1,11 @@
-use Rattle.std.proofs.Common.{◌*◌, ◌≤◌}
+use Rattle.std.proofs.Common.{◌-◌, length}
+use Rattle.station_desk.specs.Start.{told_desk}
 use Rattle.rehearsal.proofs.Started.{HasCounted}
 use Rattle.rehearsal.proofs.start.count_start.Given as goal
 
-abbrev pub invariant-loop-round : goal.invariant-loop-round
-invariant-loop-round l = record {
-  counted : HasCounted l.start l.stop l.quality l.archive l._round l.delivery l.tally;
-  frames : l.tally.frames ≤ 2 * l._round;
-  buffers : l.tally.buffers ≤ l._round;
-  ends : l.tally.ends ≤ 2 * l._round;
-}
+abbrev pub invariant-loop-buffers : goal.invariant-loop-buffers
+invariant-loop-buffers l =
+    HasCounted (told_desk l.archive l.start l.stop l.quality) l.buffers l.tally
+
+abbrev pub decreases-loop-buffers : goal.decreases-loop-buffers
+decreases-loop-buffers l = length l.buffers.buffers - l.buffers.count

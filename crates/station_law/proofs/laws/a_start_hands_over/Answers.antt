@@ -1,5 +1,5 @@
 use Rattle.std.proofs.Common.{None}
-use Rattle.station_law.specs.Desk.{desk_buffers}
+use Rattle.station_desk.specs.Start.{desk_buffers}
 use Rattle.station_law.specs.DeskFacts.{hands_over, items_told}
 use Rattle.station_law.proofs.laws.a_start_hands_over.Goals as goal
 

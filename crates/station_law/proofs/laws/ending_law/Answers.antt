@@ -4,4 +4,4 @@ use Rattle.station_law.specs.Once.{ending_is}
 use Rattle.station_law.proofs.laws.ending_law.Goals as goal
 
 pub returns : goal.returns
-returns c = λ capacity lines. ending_is step_text (start capacity) lines
+returns c = λ site lines. ending_is step_text (start site) lines

@@ -7,8 +7,8 @@ use Rattle.station_law.proofs.laws.headline_law.Goals as goal
 
 pub returns : goal.returns
 returns c = record {
-  lines = λ capacity lines. headline step (facts c.lines_rest_on.ensures) (start capacity) lines
+  lines = λ site lines. headline step (facts c.lines_rest_on.ensures) (start site) lines
       (record { archive = refl; settled = refl });
-  texts = λ capacity lines. headline step_text (facts_text c.lines_rest_on.ensures)
-      (start capacity) lines (record { archive = refl; settled = refl });
+  texts = λ site lines. headline step_text (facts_text c.lines_rest_on.ensures)
+      (start site) lines (record { archive = refl; settled = refl });
 }

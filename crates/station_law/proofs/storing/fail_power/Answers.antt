@@ -1,4 +1,4 @@
-use Rattle.std.proofs.Common.{◌≡◌, ◌∙◌, ap, subst, sym}
+use Rattle.std.proofs.Common.{◌∙◌, ap}
 use Rattle.disk_model.specs.MemoryDisk.{steered}
 use Rattle.disk_model.specs.declared.orders.Orders.{Orders}
 use Rattle.station_law.proofs.Striking.{down_now, images_told}

@@ -1,4 +1,4 @@
-use Rattle.std.proofs.Common.{◌≡◌, ◌∙◌, ℕ, nat_lt, true, false, Bool, subst}
+use Rattle.std.proofs.Common.{◌∙◌, sym}
 use Rattle.station_law.proofs.Reopening.{failed_images, count_there, kept_all, lost_all}
 use Rattle.station_law.proofs.storing.reopen.Goals as goal
 
@@ -24,7 +24,7 @@ returns-clause-kept c = λ none calls published one failed.
     f.0 c.in-Ok.landing.landed c.in-Ok.landing.lost one failed f.1 f.2 f.3
     c.in-Ok.ensures.landed c.in-Ok.ensures.lost c.in-Ok.ensures.reopened
     (c.in-Ok.ensures.acknowledged published failed.acknowledges) c.in-Ok.ensures.calls
-    (subst (λ (n : ℕ). nat_lt 0 n ≡ false) c.len.ensures none)
+    (sym c.are_any.ensures ∙ none)
 
 pub returns-clause-lost : goal.returns-clause-lost
 returns-clause-lost c = λ some calls published one failed.
@@ -34,4 +34,4 @@ returns-clause-lost c = λ some calls published one failed.
     f.0 c.in-Ok.landing.landed c.in-Ok.landing.lost one failed f.1 f.2 f.3
     c.in-Ok.ensures.landed c.in-Ok.ensures.lost c.in-Ok.ensures.reopened
     (c.in-Ok.ensures.acknowledged published failed.acknowledges) c.in-Ok.ensures.calls
-    (subst (λ (n : ℕ). nat_lt 0 n ≡ true) c.len.ensures some)
+    (sym c.are_any.ensures ∙ some)

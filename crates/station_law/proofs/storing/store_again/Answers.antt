@@ -1,4 +1,4 @@
-use Rattle.std.proofs.Common.{◌≡◌, ◌∙◌, Option, [], ◌∷◌, subst}
+use Rattle.std.proofs.Common.{◌∙◌, Option, [], ◌∷◌, subst}
 use Rattle.record_form.specs.Entry.{entry_of}
 use Rattle.disk_model.specs.Calls.{follows_if_ok}
 use Rattle.frame_archive.specs.declared.fault.OfferFault.{OfferFault}

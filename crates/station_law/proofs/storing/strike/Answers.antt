@@ -1,10 +1,7 @@
-use Rattle.std.proofs.Common.{◌≡◌, ◌∙◌, ap, subst, rules, [], ◌∷◌, List}
-use Rattle.archive_terms.specs.Archive.{Entry}
+use Rattle.std.proofs.Common.{◌∙◌, ap, rules, [], ◌∷◌}
 use Rattle.disk_model.specs.declared.orders.Orders.{Orders}
 use Rattle.disk_model.specs.MemoryDisk.{steered}
-use Rattle.gate_journal.specs.Kept.{appending}
-use Rattle.station_law.specs.Storing.{orders_by}
-use Rattle.station_law.proofs.Held.{none_stored, store_images}
+use Rattle.station_law.proofs.Held.{none_stored}
 use Rattle.station_law.proofs.Striking.{Struck, never_made, struck_by, told_as, told_still}
 use Rattle.station_law.proofs.Striking.{told_images, images_told, failed_there}
 use Rattle.station_law.proofs.storing.strike.Goals as goal
@@ -41,8 +38,8 @@ returns-in-Err c = record {
   capacity = search rules;
 }
 
-pub returns-then-memory_refused-clause-images : goal.returns-then-memory_refused-clause-images
-returns-then-memory_refused-clause-images c = λ published one waits.
+pub returns-then-wants_memory-clause-images : goal.returns-then-wants_memory-clause-images
+returns-then-wants_memory-clause-images c = λ published one waits.
     told_images c.args.archive.now c.steer.new.self c.store.new.self c.in_ok-orders.orders published
     one waits c.steer.ensures.steered (λ fresh. c.store.ensures.any_moment fresh published)
 

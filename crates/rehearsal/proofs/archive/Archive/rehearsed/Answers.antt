@@ -1,7 +1,7 @@
-use Rattle.std.proofs.Common.{◌≡◌, ◌∙◌, ◌++◌, ◌∷◌, [], ap, sym, arith}
+use Rattle.std.proofs.Common.{◌∙◌, ◌++◌, ◌∷◌, [], ap, sym, arith}
 use Rattle.record_form.specs.Entry.{entry_of}
 use Rattle.rehearsal.specs.Frames.{frames}
-use Rattle.rehearsal.proofs.Archives.{frame_valid, frames-more, seal_valid}
+use Rattle.rehearsal.proofs.Archives.{frame_valid, frames-more}
 use Rattle.rehearsal.proofs.archive.Archive.rehearsed.Goals as goal
 
 pub store-requires : goal.store-requires

@@ -1,0 +1,7 @@
+pub mod Each
+pub mod Readable
+pub mod Rounds
+pub mod NextLook
+pub mod Spelled
+pub mod Advancing
+pub mod Saying

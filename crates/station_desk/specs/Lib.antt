@@ -1,0 +1,4 @@
+pub mod Told
+pub mod Start
+pub mod Readable
+pub mod Cursor

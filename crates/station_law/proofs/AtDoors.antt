@@ -1,0 +1,274 @@
+-- What is at each door once one of them changes.
+use Rattle.std.proofs.Common.{◌≡◌, ℕ, zero, suc, true, false, Option, Some, None, List, []}
+use Rattle.std.proofs.Common.{◌∷◌, length, ◌<◌, ◌≤◌, get_or, replicate, slice_get, set, refl, sym}
+use Rattle.std.proofs.Common.{ap, subst, ◌∙◌, arith}
+use Rattle.std.proofs.lemmas.Option.{slice_get_past, slice_get_read}
+use Rattle.std.specs.Prelude.{vec_items}
+use Rattle.station_config.specs.declared.site.Site.{Site}
+use Rattle.station_book.specs.State as books
+use Rattle.station_book.specs.History.{replay}
+use Rattle.station_links.specs.Connected.{Connected, opened}
+use Rattle.station_links.specs.Lives as links
+use Rattle.station_law.specs.declared.said.SaidAt.{SaidAt}
+use Rattle.drill_text.specs.declared.script_line.ScriptLine.{ScriptLine}
+use Rattle.drill_text.specs.declared.script_line.ScriptLine.TheVariants.{Open}
+use Rattle.station_links.specs.Run.{Order, order_in, obeyed}
+use Rattle.station_law.specs.declared.doors.Turns.{Turns}
+use Rattle.station_law.specs.Doors.{Doors, Acted, Act, opens, rounds_of, ordered, act_of, act}
+use Rattle.station_law.specs.Doors.{Ran, acted_by}
+use Rattle.station_law.specs.Doors.{acted, acted_on}
+use Rattle.station_law.specs.Standing.{DoorsSeen, IsOpen, Match, IsThere, AreDoors, AreLeft}
+use Rattle.station_law.specs.Standing.{there, is_free, IsActed, IsAsked, IsOrdered, IsObeyed}
+use Rattle.station_law.specs.Standing.{HasGone, HasRan, HasActed}
+
+-- ---- lists whose elements match at each place
+
+module _ {A B : Type 0} where
+  abbrev AllMatch : (ℕ → A → B → Type 0) → List A → List B → Type 0
+  AllMatch T xs ys = (k : ℕ) → Match (T k) (slice_get xs k) (slice_get ys k)
+
+  pub match_set : (T : ℕ → A → B → Type 0) (xs : List A) (ys : List B) (c : ℕ) (a : A) (b : B)
+      → AllMatch T xs ys → T c a b → AllMatch T (set xs c a) (set ys c b)
+  match_set T [] [] c a b all new k = tt
+  match_set T [] (y ∷ ys) c a b all new k = absurd (all zero)
+  match_set T (x ∷ xs) [] c a b all new k = absurd (all zero)
+  match_set T (x ∷ xs) (y ∷ ys) zero a b all new zero = new
+  match_set T (x ∷ xs) (y ∷ ys) zero a b all new (suc k) = all (suc k)
+  match_set T (x ∷ xs) (y ∷ ys) (suc c) a b all new zero = all zero
+  match_set T (x ∷ xs) (y ∷ ys) (suc c) a b all new (suc k) =
+      match_set (λ n. T (suc n)) xs ys c a b (λ n. all (suc n)) new k
+
+-- an element that is set twice is xs it was set last
+pub set_twice : {A : Type 0} → (xs : List A) (c : ℕ) (a b : A) → set (set xs c a) c b ≡ set xs c b
+set_twice [] c a b = refl
+set_twice (x ∷ xs) zero a b = refl
+set_twice (x ∷ xs) (suc c) a b = ap (λ (rest : List _). x ∷ rest) (set_twice xs c a b)
+
+-- nothing is set past the end
+pub set_past : {A : Type 0} → (xs : List A) (c : ℕ) (a : A) → length xs ≤ c → set xs c a ≡ xs
+set_past [] c a past = refl
+set_past (x ∷ xs) zero a past = absurd (omega arith)
+set_past (x ∷ xs) (suc c) a past =
+    ap (λ (rest : List _). x ∷ rest) (set_past xs c a (omega arith))
+
+-- where nothing is at a place, nothing changes if it is emptied
+pub emptied : {A : Type 0} → (xs : List (Option A)) (c : ℕ) → there (slice_get xs c) ≡ None
+    → set xs c None ≡ xs
+emptied [] c none = refl
+emptied (None ∷ xs) zero none = refl
+emptied (Some a ∷ xs) zero none = absurd cc
+emptied (x ∷ xs) (suc c) none = ap (λ (rest : List _). x ∷ rest) (emptied xs c none)
+
+-- ---- what matches at one place
+
+module _ {A B : Type 0} (T : A → B → Type 0) where
+  pub both_free : (a : Option (Option A)) (b : Option (Option B)) → Match (Match T) a b
+      → is_free a ≡ is_free b
+  both_free None None matched = refl
+  both_free None (Some b) matched = absurd matched
+  both_free (Some a) None matched = absurd matched
+  both_free (Some None) (Some None) matched = refl
+  both_free (Some None) (Some (Some b)) matched = absurd matched
+  both_free (Some (Some a)) (Some None) matched = absurd matched
+  both_free (Some (Some a)) (Some (Some b)) matched = refl
+
+-- nobody is at any door
+pub nobody : {A B : Type 0} → (T : ℕ → A → B → Type 0) (n : ℕ) (k : ℕ)
+    → Match (Match (T k)) (slice_get (replicate n None) k) (slice_get (replicate n None) k)
+nobody T zero k = tt
+nobody T (suc n) zero = tt
+nobody T (suc n) (suc k) = nobody (λ i. T (suc i)) n k
+
+-- ---- a door is opened
+
+free_is : {X : Type 0} → (o : Option (Option X)) → is_free o ≡ true → o ≡ Some None
+free_is None free = absurd cc
+free_is (Some None) free = refl
+free_is (Some (Some x)) free = absurd cc
+
+module _ (seen : DoorsSeen) (d : Doors) (c reading : ℕ) (are : AreDoors seen d) where
+  same_free : is_free (slice_get seen.connections c) ≡ is_free (slice_get d.connections c)
+  same_free = both_free (IsOpen d.site c) (slice_get seen.connections c)
+      (slice_get d.connections c) (are.at c)
+
+  pub opened_at : (v : links.Seen) (said : SaidAt) → is_free (slice_get seen.connections c) ≡ true
+      → IsOpen d.site c v (opened c reading) → said.c ≡ c → vec_items said.lines ≡ []
+      → IsActed (Some said) d (opens d reading c (slice_get d.connections c))
+      (record seen { connections = set seen.connections c (Some v) })
+  opened_at v said free open_so c_is none =
+      let slot : slice_get d.connections c ≡ Some None =
+      free_is (slice_get d.connections c) (sym same_free ∙ free) in
+      subst (λ (o : Option (Option Connected)). IsActed (Some said) d (opens d reading c o)
+      (record seen { connections = set seen.connections c (Some v) })) (sym slot)
+      (record {
+        c_is = c_is;
+        says = none;
+        doors = record {
+          site = are.site;
+          book = are.book;
+          at = match_set (λ k. IsThere d.site k) seen.connections d.connections c (Some v)
+              (Some (opened c reading)) are.at open_so;
+        };
+      })
+
+  not_open : (o : Option (Option Connected)) → is_free o ≡ false → opens d reading c o ≡ None
+  not_open None free = refl
+  not_open (Some None) free = absurd cc
+  not_open (Some (Some l)) free = refl
+
+  pub not_opened : is_free (slice_get seen.connections c) ≡ false
+      → IsActed None d (opens d reading c (slice_get d.connections c)) seen
+  not_opened free =
+      subst (λ (a : Option Acted). IsActed None d a seen)
+      (sym (not_open (slice_get d.connections c) (sym same_free ∙ free))) (refl, are)
+
+-- ---- a connection is taken out of its door, and put back
+
+pub taken_out : (seen : DoorsSeen) (d : Doors) (c : ℕ) → AreDoors seen d
+    → AreLeft (record seen { connections = set seen.connections c None }) d c
+taken_out seen d c are = record {
+  site = are.site;
+  book = are.book;
+  puts = λ v l stands.
+      subst (λ (vs : List (Option links.Seen)). (k : ℕ)
+      → Match (IsThere d.site k) (slice_get vs k) (slice_get (set d.connections c l) k))
+      (sym (set_twice seen.connections c None v))
+      (match_set (λ k. IsThere d.site k) seen.connections d.connections c v l are.at stands);
+}
+
+-- a connection that was taken out is put back, as it is then, or isn't
+pub put_back : (left new : DoorsSeen) (d : Doors) (c : ℕ) (ran : Ran) (v : Option links.Seen)
+    (book : books.State) (said : SaidAt) → AreLeft left d c
+    → HasRan d.site c ran left.book book (vec_items said.lines) v → said.c ≡ c
+    → new ≡ record left { book = book; connections = set left.connections c v }
+    → HasActed said d (acted_by d c ran) new
+put_back left new d c ran v book said are ran_so c_is new_is =
+    subst (λ (x : DoorsSeen). HasActed said d (acted_by d c ran) x) (sym new_is) (record {
+      c_is = c_is;
+      says = ran_so.says;
+      doors = record {
+        site = are.site;
+        book = ran_so.book_is ∙ ap (λ (b : books.State). replay b ran.events) are.book;
+        at = are.puts v ran.left ran_so.leaves;
+      };
+    })
+
+-- so it is with the rounds of the connection that was taken out
+pub put_ran : (left new : DoorsSeen) (d : Doors) (c reading n : ℕ) (l : Connected)
+    (v : Option links.Seen) (book : books.State) (said : SaidAt) → AreLeft left d c
+    → HasRan left.site c (rounds_of left.site c reading n left.book (Some l)) left.book book
+    (vec_items said.lines) v → said.c ≡ c
+    → new ≡ record left { book = book; connections = set left.connections c v }
+    → HasActed said d (acted_by d c (rounds_of d.site c reading n d.book (Some l))) new
+put_ran left new d c reading n l v book said are ran_so c_is new_is =
+    put_back left new d c (rounds_of d.site c reading n d.book (Some l)) v book said are
+    (subst (λ (b : books.State). HasRan d.site c (rounds_of d.site c reading n b (Some l)) left.book
+    book (vec_items said.lines) v) are.book
+    (subst (λ (s : Site). HasRan s c (rounds_of s c reading n left.book (Some l)) left.book book
+    (vec_items said.lines) v) are.site ran_so)) c_is new_is
+
+-- nobody was there
+module _ (seen : DoorsSeen) (d : Doors) (c : ℕ) (are : AreDoors seen d)
+    (none : there (slice_get seen.connections c) ≡ None) where
+  pub as_before : AreDoors (record seen { connections = set seen.connections c None }) d
+  as_before =
+      subst (λ (vs : List (Option links.Seen)). AreDoors (record seen { connections = vs }) d)
+      (sym (emptied seen.connections c none))
+      (record { site = are.site; book = are.book; at = are.at })
+
+-- somebody was
+pub record IsOut (site : Site) (c : ℕ) (v : links.Seen) (at : Option (Option Connected))
+    : Type 0 where
+  pub l : Connected
+  pub so : at ≡ Some (Some l)
+  pub open_so : IsOpen site c v l
+
+by_slot : (site : Site) (c : ℕ) (v : links.Seen) (seen : Option (Option links.Seen))
+    (at : Option (Option Connected)) → Match (IsThere site c) seen at → there seen ≡ Some v
+    → IsOut site c v at
+by_slot site c v None at matched is = absurd cc
+by_slot site c v (Some None) at matched is = absurd cc
+by_slot site c v (Some (Some w)) None matched is = absurd matched
+by_slot site c v (Some (Some w)) (Some None) matched is = absurd matched
+by_slot site c v (Some (Some w)) (Some (Some l)) matched is =
+    let same : w ≡ v = cc in
+    record {
+      l = l;
+      so = refl;
+      open_so = subst (λ (x : links.Seen). IsOpen site c x l) same matched;
+    }
+
+pub is_out : (seen : DoorsSeen) (d : Doors) (c : ℕ) (v : links.Seen) → AreDoors seen d
+    → Some v ≡ there (slice_get seen.connections c)
+    → IsOut d.site c v (slice_get d.connections c)
+is_out seen d c v are is =
+    by_slot d.site c v (slice_get seen.connections c) (slice_get d.connections c) (are.at c)
+    (sym is)
+
+-- ---- a line of a connection
+
+-- what comes or is ordered comes to the connection that it stands for
+ordered_open : (site : Site) (c : ℕ) (v w : links.Seen) (l : Connected) (order : Option Order)
+    → IsOpen site c v l → IsOrdered v w order → IsOpen site c w (ordered order l)
+ordered_open site c v w l None open_so is =
+    subst (λ (x : links.Seen). IsOpen site c x l) (sym is) open_so
+ordered_open site c v w l (Some o) open_so is =
+    subst (λ (x : links.Seen). IsOpen site c x (obeyed o l)) (sym is) (record {
+      entered = open_so.entered;
+      lives = record {
+        c_is = open_so.lives.c_is;
+        steering = ap (order_in o) open_so.lives.steering;
+        calls = open_so.lives.calls;
+        events = open_so.lives.events;
+        stands = open_so.lives.stands;
+        state = open_so.lives.state;
+        here = open_so.lives.here;
+      };
+    })
+
+-- where a line asks something of a connection that is there, its rounds are what the line does
+pub goes : (seen left new : DoorsSeen) (d : Doors) (reading : ℕ) (turns : Turns)
+    (asks : Option Act) (v w : links.Seen) (said : Option SaidAt) → AreDoors seen d
+    → Match IsAsked (Some turns) asks → Some v ≡ there (slice_get seen.connections turns.c)
+    → left ≡ record seen { connections = set seen.connections turns.c None }
+    → IsObeyed v w asks
+    → ((e : Doors) (l : Connected) → AreLeft left e turns.c → IsOpen e.site turns.c w l
+    → HasGone said e turns.c
+    (rounds_of e.site turns.c reading turns.rounds e.book (Some l)) new)
+    → IsActed said d (acted d reading asks) new
+goes seen left new d reading turns None v w said are asked taken left_is obeyed_so rounds =
+    absurd asked
+goes seen left new d reading turns (Some a) v w said are asked taken left_is obeyed_so rounds =
+    let out = is_out seen d turns.c v are taken in
+    let l = ordered a.order out.l in
+    let gone : HasGone said d turns.c
+    (rounds_of d.site turns.c reading turns.rounds d.book (Some l)) new =
+    rounds d l (subst (λ (x : DoorsSeen). AreLeft x d turns.c) (sym left_is)
+    (taken_out seen d turns.c are))
+    (ordered_open d.site turns.c v w out.l a.order out.open_so obeyed_so) in
+    let here : HasGone said d a.c (rounds_of d.site a.c reading a.rounds d.book (Some l)) new =
+    subst (λ (n : ℕ). HasGone said d a.c (rounds_of d.site a.c reading n d.book (Some l)) new)
+    asked.1
+    (subst (λ (c : ℕ). HasGone said d c (rounds_of d.site c reading turns.rounds d.book (Some l))
+    new) asked.0 gone) in
+    let slot : slice_get d.connections a.c ≡ Some (Some out.l) =
+    subst (λ (c : ℕ). slice_get d.connections c ≡ Some (Some out.l)) asked.0 out.so in
+    subst (λ (o : Option (Option Connected)). IsActed said d (acted_on d reading a o) new)
+    (sym slot) here
+
+-- a line that opens no connection
+pub no_opening : (d : Doors) (reading : ℕ) (line : ScriptLine) → ((c : ℕ) → line ≡ Open c → ⊥)
+    → acted d reading (act_of line) ≡ act d reading line
+no_opening d reading (Open c) other = absurd (other c refl)
+no_opening d reading line other = refl
+
+-- ---- a door by its number
+
+pub none_past : {X : Type 0} → (xs : List (Option X)) (c : ℕ) → length xs ≤ c
+    → None ≡ there (slice_get xs c)
+none_past xs c past = sym (ap (λ (o : Option (Option _)). there o) (slice_get_past xs c past))
+
+pub there_at : {X : Type 0} → (xs : List (Option X)) (c : ℕ) (x : Option X) → c < length xs
+    → x ≡ get_or xs c x → x ≡ there (slice_get xs c)
+there_at xs c x within is =
+    sym (ap (λ (o : Option (Option _)). there o) (slice_get_read xs (length xs) c x refl within is))

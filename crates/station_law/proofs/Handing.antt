@@ -1,0 +1,65 @@
+-- The text of the buffers that a START of the desk is still to hand over.
+use Rattle.std.proofs.Common.{◌≡◌, ℕ, ◌+◌, ◌-◌, ◌<◌, ◌≤◌, true, false, cond, nat_lt, List, []}
+use Rattle.std.proofs.Common.{◌∷◌, ◌++◌, length, map, drop, get_or, Option, Result, Ok, Err, refl}
+use Rattle.std.proofs.Common.{sym, ap, ◌∙◌, arith}
+use Rattle.std.proofs.lemmas.Bool.Decides.{nat_tests}
+use Rattle.std.proofs.lemmas.List.{drop_more, length-drop}
+use Rattle.std.specs.Result.{IsErrAnd}
+use Rattle.station_desk.specs.Told.{Told, message_octets}
+use Rattle.station_desk.specs.Cursor.{Cursor, at_next, current}
+use Rattle.station_law.specs.declared.stop.Stop.{Stop}
+use Rattle.station_law.specs.declared.stop.Stop.TheVariants.{Memory}
+use Rattle.station_law.specs.Output.{Wrote}
+use Rattle.station_law.specs.Said.{handed, sent_text, texts}
+use Rattle.station_law.specs.Steps.{Behind, stopped_before}
+
+-- the text of the buffers behind those that were handed over
+abbrev pub text_to_come : Cursor → List ℕ
+text_to_come cursor = texts (map (handed 0) (drop cursor.count cursor.buffers))
+
+-- where there is a next one, its text stands before the others'
+pub next_text : (old new : Cursor) → new ≡ at_next old → new.has_current ≡ true
+    → text_to_come old ≡ sent_text 0 (message_octets (current new)) ++ text_to_come new
+next_text old new next has =
+    let more : nat_lt old.count (length old.buffers) ≡ true =
+    sym (ap (λ (c : Cursor). c.has_current) next) ∙ has in
+    let below : old.count < length old.buffers = grind (arith, nat_tests) in
+    let count : new.count ≡ old.count + 1 =
+    ap (λ (c : Cursor). c.count) next ∙ rw more refl in
+    let same : new.buffers ≡ old.buffers = ap (λ (c : Cursor). c.buffers) next in
+    let place : new.count - 1 ≡ old.count = omega (arith, count) in
+    let here : current new ≡ get_or old.buffers old.count [] =
+    ap (λ (bs : List Told). get_or bs (new.count - 1) []) same
+    ∙ ap (λ (i : ℕ). get_or old.buffers i []) place in
+    ap (λ (bs : List Told). texts (map (handed 0) bs))
+    (drop_more old.buffers old.count [] below)
+    ∙ ap (λ (b : Told). sent_text 0 (message_octets b)
+    ++ texts (map (handed 0) (drop (old.count + 1) old.buffers))) (sym here)
+    ∙ ap (λ (n : ℕ). sent_text 0 (message_octets (current new))
+    ++ texts (map (handed 0) (drop n old.buffers))) (sym count)
+    ∙ ap (λ (bs : List Told). sent_text 0 (message_octets (current new))
+    ++ texts (map (handed 0) (drop new.count bs))) (sym same)
+
+none_behind : (told : List Told) (n : ℕ) → length told ≤ n → drop n told ≡ []
+none_behind told n past = by_length (drop n told) (omega (arith, length-drop n told))
+  where
+    by_length : (xs : List Told) → length xs ≡ 0 → xs ≡ []
+    by_length [] is = refl
+    by_length (x ∷ xs) is = absurd (omega (arith, is))
+
+-- where there is none, nothing is to come
+pub no_text : (old new : Cursor) → new ≡ at_next old → new.has_current ≡ false
+    → text_to_come old ≡ []
+no_text old new next has =
+    let none : nat_lt old.count (length old.buffers) ≡ false =
+    sym (ap (λ (c : Cursor). c.has_current) next) ∙ has in
+    let past : length old.buffers ≤ old.count = grind (arith, nat_tests) in
+    ap (λ (bs : List Told). texts (map (handed 0) bs)) (none_behind old.buffers old.count past)
+
+-- nothing more was written, for want of memory
+pub refused_before : {T : Type 0} (start now : Option (List ℕ)) (f g : ℕ) (whole rest : List ℕ)
+    (result : Result T Stop) → IsErrAnd result (λ stop. stop ≡ Memory)
+    → Behind start now f g whole rest → Wrote {T = T} start now f g whole result
+refused_before start now f g whole rest (Ok value) is behind = absurd is
+refused_before start now f g whole rest (Err stop) is behind =
+    rw is (stopped_before start now f g whole rest behind)

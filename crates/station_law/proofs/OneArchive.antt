@@ -1,0 +1,138 @@
+-- A world's book has what is stored, behind each call of its parts.
+use Rattle.std.proofs.Common.{◌≡◌, ℕ, Bool, true, false, Option, Some, None, IsTrue, refl, sym, ap}
+use Rattle.std.proofs.Common.{[], subst, ◌∙◌}
+use Rattle.archive_terms.specs.Archive.{is_valid}
+use Rattle.record_form.specs.Entry.{entry_of}
+use Rattle.record_form.specs.declared.entry.Entry as form
+use Rattle.drill_text.specs.declared.script_line.ScriptLine.{ScriptLine}
+use Rattle.drill_text.specs.declared.script_line.ScriptLine.TheVariants.{Offer}
+use Rattle.station_config.specs.declared.site.Site.{Site}
+use Rattle.station_book.specs.State as books
+use Rattle.station_law.specs.declared.order.Order.{Order}
+use Rattle.station_law.specs.declared.outcome.Outcome.{Outcome}
+use Rattle.station_law.specs.declared.said.SaidAt.{SaidAt}
+use Rattle.station_law.specs.Store.{Store, Recorded, blank}
+use Rattle.station_law.specs.Doors.{Doors, Acted, act, anew, doors_after}
+use Rattle.station_law.specs.State.{State}
+use Rattle.station_law.specs.Answer.{Answer}
+use Rattle.station_law.specs.Sound.{IsSound}
+use Rattle.station_law.specs.Entries.{offer}
+use Rattle.station_law.specs.Power.{fails_now}
+use Rattle.station_law.specs.Outcomes.{said_of}
+use Rattle.station_law.specs.Stopped.{IsDone}
+use Rattle.station_law.specs.Lines.{doors_by, offered, connected, step}
+use Rattle.station_law.specs.Standing.{DoorsSeen, AreDoors, IsActed, Agree, AgreeUnless}
+use Rattle.station_law.specs.Shown.{HasOneArchive}
+use Rattle.station_law.proofs.Following.{followed, offer_line_is}
+
+-- a world that runs further lines agrees
+pub agree_unless : (spent : Bool) (store : Store) (doors : DoorsSeen)
+    → (spent ≡ false → Agree store doors) → AgreeUnless spent store doors
+agree_unless true store doors agree = tt
+agree_unless false store doors agree = agree refl
+
+pub agrees : (spent : Bool) (store : Store) (doors : DoorsSeen) → spent ≡ false
+    → AgreeUnless spent store doors → Agree store doors
+agrees spent store doors ready agree = subst (λ (b : Bool). AgreeUnless b store doors) ready agree
+
+pub agree_first : (site : Site) (capacity : ℕ) (doors : DoorsSeen) → AreDoors doors (anew site [])
+    → Agree (blank capacity) doors
+agree_first site capacity doors are = record {
+  sound = record { archive = refl; settled = refl };
+  stands = anew site [];
+  are = are;
+  same = ap (λ (b : books.State). b.published) are.book;
+}
+
+-- the state that a store and doors are, at a reading of the clock
+abbrev state_of : Store → ℕ → Doors → State
+state_of store reading d = record { store = store; clock = reading; doors = d }
+
+one_of : (store : Store) (reading : ℕ) (doors : DoorsSeen) (agree : Agree store doors)
+    → HasOneArchive (state_of store reading agree.stands)
+one_of store reading doors agree = record {
+  sound = agree.sound;
+  same = ap (λ (b : books.State). b.published) (sym agree.are.book) ∙ agree.same;
+}
+
+abbrev pub OneStays : Type 0
+OneStays = (state : State) (line : ScriptLine) → HasOneArchive state
+    → HasOneArchive (step state line).next
+
+abbrev pub OneStaysAtDoors : Type 0
+OneStaysAtDoors = (state : State) (line : ScriptLine) → HasOneArchive state
+    → HasOneArchive (connected state (act state.doors state.clock line)).next
+
+pub offer_agrees : OneStays → (store : Store) (entry : form.Entry) (outcome : Outcome)
+    (old new : DoorsSeen) (recorder : Recorded) → IsTrue (is_valid (entry_of entry))
+    → Agree store old → said_of outcome ≡ (offer store (entry_of entry)).said
+    → IsDone (offer store (entry_of entry)) recorder
+    → ((d : Doors) → AreDoors old d
+    → AreDoors new (doors_by outcome (entry_of entry) recorder.state.published d))
+    → Agree recorder.state new
+offer_agrees law store entry outcome old new recorder valid agree said done follows =
+    let state : State = state_of store 0 agree.stands in
+    let one : HasOneArchive (offered state (entry_of entry)).next =
+    subst (λ (a : Answer State). HasOneArchive a.next)
+    (sym (offer_line_is state (Offer entry) entry refl valid))
+    (law state (Offer entry) (one_of store 0 old agree)) in
+    let are : AreDoors new (offered state (entry_of entry)).next.doors =
+    followed store (entry_of entry) new agree.stands outcome said
+    (subst (λ (s : Store). AreDoors new (doors_by outcome (entry_of entry) s.published
+    agree.stands)) done.state (follows agree.stands agree.are)) in
+    subst (λ (s : Store). Agree s new) (sym done.state) (record {
+      sound = one.sound;
+      stands = (offered state (entry_of entry)).next.doors;
+      are = are;
+      same = ap (λ (b : books.State). b.published) are.book ∙ one.same;
+    })
+
+pub power_agrees : (store : Store) (site : Site) (old new : DoorsSeen) (recorder : Recorded)
+    → Agree store old → IsDone (fails_now store) recorder
+    → AreDoors new (anew site recorder.state.published) → Agree recorder.state new
+power_agrees store site old new recorder agree done are = record {
+  sound = subst IsSound (sym done.state)
+      (record { archive = agree.sound.archive; settled = agree.sound.settled });
+  stands = anew site recorder.state.published;
+  are = are;
+  same = ap (λ (b : books.State). b.published) are.book;
+}
+
+pub order_agrees : (store : Store) (order : Option Order) (doors : DoorsSeen) → Agree store doors
+    → Agree (record store { order = order }) doors
+order_agrees store order doors agree = record {
+  sound = record { archive = agree.sound.archive; settled = agree.sound.settled };
+  stands = agree.stands;
+  are = agree.are;
+  same = agree.same;
+}
+
+pub acted_agrees : OneStaysAtDoors → (store : Store) (reading : ℕ) (line : ScriptLine)
+    (said : Option SaidAt) (old new : DoorsSeen) → Agree store old
+    → ((d : Doors) → AreDoors old d → IsActed said d (act d reading line) new) → Agree store new
+acted_agrees law store reading line said old new agree does =
+    by_case (act agree.stands reading line)
+    (law (state_of store reading agree.stands) line (one_of store reading old agree))
+    (does agree.stands agree.are)
+  where
+    by_said : (a : Acted) (here : Option SaidAt) → HasOneArchive
+        (connected (state_of store reading agree.stands) (Some a)).next
+        → IsActed here agree.stands (Some a) new → Agree store new
+    by_said a None one is = absurd is
+    by_said a (Some s) one is = record {
+      sound = agree.sound;
+      stands = doors_after agree.stands a;
+      are = is.doors;
+      same = ap (λ (b : books.State). b.published) is.doors.book ∙ one.same;
+    }
+
+    by_case : (a : Option Acted) → HasOneArchive
+        (connected (state_of store reading agree.stands) a).next
+        → IsActed said agree.stands a new → Agree store new
+    by_case None one is = record {
+      sound = agree.sound;
+      stands = agree.stands;
+      are = is.1;
+      same = ap (λ (b : books.State). b.published) is.1.book ∙ one.same;
+    }
+    by_case (Some a) one is = by_said a said one is

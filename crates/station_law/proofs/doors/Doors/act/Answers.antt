@@ -1,0 +1,16 @@
+use Rattle.std.proofs.Common.{subst}
+use Rattle.station_law.specs.Standing.{IsActed}
+use Rattle.station_law.proofs.AtDoors.{goes, no_opening}
+use Rattle.station_law.proofs.Results.{if_ok}
+use Rattle.station_law.proofs.doors.Doors.act.Goals as goal
+
+pub returns : goal.returns
+returns c = record {
+  acted = if_ok _ _ c.go_on.result (λ said rounds d are.
+      subst (λ acted. IsActed said d acted c.go_on.new.self)
+      (no_opening d c.args.reading c.args.line.now c.in_default.not-Open)
+      (goes c.args.self.now c.put_at.new.self c.go_on.new.self d c.args.reading
+      c.in-Some.turns _ c.in-Some-put_at.connection c.obey.new.connection said are
+      c.in-Some.ensures c.in-Some-put_at.ensures.before c.put_at.ensures.after c.in_ok-obey.ensures
+      rounds)) c.go_on.ensures;
+}

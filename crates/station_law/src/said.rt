@@ -1,0 +1,50 @@
+// What a connection's line says.
+ghost use Rattle.std.specs.Prelude.{◌≡◌, map};
+ghost use Rattle.station_law.specs.Output.{Wrote};
+ghost use Rattle.station_law.specs.Said.{texts, text_of, linked};
+
+use crate::put::put_line;
+use crate::stop::Stop;
+use octet_core::Sink;
+use station_links::LinkLine;
+use std::alloc::Global;
+
+/// What the line of a connection says, in order.
+#[derive(Debug, Drop)]
+pub struct SaidAt {
+    /// The connection's number.
+    pub c: u32,
+    /// What is said of it.
+    pub lines: Vec<LinkLine>,
+}
+
+impl SaidAt {
+    // Writes it as lines of the transcript.
+    pub fn put<O: Sink>(&self, alloc: Global, output: &mut O) -> Result<(), Stop>
+        ensures { Wrote (O.written output.old) (O.written output.new)
+            (O.faults output.old) (O.faults output.new)
+            (texts (map (linked self.now.c) self.now.lines.items)) result }
+    {
+        put_lines(alloc, self.c, &self.lines, output)
+    }
+}
+
+// Writes what is said of a connection.
+fn put_lines<O: Sink>(alloc: Global, c: u32, lines: &[LinkLine], output: &mut O) -> Result<(), Stop>
+    ensures { Wrote (O.written output.old) (O.written output.new)
+        (O.faults output.old) (O.faults output.new)
+        (texts (map (linked c) lines.now)) result }
+{
+    for line in lines {
+        put_said(alloc, c, line, output)?;
+    }
+    Ok(())
+}
+
+fn put_said<O: Sink>(alloc: Global, c: u32, line: &LinkLine, output: &mut O) -> Result<(), Stop>
+    ensures { Wrote (O.written output.old) (O.written output.new)
+        (O.faults output.old) (O.faults output.new)
+        (text_of (linked c line.now)) result }
+{
+    put_line(alloc, &line.of_connection(c), output)
+}
