@@ -14,6 +14,7 @@ import sys
 import tempfile
 
 sys.dont_write_bytecode = True
+import associations
 import rehearsals
 
 PROGRAM, LAUNCHER = sys.argv[1:3]
@@ -87,6 +88,13 @@ def statuses():
         ("done, no last line end", (FRAMES + SEAL + START)[:-1], 0, TWO + ONE + END),
         ("done, an open stop", FRAMES + START, 0, TWO),
         ("done, end of data alone", b"mark 20000/0/0\nstart 20000/0/0 20000/0/0 2\n", 0, END),
+        ("done, a stop that a later frame closes",
+         FRAMES[:33] + b"frame 20000/1000/1 0 41 0 0010a2\nstart 20000/0/0 20000/1000/0 0\n", 0,
+         FIRST + END),
+        ("done, two frames of one moment",
+         FRAMES[:33] + b"frame 20000/1000/0 0 41 0 0010a2\nmark 20000/1000/0\n"
+         b"start 20000/1000/0 20000/1000/0 0\n", 0,
+         TWO.replace(b"07d0", b"03e8") + END),
         ("done, an entry that goes back", FRAMES + FRAMES[:33], 0, b"backward\n"),
         ("done, a refused START", b"start 20000/2/0 20000/1/0 0\n", 0, b"refused 3\n"),
         ("bad line 1", b"fly\n", 3, b"bad line 1\n"),
@@ -115,7 +123,7 @@ def statuses():
         ("bad line, a head of one word", b"site", 3, b"bad line 2\n"),
         ("bad line, a head that isn't first", b"\nsite\nend\n", 3, b"bad line 2\n"),
         ("bad line, behind a head", b"site\nend\nend\n", 3, b"bad line 3\n"),
-        ("bad line, an event that isn't built", b"open 1\n", 3, b"bad line 1\n"),
+        ("bad line, an event that isn't built", b"take\n", 3, b"bad line 1\n"),
         ("bad line 5, after a START", FRAMES + START + b"fly\n" + FRAMES, 3, TWO + b"bad line 5\n"),
         ("bad line, a carriage return", FRAMES[:32] + b"\r\n", 3, b"bad line 1\n"),
         ("bad line, octets that aren't UTF-8", b"\xff\xfe\n", 3, b"bad line 1\n"),
@@ -260,9 +268,14 @@ def files():
 
 def examples():
     folder = os.path.join(os.path.dirname(os.path.dirname(os.path.abspath(__file__))), "examples")
-    for name in ["power-failure", "disk-fault"]:
-        with open(f"{folder}/{name}.script", "rb") as script, open(f"{folder}/{name}.transcript", "rb") as transcript:
+    for name in ["power-failure", "disk-fault", "two-users"]:
+        with open(f"{folder}/{name}.script", "rb") as script, \
+                open(f"{folder}/{name}.transcript", "rb") as transcript:
             check(f"example {name}", run([b"drill"], script.read()), (0, transcript.read(), b""))
+    for name, status, output in [("first-pass", 0, TWO + ONE + END),
+                                 ("small-archive", 9, b"full 17 0\n" + FIRST + END)]:
+        with open(f"{folder}/{name}.script", "rb") as script:
+            check(f"example {name}", run([b"drill"], script.read()), (status, output, b""))
 
 
 # ---- the launcher
@@ -277,6 +290,7 @@ def launcher():
 
 words()
 rehearsals.drive(run, check)
+associations.drive(run, check)
 statuses()
 lengths()
 faults()

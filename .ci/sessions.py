@@ -1,0 +1,409 @@
+"""A second program for associations: CCSDS 913.1-B (transport and credentials), 911.1-B (BIND,
+UNBIND, PEER-ABORT), and the rounds of a session by docs/PROFILE.md.
+
+Each round reads the octets that a connection holds anew, from their front.
+"""
+import hashlib
+
+from forms import (ATTRIBUTES, DAY_MILLIS, MILLI, PICOS, SECOND, Elements, element, integer,
+                   moment, pdu_message, sent)
+from sites import CLTU, RAF, RCF
+
+# the kinds of transport messages
+PDU, CONTEXT, HEARTBEAT = 1, 2, 3
+CONTEXT_BEGINS = b"ISP1\0\0\0\1"
+MOST_PDU = 1_048_576
+MOST_HELD = 8 + MOST_PDU
+MOST_PIECE = 65_536
+HEARTBEAT_MESSAGE = bytes([3, 0, 0, 0, 0, 0, 0, 0])
+
+# outer tags
+BIND, BIND_RETURN = b"\xbf\x64", b"\xbf\x65"
+UNBIND, UNBIND_RETURN = b"\xbf\x66", b"\xbf\x67"
+PEER_ABORT = b"\x9f\x68"
+
+# inner tags
+SEQUENCE, SET, INTEGER, VISIBLE = b"\x30", b"\x31", b"\x02", b"\x1a"
+OCTETS, OBJECT, TAG_0, TAG_1 = b"\x04", b"\x06", b"\x80", b"\x81"
+ATTRIBUTE_ARC = bytes.fromhex("2b7004030102")
+
+# diagnostics of BIND, and of an abort
+ACCESS_DENIED, NO_SERVICE, NO_VERSION, NO_INSTANCE = 0, 1, 2, 3
+BOUND_ALREADY, OF_ANOTHER, OTHER_SERVICE = 4, 5, 6
+ABORT_DENIED, PROTOCOL_ERROR, COMMUNICATIONS_FAILURE, ENCODING_ERROR = 0, 3, 4, 5
+
+
+# ---- the stream of transport messages
+
+def fault_of(octets):
+    """The number of the fault that octets in a message's place show as far as they came, or 0."""
+    kind, length = octets[:1], octets[4:8]
+    if kind and kind[0] not in (PDU, CONTEXT, HEARTBEAT):
+        return 1
+    if any(octets[1:4]):
+        return 2
+    if len(length) < 4:
+        return 0
+    size = int.from_bytes(length, "big")
+    if kind[0] == PDU:
+        return 4 if size > MOST_PDU else 0
+    if size != (12 if kind[0] == CONTEXT else 0):
+        return 3
+    return 5 if kind[0] == CONTEXT and not CONTEXT_BEGINS.startswith(octets[8:16]) else 0
+
+
+def stream(octets):
+    """The whole messages at the front, each its kind and body, and the fault behind them, or 0."""
+    messages = []
+    while True:
+        fault = fault_of(octets)
+        end = 8 + int.from_bytes(octets[4:8], "big")
+        if fault or len(octets) < 8 or len(octets) < end:
+            return messages, fault
+        messages.append((octets[0], octets[8:end]))
+        octets = octets[end:]
+
+
+# ---- credentials
+
+def stamp_of(now):
+    millis, picos = divmod(now, MILLI)
+    days, millis = divmod(millis, DAY_MILLIS)
+    return days.to_bytes(2, "big") + millis.to_bytes(4, "big") + (picos // PICOS).to_bytes(2, "big")
+
+
+def digest(name, password, hash, stamp, number):
+    covered = element(0x30, element(0x04, stamp) + integer(number) + element(0x1A, name)
+                      + element(0x04, password))
+    return hashlib.new(hash.decode(), covered).digest()
+
+
+def signed(name, password, hash, stamp, number):
+    """The octets of used credentials."""
+    return element(0x30, element(0x04, stamp) + integer(number)
+                   + element(0x04, digest(name, password, hash, stamp, number)))
+
+
+def authentic(peer, credentials, now):
+    """Whether used credentials, or None, are a peer's at this moment."""
+    if credentials is None:
+        return False
+    try:
+        whole = Elements(credentials)
+        fields = whole.members(SEQUENCE)
+        stamp, number = fields.content(OCTETS), fields.integer(INTEGER, 0, 2**31 - 1)
+        protected = fields.content(OCTETS)
+        fields.end()
+        whole.end()
+        if len(stamp) != 8:
+            return False
+    except ValueError:
+        return False
+    days, millis, micros = (int.from_bytes(part, "big")
+                            for part in (stamp[:2], stamp[2:6], stamp[6:]))
+    if millis >= DAY_MILLIS or micros >= 1_000:
+        return False
+    if abs(now - moment((days, millis, micros * PICOS, 2))) > peer.delay * SECOND:
+        return False
+    return protected == digest(peer.name, peer.password, peer.hash, stamp, number)
+
+
+# ---- a user's PDUs
+
+def identifier_of(octets):
+    """The identifier octets at the front of a PDU, or None where none stand there whole."""
+    if not octets or octets[0] & 31 != 31:
+        return octets[:1] or None
+    if not octets[1:] or octets[1] < 31 or octets[1] == 128:
+        return None
+    last = next((place for place, octet in enumerate(octets[1:], 1) if octet < 128), None)
+    return None if last is None else octets[:last + 1]
+
+
+def read_credentials(fields):
+    tag, content = fields.one_of(TAG_0, TAG_1)
+    if tag == TAG_0 and not content:
+        return None
+    if tag == TAG_1 and 8 <= len(content) <= 256:
+        return content
+    raise ValueError("credentials")
+
+
+def read_attribute(fields):
+    outer = fields.members(SET)
+    pair = outer.members(SEQUENCE)
+    outer.end()
+    name, value = pair.content(OBJECT), pair.visible(VISIBLE, 1, 256)
+    pair.end()
+    for attribute, number in ATTRIBUTES.items():
+        if name == ATTRIBUTE_ARC + bytes([number]):
+            if any(octet in b" .=" for octet in value):
+                raise ValueError("value")
+            return attribute, value
+    raise ValueError("attribute")
+
+
+def read_identifier(fields):
+    inner, attributes = fields.members(SEQUENCE), []
+    while inner.rest:
+        attributes.append(read_attribute(inner))
+    if not 1 <= len(attributes) <= 8:
+        raise ValueError("identifier")
+    return tuple(attributes)
+
+
+def decoded(tag, read, octets):
+    """What a PDU of this tag says, or None where it doesn't decode."""
+    try:
+        whole = Elements(octets)
+        fields = whole.members(tag)
+        value = read(fields)
+        fields.end()
+        whole.end()
+        return value
+    except ValueError:
+        return None
+
+
+def bind_fields(fields):
+    credentials, initiator = read_credentials(fields), fields.visible(VISIBLE, 3, 16)
+    fields.visible(VISIBLE, 1, 128)
+    service, version = fields.integer(INTEGER, 0, 65_535), fields.integer(INTEGER, 1, 65_535)
+    return credentials, initiator, service, version, read_identifier(fields)
+
+
+def unbind_fields(fields):
+    credentials = read_credentials(fields)
+    fields.integer(INTEGER, 0, 127)
+    return (credentials,)
+
+
+def abort_fields(octets):
+    """The diagnostic of a PEER-ABORT, or None where it doesn't decode."""
+    try:
+        whole = Elements(octets)
+        diagnostic = whole.integer(PEER_ABORT, 0, 127)
+        whole.end()
+        return (diagnostic,)
+    except ValueError:
+        return None
+
+
+def peer_abort(diagnostic, book, now):
+    return b"peer-aborted %d" % diagnostic
+
+
+# ---- the same, written
+
+def spelled_credentials(octets):
+    return element(TAG_0, b"") if octets is None else element(TAG_1, octets)
+
+
+def spelled_identifier(identifier):
+    pairs = [element(OBJECT, ATTRIBUTE_ARC + bytes([ATTRIBUTES[name]])) + element(VISIBLE, value)
+             for name, value in identifier]
+    return element(SEQUENCE, b"".join(element(SET, element(SEQUENCE, pair)) for pair in pairs))
+
+
+def bind_pdu(credentials, initiator, port, service, version, identifier):
+    return element(BIND, spelled_credentials(credentials) + element(VISIBLE, initiator)
+                   + element(VISIBLE, port) + integer(service) + integer(version)
+                   + spelled_identifier(identifier))
+
+
+def unbind_pdu(credentials, reason):
+    return element(UNBIND, spelled_credentials(credentials) + integer(reason))
+
+
+# ---- a connection
+
+class Link:
+    """What waits on a connection, oldest first, and what its user ordered."""
+
+    def __init__(self):
+        self.pieces, self.closed, self.broken, self.stalls = [], False, False, 0
+
+    def arrive(self, piece):
+        # what comes behind the close is never read
+        if not self.closed:
+            self.pieces.append(piece)
+
+    def poll(self, most):
+        """Octets, or why there are none."""
+        if self.broken:
+            return "failed"
+        if not self.pieces:
+            return "closed" if self.closed else "nothing"
+        octets, left = self.pieces[0][:most], self.pieces[0][most:]
+        self.pieces[:1] = [left] if left else []
+        return octets
+
+
+class Book:
+    """Which door has an instance, and the latest moment."""
+
+    def __init__(self):
+        self.doors, self.latest = {}, 0
+
+    def moment(self, reading):
+        self.latest = max(self.latest, reading)
+        return self.latest
+
+    def bind(self, identifier, door):
+        """Whether the door has the instance then."""
+        return self.doors.setdefault(identifier, door) == door
+
+    def free(self, door):
+        self.doors = {instance: owner for instance, owner in self.doors.items() if owner != door}
+
+
+class Session:
+    """A session at a door: opening until its context came, unbound, or bound to a peer. Its block
+    is a message with what it says, or None."""
+
+    def __init__(self, site, door, entered):
+        self.site, self.door, self.link = site, door, Link()
+        self.held, self.block = b"", None
+        self.is_opening, self.peer, self.closing = True, None, None
+        self.interval = self.factor = 0
+        self.sent = self.heard = entered
+        self.number = (1 + door) % 2**31
+
+    def round(self, book, reading):
+        """One round: the lines that it tells, each with what its message says, and the word with
+        which it ends, or None."""
+        told, blocked, relieved = [], False, False
+        if self.block:
+            blocked = not self.offer(told)
+            relieved = not blocked
+        heard = "nothing"
+        if not blocked and self.closing is None and not stream(self.held)[0]:
+            heard = self.link.poll(min(MOST_PIECE, MOST_HELD - len(self.held)))
+        now = book.moment(reading)
+        if relieved:
+            self.sent = now
+        if isinstance(heard, bytes):
+            self.heard, self.held = now, self.held + heard
+        end = self.act(heard, blocked, book, now)
+        if end is None and not blocked:
+            end = self.speak(told, now)
+        return told, end
+
+    def offer(self, told):
+        """Offers the block. Whether it was taken."""
+        if self.link.stalls:
+            self.link.stalls -= 1
+            told.append((b"stalled %d\n" % self.door, None))
+            return False
+        says, message = self.block
+        told.append((sent(self.door, message), says))
+        self.block = None
+        return True
+
+    def act(self, heard, blocked, book, now):
+        """What came is handled, one message at most, and then the dead timer judged."""
+        end = None
+        if heard == "failed":
+            return b"fault"
+        if not blocked and self.closing is None:
+            messages, fault = stream(self.held)
+            if fault:
+                return b"broken %d" % fault
+            if heard == "closed":
+                return b"closed"
+            if messages:
+                kind, body = messages[0]
+                self.held = self.held[8 + len(body):]
+                end = self.handle(kind, body, book, now)
+        if end is None and self.has_passed(now, self.heard, self.interval * self.factor):
+            end = b"aborted %d" % COMMUNICATIONS_FAILURE
+        return end
+
+    def has_passed(self, now, since, seconds):
+        return self.interval > 0 and now - since >= seconds * SECOND
+
+    def speak(self, told, now):
+        if not self.block and self.has_passed(now, self.sent, self.interval):
+            self.block = ("heartbeat",), HEARTBEAT_MESSAGE
+        if self.block and self.offer(told):
+            self.sent = now
+        return None if self.block else self.closing
+
+    # ---- messages: each gives the word with which the session ends, or None
+
+    def handle(self, kind, body, book, now):
+        if self.is_opening:
+            return self.context(body) if kind == CONTEXT else b"aborted %d" % PROTOCOL_ERROR
+        if kind == HEARTBEAT:
+            return None
+        if kind == CONTEXT:
+            return b"aborted %d" % PROTOCOL_ERROR
+        return self.pdu(body, book, now)
+
+    def context(self, body):
+        interval, factor = (int.from_bytes(part, "big") for part in (body[8:10], body[10:12]))
+        least, most, least_factor, most_factor = self.site.heartbeat
+        if interval and not least <= interval <= most or not least_factor <= factor <= most_factor:
+            return b"range"
+        self.is_opening, self.interval, self.factor = False, interval, factor
+        return None
+
+    def pdu(self, octets, book, now):
+        tag, bound = identifier_of(octets), self.peer is not None
+        if tag == PEER_ABORT:
+            said, in_place, answer = abort_fields(octets), True, peer_abort
+        elif tag == BIND:
+            said, in_place, answer = decoded(BIND, bind_fields, octets), not bound, self.bind
+        elif bound:
+            # no service is built: what isn't an UNBIND doesn't decode
+            said, in_place, answer = decoded(UNBIND, unbind_fields, octets), True, self.unbind
+        else:
+            said, in_place, answer = tag, False, None
+        if said is None:
+            return b"aborted %d" % ENCODING_ERROR
+        return answer(*said, book, now) if in_place else b"aborted %d" % PROTOCOL_ERROR
+
+    def bind(self, credentials, initiator, service, version, identifier, book, now):
+        peer, instance = self.site.peer(initiator), self.site.instance(identifier)
+        if peer is None or peer.level != b"none" and not authentic(peer, credentials, now):
+            self.closing = b"denied"
+            return self.answer_bind(None, "refused", ACCESS_DENIED)
+        faults = [
+            (NO_SERVICE, service not in (RAF, RCF, CLTU)),
+            (NO_VERSION, version not in self.site.versions),
+            (NO_INSTANCE, instance is None),
+            (OF_ANOTHER, instance is not None and instance.owner != peer.name),
+            (OTHER_SERVICE, instance is not None and instance.service != service),
+        ]
+        diagnostic = next((fault for fault, holds in faults if holds), None)
+        if diagnostic is None and not book.bind(identifier, self.door):
+            diagnostic = BOUND_ALREADY
+        own = self.credentials(peer, now) if peer.level != b"none" else None
+        if diagnostic is not None:
+            return self.answer_bind(own, "refused", diagnostic)
+        self.peer = peer
+        return self.answer_bind(own, "bound", version)
+
+    def answer_bind(self, own, word, result):
+        fields = own_credentials(own) + element(VISIBLE, self.site.provider)
+        pdu = element(BIND_RETURN, fields + integer(result, TAG_0 if word == "bound" else TAG_1))
+        self.block = (word, own, self.site.provider, result), pdu_message(pdu)
+
+    def unbind(self, credentials, book, now):
+        if self.peer.level == b"all" and not authentic(self.peer, credentials, now):
+            return b"aborted %d" % ABORT_DENIED
+        own = self.credentials(self.peer, now) if self.peer.level == b"all" else None
+        book.free(self.door)
+        self.closing = b"unbound"
+        pdu = element(UNBIND_RETURN, own_credentials(own) + element(TAG_0, b""))
+        self.block = ("unbound", own), pdu_message(pdu)
+        return None
+
+    def credentials(self, peer, now):
+        """What the provider's next credentials are made of."""
+        self.number = (1_103_515_245 * self.number + 12_345) % 2**31
+        return self.site.provider, self.site.password, peer.hash, stamp_of(now), self.number
+
+
+def own_credentials(own):
+    return spelled_credentials(None if own is None else signed(*own))
