@@ -4,12 +4,11 @@ use Rattle.isp1_tml.specs.Message.{Content}
 use Rattle.station_config.specs.declared.site.Site.{Site}
 use Rattle.assoc_core.specs.declared.step.Step.{Step}
 use Rattle.assoc_core.specs.declared.step.Step.TheVariants.{Pass, Denied, Abort}
-use Rattle.cltu_queue.specs.declared.ask.Ask.{Ask}
-use Rattle.cltu_queue.specs.declared.book_reply.BookReply.{BookReply}
 use Rattle.station_book.specs.State as book
-use Rattle.station_book.specs.History.{moment_at, reply_of}
+use Rattle.station_book.specs.History.{moment_at}
 use Rattle.session_core.specs.declared.bind_places.BindPlaces.{BindPlaces}
 use Rattle.session_core.specs.declared.standing.Standing.{Standing}
+use Rattle.session_core.specs.Inquiry.{Inquiry, answer_of, Replied, reply_in}
 use Rattle.session_core.specs.Message.{Said, context, heartbeat, bind, unbind, peer_abort}
 use Rattle.session_core.specs.Message.{invocation, undecoded, out_of_place, judged}
 use Rattle.session_core.specs.Handling.{passed_ask, said_ask, invoked, after_judged}
@@ -35,7 +34,7 @@ ask_same site said (Abort code) = refl
 
 -- what the code asks of a message is what the definition does
 pub asked_by_message : (site : Site) (s : Standing) (content : Content) (said : Said) (step : Step)
-    (places : BindPlaces) (ask : Ask) → said ≡ said_to site s content
+    (places : BindPlaces) (ask : Inquiry) → said ≡ said_to site s content
     → step ≡ judged site s.association said s.moment → places ≡ places_of site said step
     → ask ≡ ask_by said step places.instance → ask ≡ message_ask site s content s.moment
 asked_by_message site s content said step places ask said_so step_so places_so ask_so =
@@ -47,18 +46,18 @@ asked_by_message site s content said step places ask said_so step_so places_so a
 
 -- and so is what it leads to
 pub led_by_message : (site : Site) (s t : Standing) (content : Content) (said : Said) (step : Step)
-    (ask : Ask) (reply : BookReply) (door reading : ℕ) (b : book.State)
+    (ask : Inquiry) (reply : Replied) (door reading : ℕ) (b : book.State)
     → said ≡ said_to site s content → step ≡ judged site s.association said s.moment
     → ask ≡ message_ask site s content s.moment → s.moment ≡ moment_at b reading
-    → reply ≡ reply_of b door (moment_at b reading) ask
+    → reply ≡ reply_in (answer_of b door (moment_at b reading) ask)
     → t ≡ after_judged site (invoked s said step) said step reply
     → t ≡ with_message site s content
-    (reply_of b door s.moment (message_ask site s content s.moment))
+    (reply_in (answer_of b door s.moment (message_ask site s content s.moment)))
 led_by_message site s t content said st ask reply door reading b was judged_so ask_so now r is =
-    let replied : reply ≡ reply_of b door s.moment (message_ask site s content s.moment) =
+    let told : reply ≡ reply_in (answer_of b door s.moment (message_ask site s content s.moment)) =
     r
-    ∙ ap (λ (n : ℕ). reply_of b door n ask) (sym now)
-    ∙ ap (reply_of b door s.moment) ask_so in
+    ∙ ap (λ (n : ℕ). reply_in (answer_of b door n ask)) (sym now)
+    ∙ ap (λ (i : Inquiry). reply_in (answer_of b door s.moment i)) ask_so in
     is
     ∙ ap (λ (x : Step). after_judged site (invoked s said x) said x reply) judged_so
     ∙ ap
@@ -66,4 +65,4 @@ led_by_message site s t content said st ask reply door reading b was judged_so a
     after_judged site (invoked s x (judged site s.association x s.moment)) x
     (judged site s.association x s.moment) reply)
     was
-    ∙ ap (λ (r : BookReply). with_message site s content r) replied
+    ∙ ap (λ (r : Replied). with_message site s content r) told

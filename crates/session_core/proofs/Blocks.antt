@@ -11,7 +11,6 @@ use Rattle.link_model.specs.declared.call.Heard.{Heard}
 use Rattle.link_model.specs.declared.call.Heard.TheVariants.{Arrived, Nothing, Closed, Failed}
 use Rattle.link_model.specs.Calls.{blocks_in}
 use Rattle.station_config.specs.declared.site.Site.{Site}
-use Rattle.cltu_queue.specs.declared.book_reply.BookReply.{BookReply}
 use Rattle.session_core.specs.declared.course.Course.{Course}
 use Rattle.session_core.specs.declared.course.Course.TheVariants.{Going, Closing as ClosingWith}
 use Rattle.session_core.specs.declared.course.Course.TheVariants.{Over, LinkFailing, LinkFailed}
@@ -20,6 +19,7 @@ use Rattle.session_core.specs.declared.standing.Standing.{Standing}
 use Rattle.session_core.specs.Numbers.{communications_failure}
 use Rattle.session_core.specs.Course.{is_going, is_live, is_blocked}
 use Rattle.session_core.specs.Handling.{aborted}
+use Rattle.session_core.specs.Inquiry.{Replied, reply_in}
 use Rattle.session_core.specs.Steps.{Next, has_message, has_block, round_begun, waits}
 use Rattle.session_core.specs.Steps.{at_moment, is_idle, pulse_of, is_dead, is_due, timed}
 use Rattle.session_core.specs.Steps.{with_heartbeat, after_step, course_at_end}
@@ -224,7 +224,7 @@ stuck_times : (v : Standing) (dead : Bool) → has_block v ≡ true
 stuck_times v true has live = absurd (cc)
 stuck_times v false has live = ap (λ (x : Standing). x.block) (no_more_heartbeat v has)
 
-stuck_step : (site : Site) (t : Standing) (next : Next) (now : ℕ) (reply : BookReply)
+stuck_step : (site : Site) (t : Standing) (next : Next) (now : ℕ) (reply : Replied)
     → is_blocked t.arrival ≡ true → has_block t ≡ true
     → is_live (after_step site t next now reply).course ≡ true
     → (after_step site t next now reply).block ≡ t.block
@@ -243,7 +243,7 @@ stuck_stepped : (site : Site) (s : State) (told : Option Told)
     → (stepped site s told).standing.block ≡ s.standing.block
 stuck_stepped site s None stuck has live = refl
 stuck_stepped site s (Some told) stuck has live =
-    stuck_step site s.standing (next_of s) told.moment told.answer.reply stuck has live
+    stuck_step site s.standing (next_of s) told.moment (reply_in told.answer) stuck has live
 
 step_blocks_so : (left : Blocks) (t u : Standing) (live blocked : Bool) → is_live t.course ≡ live
     → is_blocked t.arrival ≡ blocked

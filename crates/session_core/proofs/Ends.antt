@@ -5,7 +5,6 @@ use Rattle.octet_core.specs.declared.offer.Offer.{Offer}
 use Rattle.link_model.specs.declared.call.Call.{Call}
 use Rattle.link_model.specs.declared.call.Heard.{Heard}
 use Rattle.station_config.specs.declared.site.Site.{Site}
-use Rattle.cltu_queue.specs.declared.book_reply.BookReply.{BookReply}
 use Rattle.station_book.specs.State.{Event}
 use Rattle.session_core.specs.declared.course.Course.{Course}
 use Rattle.session_core.specs.declared.course.Course.TheVariants.{Over, LinkFailing, LinkFailed}
@@ -14,6 +13,7 @@ use Rattle.session_core.specs.declared.standing.Standing.{Standing}
 use Rattle.session_core.specs.Numbers.{communications_failure}
 use Rattle.session_core.specs.Course.{is_going, is_live, is_over, is_blocked}
 use Rattle.session_core.specs.Handling.{aborted}
+use Rattle.session_core.specs.Inquiry.{Replied, reply_in}
 use Rattle.session_core.specs.Steps.{Next, has_message, has_block, waits, may_poll, at_moment}
 use Rattle.session_core.specs.Steps.{is_idle, with_next, acted, pulse_of, is_dead, is_due, timed}
 use Rattle.session_core.specs.Steps.{with_heartbeat, after_step, may_speak, course_at_end}
@@ -78,7 +78,7 @@ still_before s r site still is =
 
 -- ---- a step that handles nothing
 
-pub idle_acts_not : (site : Site) (s : Standing) (next : Next) (reply : BookReply)
+pub idle_acts_not : (site : Site) (s : Standing) (next : Next) (reply : Replied)
     → is_idle s ≡ true → acted site s next reply ≡ s
 idle_acts_not site s next reply e =
     ap (λ (idle : Bool). if idle then s else with_next site s next reply) e
@@ -98,7 +98,7 @@ still_beats_not s still =
     ap (λ (live : Bool). if (live && not (has_block s)) && is_due (pulse_of s) s.moment
     then record s { block = spelling heartbeat } else s) still
 
-pub still_step : (site : Site) (s : Standing) (next : Next) (now : ℕ) (reply : BookReply)
+pub still_step : (site : Site) (s : Standing) (next : Next) (now : ℕ) (reply : Replied)
     → IsStill s.course → after_step site s next now reply ≡ at_moment s now
 still_step site s next now reply still =
     let u = at_moment s now in
@@ -112,7 +112,7 @@ pub still_course : (site : Site) (s : State) (told : Option Told) → IsStill s.
 still_course site s None still = refl
 still_course site s (Some told) still =
     ap (λ (x : Standing). x.course)
-    (still_step site s.standing (next_of s) told.moment told.answer.reply still)
+    (still_step site s.standing (next_of s) told.moment (reply_in told.answer) still)
 
 pub still_before_speak : (site : Site) (s : State) (r : Round) → IsStill s.standing.course
     → IsRound site s r → (before_speak site s r).standing.course ≡ s.standing.course

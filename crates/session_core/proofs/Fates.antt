@@ -14,7 +14,6 @@ use Rattle.link_model.specs.Counts.{CountsWhere, offer_failed}
 use Rattle.station_config.specs.declared.site.Site.{Site}
 use Rattle.assoc_core.specs.declared.step.Step.{Step}
 use Rattle.assoc_core.specs.declared.step.Step.TheVariants.{Pass, Denied, Abort}
-use Rattle.cltu_queue.specs.declared.book_reply.BookReply.{BookReply}
 use Rattle.session_core.specs.declared.course.Course.{Course}
 use Rattle.session_core.specs.declared.course.Course.TheVariants.{Going, Closing as ClosingWith}
 use Rattle.session_core.specs.declared.course.Course.TheVariants.{Over, LinkFailing, LinkFailed}
@@ -26,13 +25,14 @@ use Rattle.session_core.specs.declared.ended.Ended.TheVariants.{PeerAborted, Abo
 use Rattle.session_core.specs.declared.spoken.Spoken.{Spoken}
 use Rattle.session_core.specs.declared.standing.Standing.{Standing}
 use Rattle.session_core.specs.Numbers.{communications_failure, other_reason}
-use Rattle.session_core.specs.Course.{is_going, is_live, is_over, is_spent, is_blocked, has_closed}
+use Rattle.session_core.specs.Course.{is_going, is_live, is_over, is_plain, is_spent, is_blocked}
+use Rattle.session_core.specs.Course.{has_closed}
+use Rattle.session_core.specs.Inquiry.{Replied, reply_in}
 use Rattle.session_core.specs.Message.{Said, context, heartbeat as beat, bind, unbind, peer_abort}
 use Rattle.session_core.specs.Message.{invocation, undecoded, out_of_place, judged}
 use Rattle.session_core.specs.Handling.{ended_by, aborted, is_agreed, after_passing, concluded}
 use Rattle.session_core.specs.Handling.{is_lost, invoked, after_judged}
-use Rattle.session_core.specs.Service.{Invocation, with_invocation}
-use Rattle.session_core.specs.Service as service
+use Rattle.session_core.specs.Service.{Keeps}
 use Rattle.session_core.specs.Steps.{Next, has_message, has_block, round_begun, waits, may_poll}
 use Rattle.session_core.specs.Steps.{after_wait, after_offer, at_moment, is_idle, said_to}
 use Rattle.session_core.specs.Steps.{with_next, acted}
@@ -45,6 +45,7 @@ use Rattle.session_core.specs.Kept.{kept_after}
 use Rattle.session_core.specs.Outcome.{come_to, has_ended, has_failed, is_still, FailsBy, Rests}
 use Rattle.session_core.specs.Outcome as kept
 use Rattle.session_core.proofs.Truths.{both_of, none_of, not_false}
+use Rattle.session_core.proofs.Invocations.{keeps_either, keeps_self, keeps_end, keeps_invocation}
 use Rattle.session_core.proofs.Ends.{IsStill, no_wait, no_poll, no_speech, over_still, over_stays}
 use Rattle.session_core.proofs.Stalls.{uncounted_at}
 use Rattle.session_core.proofs.Rounds.{tells-tells, polls_by}
@@ -52,12 +53,7 @@ use Rattle.session_core.proofs.Sound.{busy_going}
 
 -- ---- tests of courses
 
--- a course of a session that goes on, closes, or has ended by no fault of its link
-abbrev is_plain : Course → Bool
-is_plain (Over end) = true
-is_plain c = is_live c
-
--- a test that fails of each such course, and tells the same of a link that fails and of one that
+-- a test that fails of each plain course, and tells the same of a link that fails and of one that
 -- has failed
 pub record Rare (P : Course → Bool) : Type 0 where
   going : P Going ≡ false
@@ -155,27 +151,7 @@ end_keeps P rare Spent waits = refl
 
 -- ---- a step
 
--- what a message may make of a session: its course stays plain, and what listen came to stays
-record Keeps (s t : Standing) : Type 0 where
-  plain : is_plain s.course ≡ true → is_plain t.course ≡ true
-  arrival : t.arrival ≡ s.arrival
-
-keeps_either : (b : Bool) (s t u : Standing) → Keeps s t → Keeps s u
-    → Keeps s (if b then t else u)
-keeps_either true s t u h k = h
-keeps_either false s t u h k = k
-
-keeps_self : (s : Standing) → Keeps s s
-keeps_self s = record { plain = λ h. h; arrival = refl }
-
-keeps_end : (s : Standing) (end : Ended) → Keeps s (ended_by s end)
-keeps_end s end = record { plain = λ h. refl; arrival = refl }
-
-keeps_invocation : (site : Site) (s : Standing) (i : Invocation) (reply : BookReply)
-    → Keeps s (with_invocation site s i reply)
-keeps_invocation site s service.undecoded reply = keeps_self s
-
-keeps_passing : (site : Site) (s : Standing) (said : Said) (reply : BookReply)
+keeps_passing : (site : Site) (s : Standing) (said : Said) (reply : Replied)
     → Keeps s (after_passing site s said reply)
 keeps_passing site s (context interval factor) reply =
     keeps_either (is_agreed site interval factor) s _ (ended_by s (Range interval factor))
@@ -188,19 +164,19 @@ keeps_passing site s (invocation i) reply = keeps_invocation site s i reply
 keeps_passing site s undecoded reply = keeps_self s
 keeps_passing site s out_of_place reply = keeps_self s
 
-keeps_concluded : (site : Site) (s : Standing) (said : Said) (step : Step) (reply : BookReply)
+keeps_concluded : (site : Site) (s : Standing) (said : Said) (step : Step) (reply : Replied)
     → Keeps s (concluded site s said step reply)
 keeps_concluded site s said Pass reply = keeps_passing site s said reply
 keeps_concluded site s said Denied reply = record { plain = λ h. refl; arrival = refl }
 keeps_concluded site s said (Abort diagnostic) reply = keeps_end s (Aborted diagnostic)
 
-keeps_judged : (site : Site) (s : Standing) (said : Said) (step : Step) (reply : BookReply)
+keeps_judged : (site : Site) (s : Standing) (said : Said) (step : Step) (reply : Replied)
     → Keeps s (after_judged site s said step reply)
 keeps_judged site s said step reply =
-    keeps_either (is_lost reply) s (aborted s other_reason) (concluded site s said step reply)
+    keeps_either (is_lost reply.reply) s (aborted s other_reason) (concluded site s said step reply)
     (keeps_end s (Aborted other_reason)) (keeps_concluded site s said step reply)
 
-keeps_next : (site : Site) (s : Standing) (next : Next) (reply : BookReply)
+keeps_next : (site : Site) (s : Standing) (next : Next) (reply : Replied)
     → Keeps s (with_next site s next reply)
 keeps_next site s (Err fault) reply = keeps_end s (Broken fault)
 keeps_next site s (Ok None) reply =
@@ -218,7 +194,7 @@ keeps_if P true s t h = refl
 keeps_if P false s t h = h refl
 
 acted_keeps : (P : Course → Bool) → Rare P → (site : Site) (s : Standing) (next : Next)
-    (reply : BookReply) → P (acted site s next reply).course ≡ P s.course
+    (reply : Replied) → P (acted site s next reply).course ≡ P s.course
 acted_keeps P rare site s next reply =
     keeps_if P (is_idle s) s (with_next site s next reply)
     (λ busy.
@@ -245,7 +221,7 @@ beats_if P true s = refl
 beats_if P false s = refl
 
 pub step_keeps : (P : Course → Bool) → Rare P → (site : Site) (s : Standing) (next : Next)
-    (now : ℕ) (reply : BookReply) → P (after_step site s next now reply).course ≡ P s.course
+    (now : ℕ) (reply : Replied) → P (after_step site s next now reply).course ≡ P s.course
 step_keeps P rare site s next now reply =
     let t = acted site (at_moment s now) next reply in
     let u = timed t in
@@ -259,7 +235,7 @@ arrives_either : (b : Bool) (s t : Standing) (a : Arrival) → s.arrival ≡ a �
 arrives_either true s t a h k = h
 arrives_either false s t a h k = k
 
-step_arrives : (site : Site) (s : Standing) (next : Next) (now : ℕ) (reply : BookReply)
+step_arrives : (site : Site) (s : Standing) (next : Next) (now : ℕ) (reply : Replied)
     → (after_step site s next now reply).arrival ≡ s.arrival
 step_arrives site s next now reply =
     let e = at_moment s now in
@@ -278,13 +254,13 @@ pub told_blocks : (site : Site) (v : Kept) (told : Option Told)
     → is_blocked (kept_after site v told).standing.arrival ≡ is_blocked v.standing.arrival
 told_blocks site v None = refl
 told_blocks site v (Some told) =
-    ap is_blocked (step_arrives site v.standing _ told.moment told.answer.reply)
+    ap is_blocked (step_arrives site v.standing _ told.moment (reply_in told.answer))
 
 pub told_keeps : (P : Course → Bool) → Rare P → (site : Site) (v : Kept) (told : Option Told)
     → P (kept_after site v told).standing.course ≡ P v.standing.course
 told_keeps P rare site v None = refl
 told_keeps P rare site v (Some told) =
-    step_keeps P rare site v.standing _ told.moment told.answer.reply
+    step_keeps P rare site v.standing _ told.moment (reply_in told.answer)
 
 -- ---- counts of faults
 

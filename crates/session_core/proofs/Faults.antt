@@ -14,6 +14,7 @@ use Rattle.station_config.specs.declared.site.Site.{Site}
 use Rattle.session_core.specs.declared.course.Course.{Course}
 use Rattle.session_core.specs.declared.course.Course.TheVariants.{LinkFailing, LinkFailed}
 use Rattle.session_core.specs.declared.standing.Standing.{Standing}
+use Rattle.session_core.specs.Inquiry.{reply_in}
 use Rattle.session_core.specs.Steps.{round_begun, has_block}
 use Rattle.session_core.specs.Session.{State, Round, Told, at_first, next_of, poll_space}
 use Rattle.session_core.specs.Session.{offer_calls, poll_calls, standing_waited, standing_heard}
@@ -84,7 +85,7 @@ step_refused : (site : Site) (s : State) (told : Option Told)
     → faulty (stepped site s told).standing.course ≡ faulty s.standing.course
 step_refused site s None = refl
 step_refused site s (Some told) =
-    step_keeps faulty faulty_rare site s.standing (next_of s) told.moment told.answer.reply
+    step_keeps faulty faulty_rare site s.standing (next_of s) told.moment (reply_in told.answer)
 
 speak_refused : (s : State) (spoke : Option Offer)
     → faulty (spoken_state s spoke).standing.course

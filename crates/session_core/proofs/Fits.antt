@@ -1,5 +1,5 @@
--- The returns of association fit, and are few octets.
-use Rattle.std.proofs.Common.{◌≡◌, ℕ, pos, negsuc, ◌-◌, ◌^◌, ◌<◌, ◌≤◌, Bool, true, false}
+-- The returns fit, and are few octets.
+use Rattle.std.proofs.Common.{◌≡◌, ℕ, pos, negsuc, ◌+◌, ◌-◌, ◌^◌, ◌<◌, ◌≤◌, Bool, true, false}
 use Rattle.std.proofs.Common.{◌&&◌}
 use Rattle.std.proofs.Common.{nat_le, nat_lt, if◌then◌else◌}
 use Rattle.std.proofs.Common.{List, [], ◌∷◌, length, refl}
@@ -9,13 +9,12 @@ use Rattle.std.specs.Int.{w64, to_be_bytes}
 use Rattle.std.specs.List.{list_all}
 use Rattle.ber_core.specs.Integer.{integer_octets}
 use Rattle.ber_core.specs.Length.{shortest_length, long_form, without_zeros}
-use Rattle.ber_core.specs.Tree.{primitive, tree_and, no_trees}
+use Rattle.ber_core.specs.Tree.{primitive, constructed, tree_and, no_trees}
 use Rattle.ber_core.specs.Spelling.{canonical, canonical_all}
 use Rattle.ber_core.specs.Parts.{length-primitive, length-constructed, length-tree_and}
 use Rattle.ber_core.specs.Reading.{is_visible}
 use Rattle.ber_shape.specs.Content.{InRange, IsVisible}
-use Rattle.bind_pdu.specs.Binding.{BindReturnContent, bind_return}
-use Rattle.bind_pdu.specs.Unbinding.{UnbindReturnContent, unbind_return}
+use Rattle.ber_shape.specs.Members.{Members, structured_few}
 use Rattle.station_config.specs.Validity.{IsName}
 use Rattle.isp1_auth.specs.declared.secret.Secret.{Secret}
 use Rattle.isp1_auth.specs.Digest.{digest}
@@ -24,13 +23,14 @@ use Rattle.session_core.proofs.Truths.{both_of}
 
 -- ---- few octets
 
-pub few_bind_return : (r : BindReturnContent) → bind_return.Fits r
-    → length (canonical (bind_return.tree r)) ≤ 4088
-few_bind_return r fits = omega (arith, bind_return.few r fits)
+at_least : (least n : ℕ) → nat_le least n ≡ true → least ≤ n
+at_least least n e = grind arith
 
-pub few_unbind_return : (r : UnbindReturnContent) → unbind_return.Fits r
-    → length (canonical (unbind_return.tree r)) ≤ 4088
-few_unbind_return r fits = omega (arith, unbind_return.few r fits)
+pub few_octets : {X : Type 0} (tag : List ℕ) (m : Members X) (x : X) → m.Fits x
+    → nat_le (length tag + 9 + m.most) 4088 ≡ true
+    → length (canonical (constructed tag (m.trees x))) ≤ 4088
+few_octets tag m x fits short =
+    omega (arith, structured_few tag m x fits, at_least (length tag + 9 + m.most) 4088 short)
 
 -- ---- credentials have at least 8 octets: each of their four elements has a tag and a length
 
@@ -87,9 +87,6 @@ all_visible (c ∷ name) e =
     let both = both_of (is_graphic c) (list_all is_graphic name) (sym e) in
     ap (λ (b : Bool). b && list_all is_visible name) (graphic_visible c both.first)
     ∙ all_visible name both.second
-
-at_least : (least n : ℕ) → nat_le least n ≡ true → least ≤ n
-at_least least n e = grind arith
 
 pub name_fits : (name : List ℕ) → IsName name → IsVisible 3 16 name
 name_fits name is =

@@ -1,6 +1,7 @@
 mod Truths
 mod Messages
 mod Ends
+mod Invocations
 mod Fates
 mod Stalls
 mod Faults

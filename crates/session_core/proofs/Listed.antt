@@ -5,12 +5,11 @@ use Rattle.std.proofs.lemmas.List.{append-nil}
 use Rattle.isp1_tml.specs.Feeding.{Feeding, StandsFor, fresh}
 use Rattle.link_model.specs.declared.call.Call.{Call}
 use Rattle.station_config.specs.declared.site.Site.{Site}
-use Rattle.archive_terms.specs.Glimpse.{wants_nothing}
-use Rattle.cltu_queue.specs.declared.ask.Ask.{Ask}
-use Rattle.station_book.specs.State.{Event, Call as BookCall, answer}
+use Rattle.station_book.specs.State.{Event, Call as BookCall}
 use Rattle.station_book.specs.State as book
 use Rattle.station_book.specs.History.{IsLegal, event_at}
 use Rattle.session_core.specs.Course.{is_over}
+use Rattle.session_core.specs.Inquiry.{Inquiry, call_of}
 use Rattle.session_core.specs.Session.{State, Round, Told, IsRound, after_rounds, begun}
 use Rattle.session_core.specs.Session.{AreRounds, session_calls, session_events, listened, stepped}
 use Rattle.session_core.specs.Session.{listen_calls, round_calls, round_events}
@@ -271,8 +270,8 @@ legal_unless : (b : book.State) (over : Bool) (call : BookCall)
 legal_unless b true call = tt
 legal_unless b false call = (refl, tt)
 
-reads_unless : (over : Bool) (b : book.State) (door reading : ℕ) (ask : Ask)
-    → readings_in (if over then [] else event_at b (answer door reading ask wants_nothing) ∷ [])
+reads_unless : (over : Bool) (b : book.State) (door reading : ℕ) (ask : Inquiry)
+    → readings_in (if over then [] else event_at b (call_of door reading ask) ∷ [])
     ≡ (if over then [] else reading ∷ [])
 reads_unless true b door reading ask = refl
 reads_unless false b door reading ask = refl
@@ -292,7 +291,7 @@ goes_round site a c d bk now reading old heard acted new l ended step p = record
       ∙ ap (λ (over : Bool). if over then [] else reading ∷ []) ended;
   legal =
       legal_unless bk (is_over heard.standing.course)
-      (answer heard.door reading (asked site heard bk reading) wants_nothing);
+      (call_of heard.door reading (asked site heard bk reading));
   book_is = step.book_is;
   stands = λ b calls events same h.
       subst

@@ -16,15 +16,14 @@ use Rattle.link_model.specs.declared.call.Heard.{Heard}
 use Rattle.link_model.specs.declared.call.Heard.TheVariants.{Arrived}
 use Rattle.link_model.specs.Calls.{Tells}
 use Rattle.station_config.specs.declared.site.Site.{Site}
-use Rattle.archive_terms.specs.Glimpse.{wants_nothing}
-use Rattle.cltu_queue.specs.declared.ask.Ask.{Ask}
-use Rattle.station_book.specs.State.{Event, answer, answered}
+use Rattle.station_book.specs.State.{Event, answered}
 use Rattle.station_book.specs.State as book
 use Rattle.session_core.specs.declared.standing.Standing.{Standing}
 use Rattle.session_core.specs.Course.{is_going, is_over, is_blocked}
+use Rattle.session_core.specs.Inquiry.{Inquiry, call_of, reply_in}
 use Rattle.session_core.specs.Steps.{Next, has_message, round_begun, waits, may_poll, handles}
 use Rattle.session_core.specs.Steps.{may_poll_by, after_wait, after_poll, after_offer}
-use Rattle.session_core.specs.Steps.{is_idle, ask_of, after_step, may_speak, round_ended}
+use Rattle.session_core.specs.Steps.{is_idle, inquiry_at, after_step, may_speak, round_ended}
 use Rattle.session_core.specs.Session.{State, Told, next_of, counted, offer_calls, poll_calls}
 use Rattle.session_core.specs.Session.{standing_waited, standing_heard, standing_spoke, cleared}
 use Rattle.session_core.specs.Session.{Asks, stepped, event_of}
@@ -137,10 +136,11 @@ listened_by law a b c old between new w was =
 
 -- the ask by what is kept is the ask by the state
 asked_so : WorkedOut → (site : Site) (v : Kept) (s : State) (now : ℕ) → Shows v s
-    → ask_of site v.standing (next_held v.feeder) now ≡ ask_of site s.standing (next_of s) now
+    → inquiry_at site v.standing (next_held v.feeder) now
+    ≡ inquiry_at site s.standing (next_of s) now
 asked_so law site v s now h =
-    ap (λ (t : Standing). ask_of site t (next_held v.feeder) now) h.standing
-    ∙ ap (λ (next : Next). ask_of site s.standing next now) (next_is law v s h)
+    ap (λ (t : Standing). inquiry_at site t (next_held v.feeder) now) h.standing
+    ∙ ap (λ (next : Next). inquiry_at site s.standing next now) (next_is law v s h)
 
 asks_unless : (over : Bool) (told : Told)
     → is_some (if over then None else Some told) ≡ not over
@@ -163,10 +163,10 @@ stands_told law gives site v (Some told) s h =
       standing =
           ap
           (λ (t : Standing).
-          after_step site t (next_held v.feeder) told.moment told.answer.reply)
+          after_step site t (next_held v.feeder) told.moment (reply_in told.answer))
           h.standing
           ∙ ap
-          (λ (n : Next). after_step site s.standing n told.moment told.answer.reply)
+          (λ (n : Next). after_step site s.standing n told.moment (reply_in told.answer))
           next;
       given = g.given;
       count =
@@ -200,9 +200,9 @@ events_by law site v b reading s h =
     let told = told_now site v b reading in
     events_unless site v.door s (is_over v.standing.course) told _
     (ap
-    (λ (ask : Ask).
+    (λ (ask : Inquiry).
     record {
-      call = answer v.door reading ask wants_nothing;
+      call = call_of v.door reading ask;
       moment = told.moment;
       reply = answered told.answer;
     })

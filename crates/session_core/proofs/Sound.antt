@@ -11,7 +11,6 @@ use Rattle.isp1_tml.specs.Feeding.{StandsFor, fresh}
 use Rattle.link_model.specs.declared.call.Heard.{Heard}
 use Rattle.link_model.specs.declared.call.Heard.TheVariants.{Arrived, Nothing, Closed, Failed}
 use Rattle.station_config.specs.declared.site.Site.{Site}
-use Rattle.cltu_queue.specs.declared.book_reply.BookReply.{BookReply}
 use Rattle.session_core.specs.declared.course.Course.{Course}
 use Rattle.session_core.specs.declared.course.Course.TheVariants.{Going, Closing as ClosingWith}
 use Rattle.session_core.specs.declared.course.Course.TheVariants.{Over, LinkFailing, LinkFailed}
@@ -20,6 +19,7 @@ use Rattle.session_core.specs.declared.standing.Standing.{Standing}
 use Rattle.session_core.specs.Numbers.{communications_failure}
 use Rattle.session_core.specs.Course.{is_going, is_over, is_blocked}
 use Rattle.session_core.specs.Handling.{aborted}
+use Rattle.session_core.specs.Inquiry.{Replied, reply_in}
 use Rattle.session_core.specs.Steps.{Next, at_moment, is_idle, with_next, acted, timed, has_block}
 use Rattle.session_core.specs.Steps.{after_step, course_at_end}
 use Rattle.session_core.specs.Session.{State, Round, Told, at_first, next_by, next_of, listened}
@@ -94,7 +94,7 @@ busy_going true going e = absurd (cc)
 busy_going false true e = refl
 busy_going false false e = absurd (cc)
 
-act_going : (site : Site) (s : Standing) (next : Next) (reply : BookReply)
+act_going : (site : Site) (s : Standing) (next : Next) (reply : Replied)
     → is_going (acted site s next reply).course ≡ true → is_going s.course ≡ true
 act_going site s next reply =
     act_by (is_idle s) s (with_next site s next reply)
@@ -102,7 +102,7 @@ act_going site s next reply =
 
 -- a fault ends the session
 no_fault : (site : Site) (s : Standing) (o : Option TmlFault) (m : Option Content)
-    (reply : BookReply) → is_blocked s.arrival ≡ false
+    (reply : Replied) → is_blocked s.arrival ≡ false
     → is_going (acted site s (next_by o m) reply).course ≡ true → o ≡ None
 no_fault site s None m reply free e = refl
 no_fault site s (Some fault) m reply free e =
@@ -118,7 +118,7 @@ no_fault site s (Some fault) m reply free e =
 
 -- ---- a round
 
-step_going : (site : Site) (s : Standing) (next : Next) (now : ℕ) (reply : BookReply)
+step_going : (site : Site) (s : Standing) (next : Next) (now : ℕ) (reply : Replied)
     → is_going (after_step site s next now reply).course ≡ true
     → is_going (acted site (at_moment s now) next reply).course ≡ true
 step_going site s next now reply e =
@@ -142,20 +142,21 @@ sound_step : (site : Site) (s : State) (waited : Option Offer) (heard : Option H
     → (reading 0 (listened s waited heard).came).fault ≡ None
 sound_step site s waited heard told sound e =
     let t = listened s waited heard in
-    let going = step_going site t.standing (next_of t) told.moment told.answer.reply e in
+    let going = step_going site t.standing (next_of t) told.moment (reply_in told.answer) e in
     sound_heard s.came heard
     (sound
     (listen_going s waited heard
-    (act_going site (at_moment t.standing told.moment) (next_of t) told.answer.reply going)))
+    (act_going site (at_moment t.standing told.moment) (next_of t) (reply_in told.answer) going)))
     (λ octets arrived.
     let u = listened s waited (Some (Arrived octets)) in
     no_fault site (at_moment u.standing told.moment) (reading 0 u.came).fault _
-    told.answer.reply refl
+    (reply_in told.answer) refl
     (sym
     (ap
     (λ (h : Option Heard).
     let v = listened s waited h in
-    is_going (acted site (at_moment v.standing told.moment) (next_of v) told.answer.reply).course)
+    is_going
+    (acted site (at_moment v.standing told.moment) (next_of v) (reply_in told.answer)).course)
     arrived)
     ∙ going))
 

@@ -28,6 +28,11 @@ abbrev pub is_spent : Course → Bool
 is_spent Spent = true
 is_spent _ = false
 
+-- it goes on, closes, or has ended by no fault of its link
+abbrev pub is_plain : Course → Bool
+is_plain (Over _) = true
+is_plain course = is_live course
+
 abbrev pub is_blocked : Arrival → Bool
 is_blocked Blocked = true
 is_blocked _ = false

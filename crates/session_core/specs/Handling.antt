@@ -28,11 +28,12 @@ use Rattle.session_core.specs.declared.ended.Ended.{Ended}
 use Rattle.session_core.specs.declared.ended.Ended.TheVariants as ended
 use Rattle.session_core.specs.declared.standing.Standing.{Standing}
 use Rattle.session_core.specs.Numbers.{other_reason, access_denied, already_bound}
+use Rattle.session_core.specs.Inquiry.{Inquiry, only_asks, Replied}
 use Rattle.session_core.specs.Message.{Said, context, bind, unbind, peer_abort, invocation}
 use Rattle.session_core.specs.Message.{kind_of}
 use Rattle.session_core.specs.Service.{invocation_ask, with_invocation}
 use Rattle.session_core.specs.Returns.{own_credentials, number_after, bind_return_message}
-use Rattle.session_core.specs.Returns.{unbind_return_message}
+use Rattle.session_core.specs.Returns.{unbind_return_message, with_return}
 
 -- ---- ends
 
@@ -61,15 +62,15 @@ bind_ask (Ok place) = ask.Bind place
 bind_ask (Err fault) = ask.Nothing
 
 -- A BIND that is refused asks nothing, and no more does a message that doesn't pass.
-abbrev pub passed_ask : Site → Said → Ask
-passed_ask site (bind b) = bind_ask (bind_judged site b)
-passed_ask site (unbind u) = ask.Unbind
+abbrev pub passed_ask : Site → Said → Inquiry
+passed_ask site (bind b) = only_asks (bind_ask (bind_judged site b))
+passed_ask site (unbind u) = only_asks ask.Unbind
 passed_ask site (invocation i) = invocation_ask i
-passed_ask site _ = ask.Nothing
+passed_ask site _ = only_asks ask.Nothing
 
-abbrev pub said_ask : Site → Said → Step → Ask
+abbrev pub said_ask : Site → Said → Step → Inquiry
 said_ask site said Pass = passed_ask site said
-said_ask site said _ = ask.Nothing
+said_ask site said _ = only_asks ask.Nothing
 
 -- ---- a context
 
@@ -145,28 +146,25 @@ with_denial site s =
 -- the session ends once the return was taken
 abbrev pub with_unbind : Site → Standing → Standing
 with_unbind site s =
-    let peer : Option Peer = sender site.peers s.association kind.unbind [] in
-    record s {
+    record (with_return site s kind.unbind unbind_return_message) {
       association = moved s.association outcome.Unbound;
       course = Closing ended.Unbound;
-      numbers = number_after peer kind.unbind s.numbers;
-      block = unbind_return_message (own_credentials site peer kind.unbind s.numbers s.moment);
     }
 
 -- ---- what a message leads to
 
-abbrev pub after_passing : Site → Standing → Said → BookReply → Standing
-after_passing site s (context interval factor) reply = with_context site s interval factor
-after_passing site s (bind b) reply = with_bind site s b reply
-after_passing site s (unbind u) reply = with_unbind site s
-after_passing site s (peer_abort diagnostic) reply = ended_by s (ended.PeerAborted diagnostic)
-after_passing site s (invocation i) reply = with_invocation site s i reply
-after_passing site s _ reply = s
+abbrev pub after_passing : Site → Standing → Said → Replied → Standing
+after_passing site s (context interval factor) r = with_context site s interval factor
+after_passing site s (bind b) r = with_bind site s b r.reply
+after_passing site s (unbind u) r = with_unbind site s
+after_passing site s (peer_abort diagnostic) r = ended_by s (ended.PeerAborted diagnostic)
+after_passing site s (invocation i) r = with_invocation site s i r
+after_passing site s _ r = s
 
-abbrev pub concluded : Site → Standing → Said → Step → BookReply → Standing
-concluded site s said Pass reply = after_passing site s said reply
-concluded site s said Denied reply = with_denial site s
-concluded site s said (Abort diagnostic) reply = aborted s diagnostic
+abbrev pub concluded : Site → Standing → Said → Step → Replied → Standing
+concluded site s said Pass r = after_passing site s said r
+concluded site s said Denied r = with_denial site s
+concluded site s said (Abort diagnostic) r = aborted s diagnostic
 
 abbrev pub is_lost : BookReply → Bool
 is_lost Lost = true
@@ -178,9 +176,9 @@ invoked s said step =
     record s { association = after_step s.association (kind_of said) step }
 
 -- a message that was judged so leads to this, where the book replied so
-abbrev pub after_judged : Site → Standing → Said → Step → BookReply → Standing
-after_judged site s said step reply =
-    if is_lost reply then aborted s other_reason else concluded site s said step reply
+abbrev pub after_judged : Site → Standing → Said → Step → Replied → Standing
+after_judged site s said step r =
+    if is_lost r.reply then aborted s other_reason else concluded site s said step r
 
-abbrev pub after_message : Site → Standing → Said → Step → BookReply → Standing
-after_message site s said step reply = after_judged site (invoked s said step) said step reply
+abbrev pub after_message : Site → Standing → Said → Step → Replied → Standing
+after_message site s said step r = after_judged site (invoked s said step) said step r

@@ -9,17 +9,15 @@ use Rattle.isp1_tml.specs.Feeding.{next_of as next_held, after_next as after_giv
 use Rattle.link_model.specs.declared.call.Call.{Call}
 use Rattle.link_model.specs.declared.call.Heard.{Heard}
 use Rattle.link_model.specs.Calls.{Tells}
-use Rattle.archive_terms.specs.Glimpse.{wants_nothing}
 use Rattle.station_config.specs.declared.site.Site.{Site}
-use Rattle.cltu_queue.specs.declared.ask.Ask.{Ask}
-use Rattle.cltu_queue.specs.declared.book_reply.BookReply.{BookReply}
-use Rattle.station_book.specs.State.{Event, answer}
+use Rattle.station_book.specs.State.{Event}
 use Rattle.station_book.specs.State as book
-use Rattle.station_book.specs.History.{moment_at, answer_to, event_at, after, reply_of}
+use Rattle.station_book.specs.History.{moment_at, event_at, after}
 use Rattle.session_core.specs.declared.standing.Standing.{Standing}
 use Rattle.session_core.specs.Course.{is_going, is_over}
+use Rattle.session_core.specs.Inquiry.{Inquiry, call_of, answer_of, Replied, reply_in}
 use Rattle.session_core.specs.Numbers.{longest_piece}
-use Rattle.session_core.specs.Steps.{round_begun, waits, may_poll, is_idle, ask_of, after_step}
+use Rattle.session_core.specs.Steps.{round_begun, waits, may_poll, is_idle, inquiry_at, after_step}
 use Rattle.session_core.specs.Steps.{may_speak}
 use Rattle.session_core.specs.Session.{State, Told, IsHeard, Listens, Speaks, offer_calls}
 use Rattle.session_core.specs.Session.{poll_calls}
@@ -89,9 +87,9 @@ pub record Listened (before after : Option (List Call)) (old new : Kept) : Type 
 
 -- ---- step
 
--- what it asks of a book at a reading
-abbrev pub asked : Site → Kept → book.State → ℕ → Ask
-asked site v b reading = ask_of site v.standing (next_held v.feeder) (moment_at b reading)
+-- what it asks of a book at a reading, and wants of a look
+abbrev pub asked : Site → Kept → book.State → ℕ → Inquiry
+asked site v b reading = inquiry_at site v.standing (next_held v.feeder) (moment_at b reading)
 
 -- what the book tells it
 abbrev pub told_now : Site → Kept → book.State → ℕ → Told
@@ -99,7 +97,7 @@ told_now site v b reading =
     record {
       reading = reading;
       moment = moment_at b reading;
-      answer = answer_to b v.door (moment_at b reading) (asked site v b reading) wants_nothing;
+      answer = answer_of b v.door (moment_at b reading) (asked site v b reading);
     }
 
 abbrev pub told_by : Site → Kept → book.State → ℕ → Option Told
@@ -110,13 +108,13 @@ told_by site v b reading =
 abbrev pub own_events : Site → Kept → book.State → ℕ → List Event
 own_events site v b reading =
     if is_over v.standing.course then []
-    else event_at b (answer v.door reading (asked site v b reading) wants_nothing) ∷ []
+    else event_at b (call_of v.door reading (asked site v b reading)) ∷ []
 
 -- At a reading the session of a door asked a book this, and stands so by the reply.
 pub record Acts (door reading : ℕ) (book_before book_after : book.State) (old new : Standing)
-    (ask : Ask) (led : BookReply → Standing) : Type 0 where
-  pub book : book_after ≡ after book_before (answer door reading ask wants_nothing)
-  pub standing : new ≡ led (reply_of book_before door old.moment ask)
+    (ask : Inquiry) (led : Replied → Standing) : Type 0 where
+  pub book : book_after ≡ after book_before (call_of door reading ask)
+  pub standing : new ≡ led (reply_in (answer_of book_before door old.moment ask))
 
 -- a message is given, unless the round is idle
 abbrev pub feeder_after : Standing → Feeding → Feeding
@@ -129,7 +127,7 @@ kept_after site v (Some told) =
     record v {
       feeder = feeder_after v.standing v.feeder;
       standing =
-          after_step site v.standing (next_held v.feeder) told.moment told.answer.reply;
+          after_step site v.standing (next_held v.feeder) told.moment (reply_in told.answer);
     }
 
 -- ---- speak

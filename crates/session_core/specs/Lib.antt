@@ -1,5 +1,6 @@
 pub mod Numbers
 pub mod Course
+pub mod Inquiry
 pub mod Service
 pub mod Message
 pub mod Seen

@@ -1,8 +1,10 @@
--- The returns of association, as messages of the transport, with this provider's credentials
--- (CCSDS 911.1-B, annex A; CCSDS 913.1-B). Which of them carry credentials is this product's own.
-use Rattle.std.specs.Prelude.{◌≡◌, ℕ, ℤ, List, Option, Some, None, Result, if◌then◌else◌}
+-- The returns, as messages of the transport, with this provider's credentials (CCSDS 911.1-B, annex
+-- A; CCSDS 913.1-B). Which of them carry credentials is this product's own.
+use Rattle.std.specs.Prelude.{◌≡◌, ℕ, ℤ, Bool, nat_le, List, Option, Some, None, Result}
+use Rattle.std.specs.Prelude.{option_and_then, option_map, slice_get, if◌then◌else◌}
 use Rattle.ber_core.specs.Spelling.{canonical}
 use Rattle.cds_time.specs.Moment.{octets_of, in_micros}
+use Rattle.ber_shape.specs.Element.{Element}
 use Rattle.isp1_tml.specs.Message.{pdu, spelling}
 use Rattle.isp1_auth.specs.declared.secret.Secret.{Secret}
 use Rattle.isp1_auth.specs.Numbers.{next_number}
@@ -11,8 +13,11 @@ use Rattle.bind_pdu.specs.Binding.{bind_return}
 use Rattle.bind_pdu.specs.Unbinding.{unbind_return}
 use Rattle.station_config.specs.declared.peer.Peer.{Peer}
 use Rattle.station_config.specs.declared.site.Site.{Site}
+use Rattle.assoc_core.specs.declared.state.State.{State}
 use Rattle.assoc_core.specs.Access.{is_asked, lent, secret_of}
 use Rattle.assoc_core.specs.Kind.{Kind}
+use Rattle.assoc_core.specs.State.{binding_of}
+use Rattle.session_core.specs.declared.standing.Standing.{Standing}
 
 -- what this provider's credentials to a peer are made of: its own name and password, and the
 -- peer's hash function
@@ -34,19 +39,46 @@ number_after None k number = number
 number_after (Some peer) k number =
     if is_asked peer.level k then next_number number else number
 
+-- the peer at a place, and the place of the peer that is bound
+abbrev pub peer_at : List Peer → Option ℕ → Option Peer
+peer_at peers place = option_and_then (λ place. slice_get peers place) place
+
+abbrev pub bound_place : State → Option ℕ
+bound_place state = option_map (λ binding. binding.peer) (binding_of state)
+
+-- the peer that is bound, which sends all that comes behind its BIND
+abbrev pub bound_peer : Site → Standing → Option Peer
+bound_peer site s = peer_at site.peers (bound_place s.association)
+
+-- ---- messages
+
+-- a return as a message
+abbrev pub return_message : {X : Type 0} → Element X → X → List ℕ
+return_message element content = spelling (pdu (canonical (element.tree content)))
+
+-- whether a block has room for each of them
+abbrev pub is_short : {X : Type 0} → Element X → Bool
+is_short element = nat_le element.most 4088
+
+-- What the bound peer invoked is answered: its return, with this provider's credentials, is the
+-- round's block.
+abbrev pub with_return : Site → Standing → Kind → (Option (List ℕ) → List ℕ) → Standing
+with_return site s k message =
+    record s {
+      numbers = number_after (bound_peer site s) k s.numbers;
+      block = message (own_credentials site (bound_peer site s) k s.numbers s.moment);
+    }
+
 -- the return of BIND: the version, or why there is none
 abbrev pub bind_return_message : Site → Option (List ℕ) → Result ℤ ℤ → List ℕ
 bind_return_message site credentials result =
-    spelling
-    (pdu
-    (canonical
-    (bind_return.tree
-    (record { credentials = credentials; responder = site.provider; result = result }))))
+    return_message bind_return
+    (record { credentials = credentials; responder = site.provider; result = result })
 
 -- the return of UNBIND
 abbrev pub unbind_return_message : Option (List ℕ) → List ℕ
 unbind_return_message credentials =
-    spelling (pdu (canonical (unbind_return.tree (record { credentials = credentials }))))
+    return_message unbind_return (record { credentials = credentials })
 
 -- a secret with just these octets, wherever they stand
 pub record IsOwnSecret (site : Site) (peer : Peer) (secret : Secret) : Type 0 where

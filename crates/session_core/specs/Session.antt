@@ -14,10 +14,9 @@ use Rattle.link_model.specs.declared.call.Call.{Call}
 use Rattle.link_model.specs.declared.call.Call.TheVariants.{Polled, Offered}
 use Rattle.link_model.specs.declared.call.Heard.{Heard}
 use Rattle.link_model.specs.declared.call.Heard.TheVariants.{Arrived}
-use Rattle.archive_terms.specs.Glimpse.{wants_nothing}
 use Rattle.station_config.specs.declared.site.Site.{Site}
 use Rattle.assoc_core.specs.declared.state.State.TheVariants.{Opening}
-use Rattle.station_book.specs.State.{Answer, Event, answer, answered}
+use Rattle.station_book.specs.State.{Answer, Event, answered}
 use Rattle.session_core.specs.declared.arrival.Arrival.TheVariants.{Nothing}
 use Rattle.session_core.specs.declared.course.Course.{Course}
 use Rattle.session_core.specs.declared.course.Course.TheVariants.{Going, Over, LinkFailing}
@@ -27,8 +26,9 @@ use Rattle.session_core.specs.declared.spoken.Spoken.TheVariants as spoken
 use Rattle.session_core.specs.declared.standing.Standing.{Standing}
 use Rattle.session_core.specs.Numbers.{longest_piece}
 use Rattle.session_core.specs.Course.{is_over}
+use Rattle.session_core.specs.Inquiry.{call_of, reply_in}
 use Rattle.session_core.specs.Steps.{Next, round_begun, waits, after_wait, may_poll, after_poll}
-use Rattle.session_core.specs.Steps.{handles, ask_of, after_step, may_speak, after_offer}
+use Rattle.session_core.specs.Steps.{handles, inquiry_at, after_step, may_speak, after_offer}
 use Rattle.session_core.specs.Steps.{round_ended}
 
 -- all the octets that arrived, how many messages of them were handled, and how the session stands
@@ -166,20 +166,18 @@ stepped site s (Some told) =
     record {
       came = s.came;
       handled = counted (handles s.standing (next_of s)) s.handled;
-      standing = after_step site s.standing (next_of s) told.moment told.answer.reply;
+      standing = after_step site s.standing (next_of s) told.moment (reply_in told.answer);
     }
 
 -- a session that hasn't ended asks the book once
 abbrev pub Asks : State → Option Told → Type 0
 Asks s told = is_some told ≡ not (is_over s.standing.course)
 
--- the answer event of a door's session; it wants nothing of a look, as long as it has no delivery
+-- the answer event of a door's session
 abbrev pub event_of : Site → ℕ → State → Told → Event
 event_of site door s told =
     record {
-      call =
-          answer door told.reading (ask_of site s.standing (next_of s) told.moment)
-          wants_nothing;
+      call = call_of door told.reading (inquiry_at site s.standing (next_of s) told.moment);
       moment = told.moment;
       reply = answered told.answer;
     }

@@ -13,7 +13,6 @@ use Rattle.station_config.specs.declared.service.Service.{Service}
 use Rattle.station_config.specs.declared.site.Site.{Site}
 use Rattle.cltu_queue.specs.declared.ask.Ask.{Ask}
 use Rattle.cltu_queue.specs.declared.ask.Ask.TheVariants as ask
-use Rattle.cltu_queue.specs.declared.book_reply.BookReply.{BookReply}
 use Rattle.session_core.specs.declared.arrival.Arrival.TheVariants as arrival
 use Rattle.session_core.specs.declared.course.Course.{Course}
 use Rattle.session_core.specs.declared.course.Course.TheVariants.{Closing as ClosingWith}
@@ -23,6 +22,7 @@ use Rattle.session_core.specs.declared.standing.Standing.{Standing}
 use Rattle.session_core.specs.Numbers.{communications_failure}
 use Rattle.session_core.specs.Course.{is_going, is_live, is_blocked, has_arrived}
 use Rattle.session_core.specs.Course.{has_closed}
+use Rattle.session_core.specs.Inquiry.{Inquiry, only_asks, Replied}
 use Rattle.session_core.specs.Message.{Said, said_in, judged}
 use Rattle.session_core.specs.Handling.{ended_by, aborted, said_ask, after_message}
 
@@ -90,8 +90,8 @@ abbrev pub handles : Standing → Next → Bool
 handles s next = not (is_idle s) && has_message next
 
 -- what an idle round asks: one that is blocked takes no notice
-abbrev pub idle_ask : Standing → Ask
-idle_ask s = if is_blocked s.arrival then ask.Quiet else ask.Nothing
+abbrev pub idle_ask : Standing → Inquiry
+idle_ask s = only_asks (if is_blocked s.arrival then ask.Quiet else ask.Nothing)
 
 -- the service of the instance that is bound
 abbrev pub service_of : Site → Standing → Option Service
@@ -103,33 +103,36 @@ service_of site s =
 abbrev pub said_to : Site → Standing → Content → Said
 said_to site s message = said_in (service_of site s) s.association message
 
-abbrev pub message_ask : Site → Standing → Content → ℕ → Ask
+abbrev pub message_ask : Site → Standing → Content → ℕ → Inquiry
 message_ask site s message now =
     let said = said_to site s message in
     said_ask site said (judged site s.association said now)
 
-abbrev pub next_ask : Site → Standing → Next → ℕ → Ask
+abbrev pub next_ask : Site → Standing → Next → ℕ → Inquiry
 next_ask site s (Ok (Some message)) now = message_ask site s message now
-next_ask site s _ now = ask.Nothing
+next_ask site s _ now = only_asks ask.Nothing
 
--- what a round asks the book
+-- what a round asks the book, and wants of a look
+abbrev pub inquiry_at : Site → Standing → Next → ℕ → Inquiry
+inquiry_at site s next now = if is_idle s then idle_ask s else next_ask site s next now
+
 abbrev pub ask_of : Site → Standing → Next → ℕ → Ask
-ask_of site s next now = if is_idle s then idle_ask s else next_ask site s next now
+ask_of site s next now = (inquiry_at site s next now).ask
 
-abbrev pub with_message : Site → Standing → Content → BookReply → Standing
-with_message site s message reply =
+abbrev pub with_message : Site → Standing → Content → Replied → Standing
+with_message site s message r =
     let said = said_to site s message in
-    after_message site s said (judged site s.association said s.moment) reply
+    after_message site s said (judged site s.association said s.moment) r
 
 -- the stream's fault ends the session; a close ends it once no whole message is held; else at most
 -- one message is handled
-abbrev pub with_next : Site → Standing → Next → BookReply → Standing
-with_next site s (Err fault) reply = ended_by s (Broken fault)
-with_next site s (Ok None) reply = if has_closed s.arrival then ended_by s PeerClosed else s
-with_next site s (Ok (Some message)) reply = with_message site s message reply
+abbrev pub with_next : Site → Standing → Next → Replied → Standing
+with_next site s (Err fault) r = ended_by s (Broken fault)
+with_next site s (Ok None) r = if has_closed s.arrival then ended_by s PeerClosed else s
+with_next site s (Ok (Some message)) r = with_message site s message r
 
-abbrev pub acted : Site → Standing → Next → BookReply → Standing
-acted site s next reply = if is_idle s then s else with_next site s next reply
+abbrev pub acted : Site → Standing → Next → Replied → Standing
+acted site s next r = if is_idle s then s else with_next site s next r
 
 -- ---- step: the dead timer and the heartbeat
 
@@ -156,9 +159,8 @@ with_heartbeat s =
     then record s { block = spelling heartbeat } else s
 
 -- the whole step of a session that hasn't ended, at a moment, where the book replied so
-abbrev pub after_step : Site → Standing → Next → ℕ → BookReply → Standing
-after_step site s next now reply =
-    with_heartbeat (timed (acted site (at_moment s now) next reply))
+abbrev pub after_step : Site → Standing → Next → ℕ → Replied → Standing
+after_step site s next now r = with_heartbeat (timed (acted site (at_moment s now) next r))
 
 -- ---- speak
 

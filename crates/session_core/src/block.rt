@@ -1,14 +1,11 @@
 // The block that is to be offered.
-ghost use Rattle.std.specs.Prelude.{◌≡◌, ◌==◌, [], length, IfOk};
-ghost use Rattle.ber_core.specs.Spelling.{canonical};
-ghost use Rattle.bind_pdu.specs.Binding.{bind_return};
-ghost use Rattle.bind_pdu.specs.Unbinding.{unbind_return};
-ghost use Rattle.bind_pdu.specs.Seen.{bind_return_of, unbind_return_of};
-ghost use Rattle.isp1_tml.specs.Message.{pdu, heartbeat, spelling};
+ghost use Rattle.std.specs.Prelude.{◌≡◌, ◌==◌, true, [], length, IfOk};
+ghost use Rattle.ber_shape.specs.Members.{structured};
+ghost use Rattle.isp1_tml.specs.Message.{heartbeat, spelling};
+ghost use Rattle.session_core.specs.Returns.{return_message, is_short};
 
 use ber_core::Writer;
 use ber_shape::Pdu;
-use bind_pdu::{BindReturn, UnbindReturn};
 use isp1_tml::head;
 use octet_core::Memory;
 use std::alloc::{AllocError, Global};
@@ -70,22 +67,14 @@ impl Block {
         self.writer.clear();
         self.writer.raw(&head(3, 0));
     }
-    // A return of BIND alone.
-    pub(crate) fn put_bind_return(&mut self, answer: &BindReturn<'_>)
-        requires { bind_return.Fits (bind_return_of answer.now) }
-        ensures { self.new ≡ spelling
-            (pdu (canonical (bind_return.tree (bind_return_of answer.now)))) }
-    {
-        self.writer.clear();
-        self.writer.raw(&head(1, answer.length() as u32));
-        answer.encode(&mut self.writer);
-    }
 
-    // A return of UNBIND alone.
-    pub(crate) fn put_unbind_return(&mut self, answer: &UnbindReturn<'_>)
-        requires { unbind_return.Fits (unbind_return_of answer.now) }
-        ensures { self.new ≡ spelling
-            (pdu (canonical (unbind_return.tree (unbind_return_of answer.now)))) }
+    // A return alone.
+    #[tactic(auto, using(crate::proofs::Fits::few_octets))]
+    pub(crate) fn put<'a, P: Pdu<'a>>(&mut self, answer: &P)
+        requires fits { P.Members.shape.Fits (P.Members.seen answer.now) }
+        requires short { is_short (structured P.tag P.Members.shape P.is_tag) ≡ true }
+        ensures { self.new ≡ return_message (structured P.tag P.Members.shape P.is_tag)
+            (P.Members.seen answer.now) }
     {
         self.writer.clear();
         self.writer.raw(&head(1, answer.length() as u32));

@@ -4,23 +4,27 @@ ghost use Rattle.cds_time.specs.declared.cds.TheConstants.{MOMENT_END};
 ghost use Rattle.bind_pdu.specs.Seen.{bind_of};
 ghost use Rattle.station_config.specs.Validity.{IsSite};
 ghost use Rattle.assoc_core.specs.declared.step.Step.TheVariants.{Pass};
+ghost use Rattle.assoc_core.specs.Kind.{kind_of};
 ghost use Rattle.session_core.specs.Returns.{own_credentials, number_after};
+ghost use Rattle.session_core.specs.Returns.{peer_at, bound_place, bound_peer};
 ghost use Rattle.session_core.specs.Handling.{is_from, is_agreed, with_context, with_bind};
 ghost use Rattle.session_core.specs.Handling.{with_denial, with_unbind, after_passing};
 ghost use Rattle.session_core.specs.Handling.{invoked, after_judged};
+ghost use Rattle.session_core.specs.Inquiry.{inquiry_of, replied_of};
 ghost use Rattle.session_core.specs.Message.{judged};
 ghost use Rattle.session_core.specs.Steps.{service_of};
-ghost use Rattle.session_core.specs.Seen.{said_of, kind_answered, places_of_bind, places_of};
-ghost use Rattle.session_core.specs.Seen.{ask_by, peer_at, bound_place};
+ghost use Rattle.session_core.specs.Seen.{said_of, places_of_bind, places_of, ask_by};
 
 use crate::bind_places::BindPlaces;
 use crate::course::Course;
 use crate::ended::Ended;
+use crate::inquiry::Inquiry;
+use crate::replied::Replied;
 use crate::returns::{bind_outcome, bind_result, bind_return, place_bound, unbind_return};
-use crate::signature::{Answered, Signature};
+use crate::signature::{Signature, is_asked};
 use crate::standing::Standing;
 use crate::user_message::UserMessage;
-use assoc_core::{Outcome, Step};
+use assoc_core::{Outcome, PduKind, Step};
 use bind_pdu::Bind;
 use station_book::{Ask, BookReply};
 use station_config::{Peer, Service, Site};
@@ -32,18 +36,18 @@ const OTHER_REASON: u8 = 127;
 // The diagnostic of a BIND that is denied (CCSDS 911.1-B, annex A).
 const ACCESS_DENIED: u8 = 0;
 
-// What a message that was judged so asks the book.
-pub(crate) fn said_ask(said: &UserMessage<'_>, step: Step, places: BindPlaces) -> Ask
-    ensures { result ≡ ask_by (said_of said.now) step places.instance }
+// What a message that was judged so asks the book, and wants of a look.
+pub(crate) fn said_ask(said: &UserMessage<'_>, step: Step, places: BindPlaces) -> Inquiry
+    ensures { inquiry_of result ≡ ask_by (said_of said.now) step places.instance }
 {
     if step != Step::Pass {
-        return Ask::Nothing;
+        return Inquiry::of(Ask::Nothing);
     }
     match (said, places.instance) {
-        (UserMessage::Bind(_), Ok(instance)) => Ask::Bind { instance },
-        (UserMessage::Unbind(_), _) => Ask::Unbind,
+        (UserMessage::Bind(_), Ok(instance)) => Inquiry::of(Ask::Bind { instance }),
+        (UserMessage::Unbind(_), _) => Inquiry::of(Ask::Unbind),
         (UserMessage::Service(invocation), _) => invocation.ask(),
-        _ => Ask::Nothing,
+        _ => Inquiry::of(Ask::Nothing),
     }
 }
 
@@ -89,22 +93,43 @@ impl Standing {
     }
 
     // This provider's credentials for a return, where the peer's level asks for them.
-    fn sign(&mut self, site: &Site, peer: Option<&Peer>, answered: Answered) -> Option<Signature>
+    fn sign(&mut self, site: &Site, peer: Option<&Peer>, kind: PduKind<'_>) -> Option<Signature>
         requires { self.old.moment < MOMENT_END }
         ensures made { result ≡ own_credentials site.now (option_copied peer.entry)
-            (kind_answered answered) self.old.numbers self.old.moment }
+            (kind_of kind.entry) self.old.numbers self.old.moment }
         ensures numbers { self.new ≡ record self.old {
           numbers =
-              number_after (option_copied peer.entry) (kind_answered answered)
-              self.old.numbers;
+              number_after (option_copied peer.entry) (kind_of kind.entry) self.old.numbers;
         } }
     {
         let peer = peer?;
-        if !answered.is_asked(peer.level) {
+        if !is_asked(peer.level, kind) {
             return None;
         }
         let number = self.numbers.next_number();
         Some(Signature::of(site, peer, self.moment, number))
+    }
+
+    // The place of the peer that is bound.
+    fn bound_place(&self) -> Option<u32>
+        ensures { result ≡ bound_place self.now.association }
+    {
+        Some(self.association.state().binding()?.peer)
+    }
+
+    // This provider's credentials for the return of what the bound peer invoked.
+    pub(crate) fn sign_bound(&mut self, site: &Site, kind: PduKind<'_>) -> Option<Signature>
+        requires { self.old.moment < MOMENT_END }
+        ensures made { result ≡ own_credentials site.now (bound_peer site.now self.old)
+            (kind_of kind.entry) self.old.numbers self.old.moment }
+        ensures numbers { self.new ≡ record self.old {
+          numbers =
+              number_after (bound_peer site.now self.old) (kind_of kind.entry)
+              self.old.numbers;
+        } }
+    {
+        let peer = peer_at(site, self.bound_place());
+        self.sign(site, peer, kind)
     }
 
     // A context was taken, or its numbers are out of the site's range.
@@ -127,12 +152,14 @@ impl Standing {
         requires places { places ≡ places_of_bind site.now (bind_of bind.now) }
         ensures { self.new ≡ with_bind site.now self.old (bind_of bind.now) reply }
     {
-        let signature = self.sign(site, peer_at(site, places.peer), Answered::Bind);
+        let kind = PduKind::Bind {
+            initiator: bind.initiator,
+        };
+        let signature = self.sign(site, peer_at(site, places.peer), kind);
         let bound = bind_result(bind, places, reply);
         self.association.moved(bind_outcome(site, places, reply));
         self.bound = place_bound(places, reply);
-        self.block
-            .put_bind_return(&bind_return(site, &signature, bound));
+        self.block.put(&bind_return(site, &signature, bound));
     }
 
     // A BIND with failing credentials is answered without any.
@@ -142,14 +169,7 @@ impl Standing {
     {
         self.course = Course::Closing(Ended::Denied);
         self.block
-            .put_bind_return(&bind_return(site, &None, Err(ACCESS_DENIED)));
-    }
-
-    // The place of the peer that is bound.
-    fn bound_peer(&self) -> Option<u32>
-        ensures { result ≡ bound_place self.now.association }
-    {
-        Some(self.association.state().binding()?.peer)
+            .put(&bind_return(site, &None, Err(ACCESS_DENIED)));
     }
 
     // An UNBIND that passed is answered.
@@ -157,31 +177,31 @@ impl Standing {
         requires { self.old.moment < MOMENT_END }
         ensures { self.new ≡ with_unbind site.now self.old }
     {
-        let peer = peer_at(site, self.bound_peer());
-        let signature = self.sign(site, peer, Answered::Unbind);
+        let signature = self.sign_bound(site, PduKind::Unbind);
         self.association.moved(Outcome::Unbound);
         self.course = Course::Closing(Ended::Unbound);
-        self.block.put_unbind_return(&unbind_return(&signature));
+        self.block.put(&unbind_return(&signature));
     }
 
     // A message that passed leads to this, where the book replied so.
-    fn pass(&mut self, site: &Site, said: &UserMessage<'_>, places: BindPlaces, reply: BookReply)
+    fn pass(&mut self, site: &Site, said: &UserMessage<'_>, places: BindPlaces, replied: &Replied)
         requires site { IsSite site.now }
         requires moment { self.old.moment < MOMENT_END }
         requires places { places ≡ places_of site.now (said_of said.now) Pass }
-        ensures { self.new ≡ after_passing site.now self.old (said_of said.now) reply }
+        ensures { self.new ≡ after_passing site.now self.old (said_of said.now)
+            (replied_of replied.now) }
     {
         match said {
             UserMessage::Context { interval, factor } => {
                 self.take_context(site, *interval, *factor);
             }
-            UserMessage::Bind(bind) => self.answer_bind(site, bind, places, reply),
+            UserMessage::Bind(bind) => self.answer_bind(site, bind, places, replied.reply),
             UserMessage::Unbind(_) => self.answer_unbind(site),
             UserMessage::PeerAbort(abort) => {
                 let diagnostic = abort.diagnostic;
                 self.end(Ended::PeerAborted { diagnostic });
             }
-            UserMessage::Service(invocation) => invocation.conclude(self, site, reply),
+            UserMessage::Service(invocation) => invocation.conclude(self, site, replied),
             UserMessage::Heartbeat | UserMessage::Undecoded | UserMessage::OutOfPlace => {}
         }
     }
@@ -193,19 +213,20 @@ impl Standing {
         said: &UserMessage<'_>,
         step: Step,
         places: BindPlaces,
-        reply: BookReply,
+        replied: &Replied,
     )
         requires site { IsSite site.now }
         requires moment { self.old.moment < MOMENT_END }
         requires places { places ≡ places_of site.now (said_of said.now) step }
-        ensures { self.new ≡ after_judged site.now self.old (said_of said.now) step reply }
+        ensures { self.new ≡ after_judged site.now self.old (said_of said.now) step
+            (replied_of replied.now) }
     {
-        if reply == BookReply::Lost {
+        if replied.reply == BookReply::Lost {
             self.abort(OTHER_REASON);
             return;
         }
         match step {
-            Step::Pass => self.pass(site, said, places, reply),
+            Step::Pass => self.pass(site, said, places, replied),
             Step::Denied => self.deny(site),
             Step::Abort { diagnostic } => self.abort(diagnostic),
         }

@@ -1,20 +1,27 @@
 // What a bound user says to its service.
 //
 // This is the one place at which the services meet a session: what their PDUs say, what kind of
-// message that is, whose credentials it has, what it asks of the book, and what it leads to. A
-// service that is built has its variants of `Invocation` and its arms in the functions of this
-// file, and the same in `specs/Service.antt`. None is built yet.
-ghost use Rattle.std.specs.Prelude.{◌≡◌, []};
+// message that is, whose credentials it has, what it asks of the book and wants of a look, and what
+// it leads to. A service that is built has its variants of `Invocation` and its arms in the
+// functions of this file, the same in `specs/Service.antt`, and a line for each in
+// `proofs/Invocations.antt`. Its returns are signed by `Standing::sign_bound` and become the block
+// by `Block::put`. None is built yet.
+ghost use Rattle.std.specs.Prelude.{◌≡◌, ◌<◌, []};
+ghost use Rattle.cds_time.specs.declared.cds.TheConstants.{MOMENT_END};
 ghost use Rattle.sle_common.specs.Credentials.{credentials_of as octets_of};
+ghost use Rattle.station_config.specs.Validity.{IsSite};
 ghost use Rattle.assoc_core.specs.Kind.{kind_of, initiator_of};
+ghost use Rattle.session_core.specs.Inquiry.{inquiry_of, replied_of};
 ghost use Rattle.session_core.specs.Service.{invocation_in, invocation_kind};
 ghost use Rattle.session_core.specs.Service.{invocation_credentials, invocation_ask};
 ghost use Rattle.session_core.specs.Service.{with_invocation, invocation_of};
 
+use crate::inquiry::Inquiry;
+use crate::replied::Replied;
 use crate::standing::Standing;
 use assoc_core::PduKind;
 use sle_common::Credentials;
-use station_book::{Ask, BookReply};
+use station_book::Ask;
 use station_config::{Service, Site};
 
 // What a bound user says to its service.
@@ -55,19 +62,21 @@ impl<'a> Invocation<'a> {
         }
     }
 
-    // What it asks the book, where it passes.
-    pub(crate) fn ask(&self) -> Ask
-        ensures { result ≡ invocation_ask (invocation_of self.now) }
+    // What it asks the book and wants of a look, where it passes.
+    pub(crate) fn ask(&self) -> Inquiry
+        ensures { inquiry_of result ≡ invocation_ask (invocation_of self.now) }
     {
         match self {
-            Invocation::Undecoded(_) => Ask::Nothing,
+            Invocation::Undecoded(_) => Inquiry::of(Ask::Nothing),
         }
     }
 
     // It passed, and leads to this where the book replied so.
-    pub(crate) fn conclude(&self, standing: &mut Standing, site: &Site, reply: BookReply)
+    pub(crate) fn conclude(&self, standing: &mut Standing, site: &Site, replied: &Replied)
+        requires site { IsSite site.now }
+        requires moment { standing.old.moment < MOMENT_END }
         ensures { standing.new ≡ with_invocation site.now standing.old
-            (invocation_of self.now) reply }
+            (invocation_of self.now) (replied_of replied.now) }
     {
         match self {
             Invocation::Undecoded(_) => {}

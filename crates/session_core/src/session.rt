@@ -1,18 +1,16 @@
 // A session.
-ghost use Rattle.std.specs.Prelude.{◌≡◌, ◌<◌, ◌≤◌, List, [], ◌++◌, IfOk, OnOk, OnErr, Ok, Some};
-ghost use Rattle.std.specs.Prelude.{◌∷◌, length, vec_len, true, false, not, ◌&&◌, IsTrue, IsFalse};
+ghost use Rattle.std.specs.Prelude.{◌≡◌, ◌<◌, [], IfOk, OnOk, OnErr, Ok, Some};
+ghost use Rattle.std.specs.Prelude.{◌∷◌, length, vec_len, false, not, ◌&&◌, IsTrue, IsFalse};
 ghost use Rattle.cds_time.specs.declared.cds.TheConstants.{MOMENT_END};
 ghost use Rattle.isp1_tml.specs.Feeding.{next_of as next_held, after_next as after_given};
 ghost use Rattle.isp1_tml.specs.Feeding.{fresh};
 ghost use Rattle.isp1_tml.specs.Given.{content_of};
-ghost use Rattle.link_model.specs.declared.call.Call.{Call};
 ghost use Rattle.link_model.specs.declared.call.Call.TheVariants.{Offered};
 ghost use Rattle.link_model.specs.Calls.{Tells};
 ghost use Rattle.link_model.specs.Counts.{CountsWhere, offer_failed, offer_stalled};
-ghost use Rattle.archive_terms.specs.Glimpse.{wants_nothing};
 ghost use Rattle.station_config.specs.Validity.{IsSite};
-ghost use Rattle.station_book.specs.State.{Event, answer};
-ghost use Rattle.station_book.specs.History.{after, reply_of, moment_at, replay};
+ghost use Rattle.station_book.specs.History.{after, moment_at, replay};
+ghost use Rattle.session_core.specs.Inquiry.{call_of, answer_of, reply_in, inquiry_of, replied_of};
 ghost use Rattle.session_core.specs.Kept.{Waited, PolledOnce, Hears, Said};
 ghost use Rattle.session_core.specs.Kept.{feeder_after, asked, told_now, told_by, kept_after};
 ghost use Rattle.session_core.specs.Kept.{own_events, Acts};
@@ -23,7 +21,7 @@ ghost use Rattle.session_core.specs.Outcome.{is_blocked, has_waiting, StallsOnce
 ghost use Rattle.session_core.specs.Outcome.{Repeats};
 ghost use Rattle.session_core.specs.Course.{is_going};
 ghost use Rattle.session_core.specs.Session.{spoken_of, is_end, is_fault};
-ghost use Rattle.session_core.specs.Steps.{has_message, ask_of, acted};
+ghost use Rattle.session_core.specs.Steps.{has_message, inquiry_at, acted};
 ghost use Rattle.session_core.specs.Steps.{message_ask, with_message, idle_ask, next_ask};
 ghost use Rattle.session_core.specs.Steps.{with_next};
 ghost use Rattle.session_core.specs.declared.spoken.Spoken.TheVariants.{Going};
@@ -34,15 +32,16 @@ use crate::block::Block;
 use crate::course::Course;
 use crate::ended::Ended;
 use crate::handling::said_ask;
+use crate::inquiry::Inquiry;
+use crate::replied::Replied;
 use crate::spoken::Spoken;
 use crate::standing::Standing;
 use crate::user_message::UserMessage;
 use ber_core::laws as octets;
-use frame_select::Want;
 use isp1_tml::{Feeder, Message, laws};
 use link_model::{Link, Poll};
 use octet_core::{Memory, Offer};
-use station_book::{Ask, Book, BookReply};
+use station_book::{Ask, Book};
 use station_config::Site;
 use std::alloc::Global;
 use std::marker::Model;
@@ -208,17 +207,18 @@ impl Session {
     }
 }
 
-// Asks the book once, and wants nothing of a look.
-fn ask_book(book: &mut Book, door: u32, reading: u128, ask: &Ask) -> Result<BookReply, Memory>
+// Asks the book once.
+fn ask_book(book: &mut Book, door: u32, reading: u128, inquiry: &Inquiry) -> Result<Replied, Memory>
     requires { reading < MOMENT_END }
     ensures after { OnOk result (book.new
-        ≡ after book.old (answer door reading ask.now wants_nothing)) }
-    ensures reply { IfOk result (λ reply.
-        reply ≡ reply_of book.old door (moment_at book.old reading) ask.now) }
+        ≡ after book.old (call_of door reading (inquiry_of inquiry.now))) }
+    ensures reply { IfOk result (λ told. replied_of told
+        ≡ reply_in (answer_of book.old door (moment_at book.old reading)
+        (inquiry_of inquiry.now))) }
     ensures err { OnErr result (book.new ≡ book.old) }
 {
-    let (reply, _, _) = book.answer(door, reading, ask, &Want::Nothing)?;
-    Ok(reply)
+    let (reply, glimpse, _) = book.answer(door, reading, &inquiry.ask, &inquiry.want)?;
+    Ok(Replied { reply, glimpse })
 }
 
 // Whose step it is, and the reading of the clock at which it asks.
@@ -257,19 +257,19 @@ fn handle(
     let step = standing.judge(site, &said);
     let places = places_of(site, &said, step);
     let reply = ask_book(book, door, reading, &said_ask(&said, step, places))?;
-    standing.conclude(site, &said, step, places, reply);
+    standing.conclude(site, &said, step, places, &reply);
     Ok(())
 }
 
 // What an idle round asks.
-fn idle_ask(standing: &Standing) -> Ask
-    ensures { result ≡ idle_ask standing.now }
+fn idle_ask(standing: &Standing) -> Inquiry
+    ensures { inquiry_of result ≡ idle_ask standing.now }
 {
-    if standing.is_blocked() {
+    Inquiry::of(if standing.is_blocked() {
         Ask::Quiet
     } else {
         Ask::Nothing
-    }
+    })
 }
 
 // Handles the next message, if there is one.
@@ -292,11 +292,21 @@ fn take_message(
 {
     match feeder.next_message() {
         Err(fault) => {
-            ask_book(book, asking.door, asking.reading, &Ask::Nothing)?;
+            ask_book(
+                book,
+                asking.door,
+                asking.reading,
+                &Inquiry::of(Ask::Nothing),
+            )?;
             standing.end(Ended::Broken(fault));
         }
         Ok(None) => {
-            ask_book(book, asking.door, asking.reading, &Ask::Nothing)?;
+            ask_book(
+                book,
+                asking.door,
+                asking.reading,
+                &Inquiry::of(Ask::Nothing),
+            )?;
             standing.end_if_closed();
         }
         Ok(Some(message)) => handle(standing, book, asking, message)?,
@@ -318,7 +328,7 @@ fn act(
     ensures feeder { OnOk result (feeder.new ≡ feeder_after standing.old feeder.old) }
     ensures acts { OnOk result (Acts asking.entry.door asking.entry.reading book.old book.new
         standing.old standing.new
-        (ask_of asking.entry.site.now standing.old (next_held feeder.old) standing.old.moment)
+        (inquiry_at asking.entry.site.now standing.old (next_held feeder.old) standing.old.moment)
         (acted asking.entry.site.now standing.old (next_held feeder.old))) }
     ensures err { OnErr result (book.new ≡ book.old) }
 {
@@ -337,8 +347,7 @@ impl Session {
         requires site { IsSite site.now }
         requires reading { reading < MOMENT_END }
         ensures book { OnOk result (book.new ≡ after book.old
-            (answer self.old.door reading (asked site.now self.old book.old reading)
-            wants_nothing)) }
+            (call_of self.old.door reading (asked site.now self.old book.old reading))) }
         ensures kept { OnOk result (self.new
             ≡ kept_after site.now self.old (Some (told_now site.now self.old book.old reading))) }
         ensures err { OnErr result (book.new ≡ book.old) }

@@ -6,32 +6,26 @@ ghost use Rattle.isp1_auth.specs.declared.random_numbers.TheConstants.{GREATEST_
 ghost use Rattle.isp1_auth.specs.Signed.{signed};
 ghost use Rattle.sle_common.specs.Credentials.{credentials, credentials_of};
 ghost use Rattle.assoc_core.specs.Access.{is_asked};
+ghost use Rattle.assoc_core.specs.Kind.{kind_of};
 ghost use Rattle.session_core.specs.Returns.{own_secret, IsOwnSecret};
-ghost use Rattle.session_core.specs.Seen.{kind_answered};
 
+use assoc_core::PduKind;
 use isp1_auth::{Hash, Secret, make};
 use sle_common::Credentials;
 use station_config::{Level, Peer, Site};
 use std::marker::Model;
 
-// Which invocation a return is for.
-#[derive(Clone, Copy, PartialEq, Eq)]
-pub(crate) enum Answered {
-    Bind,
-    Unbind,
-}
-
-impl Answered {
-    // Whether a level asks for credentials of the invocation, and so of its return.
-    pub(crate) fn is_asked(self, level: Level) -> bool
-        ensures { result ≡ is_asked level (kind_answered self) }
-    {
-        match (level, self) {
-            (Level::Nothing, _) => false,
-            (Level::Bind, Answered::Unbind) => false,
-            (Level::Bind, Answered::Bind) => true,
-            (Level::All, _) => true,
-        }
+// Whether a level asks for the credentials of an invocation, and so for those of its return.
+pub(crate) fn is_asked(level: Level, kind: PduKind<'_>) -> bool
+    ensures { result ≡ is_asked level (kind_of kind.entry) }
+{
+    match level {
+        Level::Nothing => false,
+        Level::Bind => matches!(kind, PduKind::Bind { .. }),
+        Level::All => !matches!(
+            kind,
+            PduKind::Context | PduKind::Heartbeat | PduKind::PeerAbort
+        ),
     }
 }
 

@@ -5,14 +5,14 @@ use Rattle.std.specs.Prelude.{is_some}
 use Rattle.octet_core.specs.declared.offer.Offer.{Offer}
 use Rattle.link_model.specs.declared.call.Heard.{Heard}
 use Rattle.link_model.specs.Steering.{Steering}
-use Rattle.archive_terms.specs.Glimpse.{wants_nothing}
 use Rattle.station_config.specs.declared.site.Site.{Site}
 use Rattle.station_book.specs.State.{Event, Answer, Reply, answered}
 use Rattle.station_book.specs.State as book
-use Rattle.station_book.specs.History.{IsLegal, moment_at, answer_to}
+use Rattle.station_book.specs.History.{IsLegal, moment_at}
 use Rattle.session_core.specs.declared.standing.Standing.{Standing}
 use Rattle.session_core.specs.Course.{is_over}
-use Rattle.session_core.specs.Steps.{may_poll, may_speak, ask_of}
+use Rattle.session_core.specs.Inquiry.{answer_of}
+use Rattle.session_core.specs.Steps.{may_poll, may_speak, inquiry_at}
 use Rattle.session_core.specs.Session.{State, Round, Told, next_of, cleared, listened, poll_space}
 use Rattle.session_core.specs.Session.{stepped, before_step, before_speak, IsRound}
 use Rattle.session_core.specs.Session.{event_of, step_events, offer_calls, poll_calls, listen_calls}
@@ -43,8 +43,8 @@ told_is : (site : Site) (door : ℕ) (s : State) (b : book.State) (reading : ℕ
 told_is site door s b reading t read legal =
     let moment : t.moment ≡ moment_at b reading =
     ap (λ (x : Event). x.moment) legal.0 ∙ ap (λ (n : ℕ). moment_at b n) read in
-    let told : t.answer ≡ answer_to b door (moment_at b t.reading)
-    (ask_of site s.standing (next_of s) t.moment) wants_nothing =
+    let told : t.answer ≡ answer_of b door (moment_at b t.reading)
+    (inquiry_at site s.standing (next_of s) t.moment) =
     ap (λ (x : Event). answer_in x.reply t.answer) legal.0 in
     ap (λ (n : ℕ).
     let t2 : Told = record { reading = n; moment = t.moment; answer = t.answer } in t2) read
@@ -53,10 +53,10 @@ told_is site door s b reading t read legal =
     ∙ ap (λ (y : Answer).
     let t2 : Told = record { reading = reading; moment = moment_at b reading; answer = y } in t2)
     (told
-    ∙ ap (λ (n : ℕ). answer_to b door (moment_at b n) (ask_of site s.standing (next_of s) t.moment)
-    wants_nothing) read
-    ∙ ap (λ (n : ℕ). answer_to b door (moment_at b reading) (ask_of site s.standing (next_of s) n)
-    wants_nothing) moment)
+    ∙ ap (λ (n : ℕ). answer_of b door (moment_at b n)
+    (inquiry_at site s.standing (next_of s) t.moment)) read
+    ∙ ap (λ (n : ℕ). answer_of b door (moment_at b reading)
+    (inquiry_at site s.standing (next_of s) n)) moment)
 
 not_over : (over : Bool) → true ≡ not over → over ≡ false
 not_over true e = absurd (cc)

@@ -6,14 +6,14 @@ use Rattle.std.specs.Prelude.{◌∷◌, ◌++◌}
 use Rattle.octet_core.specs.declared.offer.Offer.{Offer}
 use Rattle.link_model.specs.declared.call.Heard.{Heard}
 use Rattle.link_model.specs.Steering.{Steering, heard_by, answer_to_offer}
-use Rattle.archive_terms.specs.Glimpse.{wants_nothing}
 use Rattle.station_config.specs.declared.site.Site.{Site}
 use Rattle.station_book.specs.State.{Event, quit}
 use Rattle.station_book.specs.State as book
-use Rattle.station_book.specs.History.{moment_at, answer_to, event_at, replay}
+use Rattle.station_book.specs.History.{moment_at, event_at, replay}
 use Rattle.drill_text.specs.declared.end_word.EndWord.{EndWord}
 use Rattle.session_core.specs.Course.{is_over}
-use Rattle.session_core.specs.Steps.{waits, may_poll, may_speak, ask_of}
+use Rattle.session_core.specs.Inquiry.{answer_of}
+use Rattle.session_core.specs.Steps.{waits, may_poll, may_speak, inquiry_at}
 use Rattle.session_core.specs.Session.{State, Told, Round, next_of, poll_space, cleared, listened}
 use Rattle.session_core.specs.Session.{offer_calls, listen_calls, stepped, after_round, round_calls}
 use Rattle.session_core.specs.Session.{round_events, spoken_of}
@@ -51,8 +51,8 @@ told_now site door s b reading =
       reading = reading;
       moment = moment_at b reading;
       answer =
-          answer_to b door (moment_at b reading)
-          (ask_of site s.standing (next_of s) (moment_at b reading)) wants_nothing;
+          answer_of b door (moment_at b reading)
+          (inquiry_at site s.standing (next_of s) (moment_at b reading));
     }
 
 abbrev pub told_at : Site → ℕ → Connected → book.State → ℕ → Option Told

@@ -1,12 +1,10 @@
 use Rattle.std.proofs.Common.{◌≡◌, Option, ap, ◌∙◌}
 use Rattle.isp1_tml.specs.Given.{content_of}
-use Rattle.archive_terms.specs.Glimpse.{wants_nothing}
 use Rattle.station_config.specs.declared.service.Service.{Service}
 use Rattle.assoc_core.specs.declared.state.State.{State}
-use Rattle.cltu_queue.specs.declared.ask.Ask.{Ask}
-use Rattle.station_book.specs.State.{answer}
 use Rattle.station_book.specs.History.{after}
 use Rattle.session_core.specs.declared.standing.Standing.{Standing}
+use Rattle.session_core.specs.Inquiry.{Inquiry, call_of, inquiry_of, replied_of}
 use Rattle.session_core.specs.Handling.{after_judged}
 use Rattle.session_core.specs.Message.{said_in}
 use Rattle.session_core.specs.Steps.{service_of, said_to}
@@ -25,25 +23,24 @@ returns-clause-acts c =
     ∙ ap (λ (st : State). said_in (service_of site s) st content) c.state.ensures in
     let asked =
     asked_by_message site s content (said_of c.of-said.result) c.judge-step.result
-    c.places_of-places.result c.said_ask.result said_so c.judge-step.ensures.step
+    c.places_of-places.result (inquiry_of c.said_ask.result) said_so c.judge-step.ensures.step
     c.places_of-places.ensures c.said_ask.ensures in
     record {
       book =
           c.in_ok-reply.ensures.after
           ∙ ap
-          (λ (ask : Ask).
-          after c.args.book.now
-          (answer c.args.asking.door c.args.asking.reading ask wants_nothing))
+          (λ (ask : Inquiry).
+          after c.args.book.now (call_of c.args.asking.door c.args.asking.reading ask))
           asked;
       standing =
           led_by_message site s _ content (said_of c.of-said.result) c.judge-step.result
-          c.said_ask.result c.in_ok-reply.reply c.args.asking.door c.args.asking.reading
-          c.args.book.now said_so c.judge-step.ensures.step asked c.requires.now
-          c.in_ok-reply.ensures.reply
+          (inquiry_of c.said_ask.result) (replied_of c.in_ok-reply.reply) c.args.asking.door
+          c.args.asking.reading c.args.book.now said_so c.judge-step.ensures.step asked
+          c.requires.now c.in_ok-reply.ensures.reply
           (c.conclude.ensures
           ∙ ap
           (λ (t : Standing).
           after_judged site t (said_of c.of-said.result) c.judge-step.result
-          c.in_ok-reply.reply)
+          (replied_of c.in_ok-reply.reply))
           c.judge-step.ensures.after);
     }

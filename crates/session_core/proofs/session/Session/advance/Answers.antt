@@ -1,7 +1,6 @@
 use Rattle.std.proofs.Common.{◌≡◌, Some, subst}
-use Rattle.archive_terms.specs.Glimpse.{wants_nothing}
-use Rattle.station_book.specs.State.{answer}
 use Rattle.station_book.specs.History.{after}
+use Rattle.session_core.specs.Inquiry.{call_of}
 use Rattle.session_core.specs.Kept.{Kept, asked, told_now, kept_after}
 use Rattle.session_core.proofs.Rounds.{keeping}
 use Rattle.session_core.proofs.Advance.{asked_at, advanced_by}
@@ -13,8 +12,7 @@ returns-clause-book c =
     (λ (v : Kept).
     c.act.new.book
     ≡ after c.args.book.now
-    (answer v.door c.args.reading (asked c.args.site.now v c.args.book.now c.args.reading)
-    wants_nothing))
+    (call_of v.door c.args.reading (asked c.args.site.now v c.args.book.now c.args.reading)))
     c.self.view_is
     (asked_at c.args.site.now c.self.inside.door c.self.inside.feeder c.self.inside.standing
     c.enter.new.self c.args.book.now c.act.new.book c.args.reading c.peek.result
