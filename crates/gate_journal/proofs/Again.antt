@@ -1,12 +1,12 @@
 -- What stands in a file is read, so a damaged file stands for nothing.
-use Rattle.std.proofs.Common.{◌≡◌, ◌≢◌, ◌⊎◌, inl, inr, ℕ, zero, suc, ◌*◌, ◌^◌, ◌-◌, ◌+◌, ◌≤◌, ◌<◌}
+use Rattle.std.proofs.Common.{◌≡◌, ◌≢◌, ℕ, ◌*◌, ◌+◌, ◌≤◌, ◌<◌}
 use Rattle.std.proofs.Common.{◌==◌, Bool, true, false, ◌&&◌, List, [], ◌∷◌, ◌++◌, length, take}
-use Rattle.std.proofs.Common.{drop, slice_index, nat_lt, nat_le, min, IsTrue, if◌then◌else◌, Option}
+use Rattle.std.proofs.Common.{drop, slice_index, nat_le, Option}
 use Rattle.std.proofs.Common.{Some, None, Result, Ok, Err, refl, sym, ap, subst, ◌∙◌, arith}
 use Rattle.std.proofs.Common.{append_assoc, eq-eqb}
-use Rattle.std.specs.List.{AllByRecursion, list_all, flat_map}
+use Rattle.std.specs.List.{AllByRecursion, list_all}
 use Rattle.std.specs.Int.{w16, w32, to_be_bytes, from_be_bytes}
-use Rattle.std.proofs.lemmas.List.{append-nil, drop_at, take_at, drop-drop, drop_more}
+use Rattle.std.proofs.lemmas.List.{append-nil, drop_at, drop-drop, drop_more}
 use Rattle.std.proofs.lemmas.List.{length-append, length-drop, get_or_append_left}
 use Rattle.std.proofs.lemmas.List.Concat.{flat_map-cons}
 use Rattle.std.proofs.lemmas.Bool.{lt-ltb, le-ltb}
@@ -14,7 +14,6 @@ use Rattle.std.proofs.lemmas.Bool.Decides.{nat_tests}
 use Rattle.std.proofs.lemmas.Nat.{from_be_bytes-to_be_bytes_2, from_be_bytes-to_be_bytes_4}
 use Rattle.archive_terms.specs.Archive.{Entry, Frame, frame, loss_of_sync, production, seal}
 use Rattle.archive_terms.specs.Archive.{IsArchive, is_archive, is_storable, may_follow, keeps_order}
-use Rattle.record_form.specs.declared.fault.EntryFault.{EntryFault}
 use Rattle.cds_time.specs.Moment.{rest_octets}
 use Rattle.cds_time.specs.declared.cds.Rest.{Rest}
 use Rattle.cds_time.specs.declared.cds.Rest.TheVariants.{Micros, Picos}
@@ -23,19 +22,19 @@ use Rattle.record_form.specs.Reading.{AreOctets, ReadWhereSpelled, ReadBack, Sta
 use Rattle.gate_journal.specs.declared.fault.JournalFault.{JournalFault}
 use Rattle.gate_journal.specs.declared.fault.JournalFault.TheVariants.{Damaged}
 use Rattle.gate_journal.specs.File.{header, entries_octets, batch_octets, IsBatch, gated, joined}
-use Rattle.gate_journal.specs.File.{Leads, StandsAt}
-use Rattle.gate_journal.specs.Reading.{◌>>=◌, with_next, fault_place, next_entry, entries_at}
-use Rattle.gate_journal.specs.Reading.{ending_at, lesser, size_at, count_at, batch_at, gate_at}
+use Rattle.gate_journal.specs.File.{StandsAt}
+use Rattle.gate_journal.specs.Reading.{next_entry, entries_at}
+use Rattle.gate_journal.specs.Reading.{ending_at, size_at, count_at, batch_at, gate_at}
 use Rattle.gate_journal.specs.Reading.{LedTo, IsNoJournal, IsDamagedAt}
-use Rattle.gate_journal.proofs.Growth.{Grows}
-use Rattle.gate_journal.proofs.Unique.{same_batch}
+use Rattle.gate_journal.proofs.Growth.{Grows, joined-append}
+use Rattle.gate_journal.proofs.Unique.{same_batch, same_rest, tail_of, Follows, follows_led}
 
 both : (a b : Bool) → (a && b) ≡ true → (a ≡ true) × (b ≡ true)
 both true b e = (refl, e)
 both false b e = absurd (cc)
 
 -- a front of an archive is one
-archive_front : Grows → (a b : List Entry) → IsArchive (a ++ b) → IsArchive a
+pub archive_front : Grows → (a b : List Entry) → IsArchive (a ++ b) → IsArchive a
 archive_front grows a [] archive = subst IsArchive (append-nil a) archive
 archive_front grows a (e ∷ b) archive =
     let longer : IsArchive (a ++ e ∷ []) = archive_front grows (a ++ e ∷ []) b
@@ -152,6 +151,16 @@ entries_short (e ∷ batch) is =
 
 -- ---- a batch
 
+-- the length that stands in front of a batch
+pub size_of_batch : (batch : List Entry) (rest : List ℕ) → IsBatch batch
+    → from_be_bytes w32 (take 4 (batch_octets batch ++ rest)) ≡ length (entries_octets batch)
+size_of_batch batch rest is_batch =
+    ap (λ (l : List ℕ). from_be_bytes w32 (take 4 l))
+    (append_assoc (to_be_bytes w32 (length (entries_octets batch)))
+    (to_be_bytes w16 (length batch) ++ entries_octets batch) rest)
+    ∙ from_be_bytes-to_be_bytes_4 (length (entries_octets batch))
+    (omega (arith, entries_short batch is_batch.storable, is_batch.most))
+
 ending_again : (stated : ℕ) (after : List Entry) (end : ℕ) → end ≡ stated
     → ending_at stated (Ok (after, end)) ≡ Ok (after, end)
 ending_again stated after end same = rw (eq-eqb end stated same) refl
@@ -175,12 +184,9 @@ module _ (law : ReadWhereSpelled) (grows : Grows) (before batch : List Entry) (f
       ∙ ap (λ (l : List ℕ). to_be_bytes w32 (length (entries_octets batch)) ++ l)
       (append_assoc (to_be_bytes w16 (length batch)) (entries_octets batch) (drop end file))
 
-  small : length (entries_octets batch) < 2 ^ 32
-  small = omega (arith, entries_short batch is_batch.storable, is_batch.most)
-
   size_is : size_at file place ≡ length (entries_octets batch)
-  size_is = ap (λ (l : List ℕ). from_be_bytes w32 (take 4 l)) parts_are
-      ∙ from_be_bytes-to_be_bytes_4 (length (entries_octets batch)) small
+  size_is = ap (λ (l : List ℕ). from_be_bytes w32 (take 4 l)) is
+      ∙ size_of_batch batch (drop end file) is_batch
 
   behind_size : drop (place + 4) file ≡ to_be_bytes w16 (length batch)
       ++ (entries_octets batch ++ drop end file)
@@ -219,10 +225,11 @@ module _ (law : ReadWhereSpelled) (grows : Grows) (before batch : List Entry) (f
 
 -- ---- a gate
 
-open_again : ReadWhereSpelled → Grows → (before batch : List Entry) (rest file : List ℕ) (gate : ℕ)
-    → AreOctets file → IsBatch batch → IsArchive (before ++ batch)
+pub open_again : ReadWhereSpelled → Grows → (before batch : List Entry) (rest file : List ℕ)
+    (gate : ℕ) → AreOctets file → IsBatch batch → IsArchive (before ++ batch)
     → drop gate file ≡ 165 ∷ (batch_octets batch ++ rest) → gate < length file
-    → (after : List Entry × ℕ) × (gate_at before file gate ≡ Ok (Some after))
+    → gate_at before file gate
+    ≡ Ok (Some (before ++ batch, (gate + 1) + length (batch_octets batch)))
 unfolding gate_at
 open_again law grows before batch rest file gate all is_batch archive is there =
     let first : slice_index file gate ≡ 165 =
@@ -235,12 +242,10 @@ open_again law grows before batch rest file gate all is_batch archive is there =
     ≡ Ok (before ++ batch, (gate + 1) + length (batch_octets batch)) =
     batch_again law grows before batch file (gate + 1) ((gate + 1) + length (batch_octets batch))
     all is_batch archive refl
-    (behind ∙ ap (λ (l : List ℕ). batch_octets batch ++ l) (sym rest_is)) (omega (arith, there)) in (
-      (before ++ batch, (gate + 1) + length (batch_octets batch)),
-      rw (lt-ltb gate (length file) there, eq-eqb (slice_index file gate) 165 first, read) refl,
-    )
+    (behind ∙ ap (λ (l : List ℕ). batch_octets batch ++ l) (sym rest_is)) (omega (arith, there)) in
+    rw (lt-ltb gate (length file) there, eq-eqb (slice_index file gate) 165 first, read) refl
 
-shut_again : (before : List Entry) (rest file : List ℕ) (gate shut : ℕ) → shut ≢ 165
+pub shut_again : (before : List Entry) (rest file : List ℕ) (gate shut : ℕ) → shut ≢ 165
     → drop gate file ≡ shut ∷ rest → gate < length file → gate_at before file gate ≡ Ok None
 unfolding gate_at
 shut_again before rest file gate shut closed is there =
@@ -249,71 +254,71 @@ shut_again before rest file gate shut closed is there =
     let other : (slice_index file gate == 165) ≡ false = grind (arith, nat_tests, first, closed) in
     rw (lt-ltb gate (length file) there, other) refl
 
-ok_err : {A : Type 0} (x : A) (fault : JournalFault)
+pub ok_err : {A : Type 0} (x : A) (fault : JournalFault)
     → ◌≡◌ {A = Result A JournalFault} (Ok x) (Err fault) → ⊥
 ok_err x fault e = cc
 
-not_past : (n : ℕ) (l : List ℕ) (x : ℕ) (xs : List ℕ) → drop n l ≡ x ∷ xs → n < length l
+pub not_past : (n : ℕ) (l : List ℕ) (x : ℕ) (xs : List ℕ) → drop n l ≡ x ∷ xs → n < length l
 not_past n l x xs is = omega (arith, ap length is, length-drop n l)
 
--- batches that lead to a gate with a fault are no front of those of a file that stands for entries
-head_of : {x y : ℕ} {xs ys : List ℕ} → x ∷ xs ≡ y ∷ ys → x ≡ y
-head_of same = ap (λ (l : List ℕ). slice_index l 0) same
+-- the batches behind the first ones
+pub all_behind : (led more : List (List Entry)) → AllByRecursion IsBatch (led ++ more)
+    → AllByRecursion IsBatch more
+all_behind [] more all = all
+all_behind (x ∷ xs) more all = all_behind xs more all.1
 
-tail_of : {x y : ℕ} {xs ys : List ℕ} → x ∷ xs ≡ y ∷ ys → xs ≡ ys
-tail_of same = ap (λ (l : List ℕ). drop 1 l) same
+-- what follows batches that lead a file which stands for entries
+pub behind_led : ReadBack → (entries whole : List Entry) (gate place : ℕ) (file : List ℕ)
+    (led : LedTo gate entries file) (stands : StandsAt whole place file)
+    → Follows led.batches stands.batches (drop gate file) (stands.gate ∷ stands.rest)
+behind_led back entries whole gate place file led stands =
+    follows_led back led.batches stands.batches (drop gate file) stands.rest stands.gate
+    led.leads.each stands.leads.each stands.shut
+    (same_rest header (gated led.batches ++ drop gate file)
+    (gated stands.batches ++ stands.gate ∷ stands.rest) (sym led.is ∙ stands.is))
 
-module _ (law : ReadWhereSpelled) (back : ReadBack) (grows : Grows) (file : List ℕ)
-    (all : AreOctets file) (gate shut : ℕ) (rest : List ℕ) (closed : shut ≢ 165)
-    (fault : JournalFault) where
-  clash : (led other : List (List Entry)) (before : List Entry) → AllByRecursion IsBatch led
-      → AllByRecursion IsBatch other
-      → gated led ++ drop gate file ≡ gated other ++ shut ∷ rest
-      → IsArchive (before ++ joined other) → gate_at (before ++ joined led) file gate ≡ Err fault
-      → ⊥
-  clash [] [] before first second same archive e =
-      ok_err None fault (sym (shut_again (before ++ []) rest file gate shut closed same
-      (not_past gate file shut rest same)) ∙ e)
-  clash [] (b ∷ bs) before first second same archive e =
-      let is : drop gate file ≡ 165 ∷ (batch_octets b ++ (gated bs ++ shut ∷ rest)) = same
-      ∙ ap (λ (l : List ℕ). 165 ∷ l) (append_assoc (batch_octets b) (gated bs) (shut ∷ rest)) in
-      let front : IsArchive ((before ++ []) ++ b) =
-      archive_front grows ((before ++ []) ++ b) (joined bs)
-      (subst IsArchive (ap (λ (l : List Entry). l ++ (b ++ joined bs)) (sym (append-nil before))
-      ∙ sym (append_assoc (before ++ []) b (joined bs))) archive) in
-      let found = open_again law grows (before ++ []) b (gated bs ++ shut ∷ rest) file gate all
-      second.0 front is (not_past gate file 165 (batch_octets b ++ (gated bs ++ shut ∷ rest))
-      is) in
-      ok_err (Some found.0) fault (sym found.1 ∙ e)
-  clash (x ∷ xs) [] before first second same archive e = closed (sym (head_of same))
-  clash (x ∷ xs) (y ∷ ys) before first second same archive e =
-      let behind : batch_octets x ++ (gated xs ++ drop gate file)
-      ≡ batch_octets y ++ (gated ys ++ shut ∷ rest) =
-      sym (append_assoc (batch_octets x) (gated xs) (drop gate file)) ∙ tail_of same
-      ∙ append_assoc (batch_octets y) (gated ys) (shut ∷ rest) in
-      let found = same_batch back x y (gated xs ++ drop gate file) (gated ys ++ shut ∷ rest) first.0
-      second.0 behind in
-      clash xs ys (before ++ x) first.1 second.1 found.1
-      (subst IsArchive (ap (λ (b : List Entry). before ++ (b ++ joined ys)) (sym found.0)
-      ∙ sym (append_assoc before x (joined ys))) archive)
-      (ap (λ (l : List Entry). gate_at l file gate) (append_assoc before x (joined xs)) ∙ e)
+-- the entries behind those that were read
+pub entries_behind : (entries whole : List Entry) (gate place : ℕ) (file rest behind : List ℕ)
+    (led : LedTo gate entries file) (stands : StandsAt whole place file)
+    (follows : Follows led.batches stands.batches rest behind)
+    → whole ≡ entries ++ joined follows.more
+entries_behind entries whole gate place file rest behind led stands follows =
+    stands.leads.entries_are ∙ ap joined follows.batches
+    ∙ joined-append led.batches follows.more
+    ∙ ap (λ (l : List Entry). l ++ joined follows.more) (sym led.leads.entries_are)
 
-same_rest : (front x y : List ℕ) → front ++ x ≡ front ++ y → x ≡ y
-same_rest front x y same = sym (drop_at front x (length front) refl) ∙ ap (drop (length front)) same
-    ∙ drop_at front y (length front) refl
+-- a batch, or a gate that isn't open, is read where it stands
+read_there : ReadWhereSpelled → Grows → (before : List Entry) (more : List (List Entry))
+    (file rest : List ℕ) (gate shut : ℕ) → AreOctets file → AllByRecursion IsBatch more
+    → IsArchive (before ++ joined more) → shut ≢ 165 → drop gate file ≡ gated more ++ shut ∷ rest
+    → (found : Option (List Entry × ℕ)) × (gate_at before file gate ≡ Ok found)
+read_there law grows before [] file rest gate shut all each archive closed is =
+    (None, shut_again before rest file gate shut closed is (not_past gate file shut rest is))
+read_there law grows before (b ∷ bs) file rest gate shut all each archive closed is =
+    let split : drop gate file ≡ 165 ∷ (batch_octets b ++ (gated bs ++ shut ∷ rest)) = is
+    ∙ ap (λ (l : List ℕ). 165 ∷ l) (append_assoc (batch_octets b) (gated bs) (shut ∷ rest)) in (
+      Some (before ++ b, (gate + 1) + length (batch_octets b)),
+      open_again law grows before b (gated bs ++ shut ∷ rest) file gate all each.0
+          (archive_front grows (before ++ b) (joined bs)
+          (subst IsArchive (sym (append_assoc before b (joined bs))) archive)) split
+          (not_past gate file 165 (batch_octets b ++ (gated bs ++ shut ∷ rest)) split),
+    )
 
 -- a damaged file stands for nothing
 pub damaged_stands_for_none : ReadWhereSpelled → ReadBack → Grows
     → (place : ℕ) (entries : List Entry) (there : ℕ) (file : List ℕ) → AreOctets file
     → IsDamagedAt place file → StandsAt entries there file → ⊥
 damaged_stands_for_none law back grows place entries there file all damaged stands =
-    clash law back grows file all damaged.gate stands.gate stands.rest stands.shut (Damaged place)
-    damaged.led.batches stands.batches [] damaged.led.leads.each stands.leads.each
-    (same_rest header (gated damaged.led.batches ++ drop damaged.gate file)
-    (gated stands.batches ++ stands.gate ∷ stands.rest) (sym damaged.led.is ∙ stands.is))
-    (subst IsArchive stands.leads.entries_are stands.leads.archive)
-    (ap (λ (l : List Entry). gate_at l file damaged.gate) (sym damaged.led.leads.entries_are)
-    ∙ damaged.fault)
+    let led = damaged.led in
+    let follows = behind_led back damaged.entries entries damaged.gate there file led stands in
+    let read = read_there law grows damaged.entries follows.more file stands.rest damaged.gate
+    stands.gate all
+    (all_behind led.batches follows.more
+    (subst (AllByRecursion IsBatch) follows.batches stands.leads.each))
+    (subst IsArchive (entries_behind damaged.entries entries damaged.gate there file
+    (drop damaged.gate file) (stands.gate ∷ stands.rest) led stands follows) stands.leads.archive)
+    stands.shut follows.octets in
+    ok_err read.0 (Damaged place) (sym read.1 ∙ damaged.fault)
 
 -- and so does one that is no journal
 pub other_stands_for_none : (place : ℕ) (entries : List Entry) (there : ℕ) (file : List ℕ)
@@ -348,10 +353,9 @@ module _ (law : ReadWhereSpelled) (back : ReadBack) (grows : Grows) (file : List
       let front : IsArchive (before ++ batch) =
       archive_front grows (before ++ batch) (joined others)
       (subst IsArchive (sym (append_assoc before batch (joined others))) archive) in
-      let found = open_again law grows before batch (gated others ++ rest) file gate all is_batch
-      front split (not_past gate file 165 (batch_octets batch ++ (gated others ++ rest)) split)
-      in
-      ok_err (Some found.0) fault (sym found.1 ∙ e)
+      ok_err (Some (before ++ batch, (gate + 1) + length (batch_octets batch))) fault
+      (sym (open_again law grows before batch (gated others ++ rest) file gate all is_batch front
+      split (not_past gate file 165 (batch_octets batch ++ (gated others ++ rest)) split)) ∙ e)
 
   one_damage : (one other : List (List Entry)) (before : List Entry) (g h p q : ℕ)
       → AllByRecursion IsBatch one → AllByRecursion IsBatch other

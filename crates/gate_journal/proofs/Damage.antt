@@ -12,7 +12,6 @@ use Rattle.gate_journal.specs.declared.fault.JournalFault.TheVariants.{DiskFault
 use Rattle.gate_journal.specs.Reading.{◌>>=◌, with_next, first_fault, next_entry, entries_at}
 use Rattle.gate_journal.specs.Reading.{ending_at, lesser, size_at, count_at, batch_at, gate_at}
 use Rattle.gate_journal.specs.Reading.{LedTo, Refuses}
-use Rattle.std.proofs.Common.{drop}
 
 abbrev IsDamage : JournalFault → Type 0
 IsDamage (NotJournal place) = ⊥

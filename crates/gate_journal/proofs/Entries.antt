@@ -1,10 +1,10 @@
 -- Reading entries one after another, as a loop does.
-use Rattle.std.proofs.Common.{◌≡◌, ◌⊎◌, inl, inr, ℕ, zero, suc, ◌-◌, ◌+◌, ◌≤◌, ◌<◌, List, Result}
-use Rattle.std.proofs.Common.{Ok, Err, refl, sym, ap, ◌∙◌, arith}
+use Rattle.std.proofs.Common.{◌≡◌, ◌⊎◌, inl, inr, ℕ, suc, ◌-◌, ◌+◌, ◌≤◌, ◌<◌, List, Result}
+use Rattle.std.proofs.Common.{Ok, Err, refl, sym, ◌∙◌, arith}
 use Rattle.archive_terms.specs.Archive.{Entry}
 use Rattle.gate_journal.specs.declared.fault.JournalFault.{JournalFault}
 use Rattle.gate_journal.specs.declared.fault.JournalFault.TheVariants.{Memory}
-use Rattle.gate_journal.specs.Reading.{◌>>=◌, next_entry, entries_at}
+use Rattle.gate_journal.specs.Reading.{next_entry, entries_at}
 
 pub goes_on : (count i : ℕ) (before after : List Entry) (file : List ℕ) (place end : ℕ)
     (whole : Result (List Entry × ℕ) JournalFault) → i < count

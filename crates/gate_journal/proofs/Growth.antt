@@ -1,11 +1,11 @@
 -- A journal grows by entries that are read, and by batches.
-use Rattle.std.proofs.Common.{◌≡◌, ◌≢◌, ◌⊎◌, inl, inr, ℕ, zero, suc, ◌-◌, ◌+◌, ◌≤◌, ◌<◌, ◌==◌, Bool}
+use Rattle.std.proofs.Common.{◌≡◌, ◌≢◌, inl, inr, ℕ, zero, suc, ◌+◌, ◌≤◌, ◌<◌, ◌==◌, Bool}
 use Rattle.std.proofs.Common.{true, false, ◌&&◌, List, [], ◌∷◌, ◌++◌, length, take, drop}
 use Rattle.std.proofs.Common.{slice_index, nat_lt, nat_le, min, IsTrue, if◌then◌else◌, Option, Some}
 use Rattle.std.proofs.Common.{None, option_map, IfNone, Result, Ok, Err, refl, sym, ap, subst, ◌∙◌}
 use Rattle.std.proofs.Common.{arith, append_assoc}
-use Rattle.std.specs.List.{AllByRecursion, list_all, flat_map}
-use Rattle.std.specs.Int.{w16, w32, to_be_bytes, from_be_bytes}
+use Rattle.std.specs.List.{AllByRecursion, list_all}
+use Rattle.std.specs.Int.{w16, w32, to_be_bytes}
 use Rattle.std.proofs.lemmas.List.{append-nil, take-append-drop, drop-drop, drop_more}
 use Rattle.std.proofs.lemmas.List.{length-append, length-take, length-drop, get_or-take}
 use Rattle.std.proofs.lemmas.List.{get_or-drop, get_or_past}
@@ -21,7 +21,7 @@ use Rattle.record_form.specs.Reading.{AreOctets, ReadWhereSpelled, StandsFrom, e
 use Rattle.gate_journal.specs.declared.fault.JournalFault.{JournalFault}
 use Rattle.gate_journal.specs.declared.fault.JournalFault.TheVariants.{Damaged}
 use Rattle.gate_journal.specs.File.{header, entries_octets, batch_octets, IsBatch, gated, joined}
-use Rattle.gate_journal.specs.File.{Leads, StandsAt}
+use Rattle.gate_journal.specs.File.{StandsAt}
 use Rattle.gate_journal.specs.Reading.{◌>>=◌, with_next, first_fault, next_entry, entries_at}
 use Rattle.gate_journal.specs.Reading.{ending_at, lesser, size_at, count_at, batch_at, gate_at}
 use Rattle.gate_journal.specs.Reading.{LedTo}
@@ -266,7 +266,7 @@ gated-append (batch ∷ batches) more =
     (gated-append batches more) ∙ sym (append_assoc (batch_octets batch) (gated batches)
     (gated more)))
 
-joined-append : (batches more : List (List Entry))
+pub joined-append : (batches more : List (List Entry))
     → joined (batches ++ more) ≡ joined batches ++ joined more
 joined-append [] more = refl
 joined-append (batch ∷ batches) more = ap (λ (l : List Entry). batch ++ l)
@@ -317,38 +317,60 @@ closed_gate true (Ok read) e = absurd (none_some read (sym (ok_is (Some read) No
 closed_gate true (Err fault) e = absurd (err_ok {A = Option (List Entry × ℕ)} fault None e)
 closed_gate false r e = refl
 
-pub led_on : ReadWhereSpelled → Grows
-    → (entries : List Entry) (file : List ℕ) (gate : ℕ) (after : List Entry) (end : ℕ)
-    → AreOctets file → LedTo gate entries file
-    → gate_at entries file gate ≡ Ok (Some (after, end)) → LedTo end after file
+-- a batch stands behind an open gate, and entries with those of the batch are an archive
+pub record Opened (before after : List Entry) (file : List ℕ) (gate end : ℕ) : Type 0 where
+  pub batch : List Entry
+  pub is_batch : IsBatch batch
+  pub after_is : after ≡ before ++ batch
+  pub ends : end ≡ gate + 1 + length (batch_octets batch)
+  pub spelled : drop gate file ≡ 165 ∷ (batch_octets batch ++ drop end file)
+  pub archive : IsArchive after
+
+pub opened : ReadWhereSpelled → Grows
+    → (before : List Entry) (file : List ℕ) (gate : ℕ) (after : List Entry) (end : ℕ)
+    → AreOctets file → IsArchive before
+    → gate_at before file gate ≡ Ok (Some (after, end)) → Opened before after file gate end
 unfolding gate_at
-led_on law grows entries file gate after end all led e =
+opened law grows before file gate after end all archive e =
     let inside = good (nat_lt gate (length file)) _ (Damaged (length file)) (Some (after, end)) e in
     let there : gate < length file = ltb-true gate (length file) inside.0 in
-    let opened = open_gate (slice_index file gate == 165)
-    (batch_at entries file (gate + 1) >>= some_read) (after, end) inside.1 in
-    let is_open : slice_index file gate ≡ 165 = eqb-true (slice_index file gate) 165 opened.0 in
-    let read = bind_ok (batch_at entries file (gate + 1)) some_read (Some (after, end)) opened.1 in
+    let gate_is = open_gate (slice_index file gate == 165)
+    (batch_at before file (gate + 1) >>= some_read) (after, end) inside.1 in
+    let is_open : slice_index file gate ≡ 165 = eqb-true (slice_index file gate) 165 gate_is.0 in
+    let read = bind_ok (batch_at before file (gate + 1)) some_read (Some (after, end)) gate_is.1 in
     let read_is : read.0 ≡ (after, end) = some_is read.0 (
       after,
       end,
     ) (ok_is (Some read.0) (Some (after, end)) read.2) in
-    let found = batch_ok law grows entries file (gate + 1) after end all led.leads.archive (read.1
+    let found = batch_ok law grows before file (gate + 1) after end all archive (read.1
     ∙ ap (λ (x : List Entry × ℕ). Ok x) read_is) in
-    let batch = found.0.batch in
-    let behind : drop gate file ≡ 165 ∷ (batch_octets batch ++ drop end file) =
-    drop_more file gate 0 there ∙ ap (λ (octet : ℕ). octet ∷ drop (gate + 1) file) is_open
-    ∙ ap (λ (l : List ℕ). 165 ∷ l) found.0.spelled in
+    record {
+      batch = found.0.batch;
+      is_batch = found.0.is_batch;
+      after_is = found.0.after_is;
+      ends = found.0.ends;
+      spelled = drop_more file gate 0 there
+          ∙ ap (λ (octet : ℕ). octet ∷ drop (gate + 1) file) is_open
+          ∙ ap (λ (l : List ℕ). 165 ∷ l) found.0.spelled;
+      archive = found.1;
+    }
+
+-- batches lead a file also with one more that stands behind them
+pub led_more : (entries batch : List Entry) (file : List ℕ) (gate end : ℕ) → LedTo gate entries file
+    → IsBatch batch → IsArchive (entries ++ batch) → end ≡ gate + 1 + length (batch_octets batch)
+    → drop gate file ≡ 165 ∷ (batch_octets batch ++ drop end file)
+    → LedTo end (entries ++ batch) file
+led_more entries batch file gate end led is_batch archive ends behind =
     let more : gated (led.batches ++ batch ∷ []) ≡ gated led.batches ++ 165 ∷ batch_octets batch =
     gated_more led.batches batch in
     record {
       batches = led.batches ++ batch ∷ [];
       leads = record {
-        each = all-append led.batches batch led.leads.each found.0.is_batch;
-        entries_are = found.0.after_is ∙ ap (λ (l : List Entry). l ++ batch) led.leads.entries_are
+        each = all-append led.batches batch led.leads.each is_batch;
+        entries_are = ap (λ (l : List Entry). l ++ batch) led.leads.entries_are
             ∙ sym (joined_more led.batches batch);
-        archive = found.1;
-        there = found.0.ends ∙ omega (
+        archive = archive;
+        there = ends ∙ omega (
           arith,
           led.leads.there,
           ap length more,
@@ -361,26 +383,47 @@ led_on law grows entries file gate after end all led e =
           ∙ ap (λ (l : List ℕ). l ++ drop end file) (sym more));
     }
 
+pub led_on : ReadWhereSpelled → Grows
+    → (entries : List Entry) (file : List ℕ) (gate : ℕ) (after : List Entry) (end : ℕ)
+    → AreOctets file → LedTo gate entries file
+    → gate_at entries file gate ≡ Ok (Some (after, end)) → LedTo end after file
+led_on law grows entries file gate after end all led e =
+    let found = opened law grows entries file gate after end all led.leads.archive e in
+    subst (λ (l : List Entry). LedTo end l file) (sym found.after_is)
+    (led_more entries found.batch file gate end led found.is_batch
+    (subst IsArchive found.after_is found.archive) found.ends found.spelled)
+
 eqb_false : (a b : ℕ) → (a == b) ≡ false → a ≢ b
 eqb_false a b e same = grind (arith, nat_tests)
 
+-- a gate that isn't open
+pub shut_there : (before : List Entry) (file : List ℕ) (gate : ℕ)
+    → gate_at before file gate ≡ Ok None → (gate < length file) × (slice_index file gate ≢ 165)
+unfolding gate_at
+shut_there before file gate e =
+    let inside = good (nat_lt gate (length file)) _ (Damaged (length file)) None e in (
+      ltb-true gate (length file) inside.0,
+      eqb_false (slice_index file gate) 165
+          (closed_gate (slice_index file gate == 165) (batch_at before file (gate + 1)) inside.1),
+    )
+
+pub stands_shut : (entries : List Entry) (file : List ℕ) (gate : ℕ) → LedTo gate entries file
+    → gate < length file → slice_index file gate ≢ 165 → StandsAt entries gate file
+stands_shut entries file gate led there shut = record {
+  batches = led.batches;
+  gate = slice_index file gate;
+  rest = drop (gate + 1) file;
+  leads = led.leads;
+  shut = shut;
+  is = led.is ∙ ap (λ (l : List ℕ). header ++ (gated led.batches ++ l))
+      (drop_more file gate 0 there);
+}
+
 pub stands_there : (entries : List Entry) (file : List ℕ) (gate : ℕ) → LedTo gate entries file
     → gate_at entries file gate ≡ Ok None → StandsAt entries gate file
-unfolding gate_at
 stands_there entries file gate led e =
-    let inside = good (nat_lt gate (length file)) _ (Damaged (length file)) None e in
-    let there : gate < length file = ltb-true gate (length file) inside.0 in
-    let shut = closed_gate (slice_index file gate == 165) (batch_at entries file (gate + 1))
-    inside.1 in
-    record {
-      batches = led.batches;
-      gate = slice_index file gate;
-      rest = drop (gate + 1) file;
-      leads = led.leads;
-      shut = eqb_false (slice_index file gate) 165 shut;
-      is = led.is ∙ ap (λ (l : List ℕ). header ++ (gated led.batches ++ l))
-          (drop_more file gate 0 there);
-    }
+    let shut = shut_there entries file gate e in
+    stands_shut entries file gate led shut.0 shut.1
 
 pub no_gate : (entries : List Entry) (file : List ℕ) (gate : ℕ) → length file ≤ gate
     → gate_at entries file gate ≡ Err (Damaged (length file))

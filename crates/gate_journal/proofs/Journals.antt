@@ -1,5 +1,5 @@
 -- A journal's calls, as its contracts say them.
-use Rattle.std.proofs.Common.{◌≡◌, ℕ, List, Option, Some, None, IfSome, IfErr, Result, Ok, Err, sym}
+use Rattle.std.proofs.Common.{◌≡◌, ℕ, List, Option, Some, None, IfSome, IfErr, Result, Ok, Err}
 use Rattle.std.proofs.Common.{subst, ◌∙◌}
 use Rattle.archive_terms.specs.Archive.{Entry}
 use Rattle.disk_model.specs.Images.{Pending}

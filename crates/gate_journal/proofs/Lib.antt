@@ -3,6 +3,8 @@ pub mod Growth
 pub mod Header
 pub mod Damage
 pub mod Unique
+pub mod Windows
+pub mod Batching
 pub mod Adding
 pub mod Storable
 pub mod Journals

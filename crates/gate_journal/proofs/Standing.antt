@@ -1,5 +1,5 @@
 -- A file that stands for entries isn't refused for what it holds.
-use Rattle.std.proofs.Common.{◌≡◌, inl, inr, ℕ, List, Option, Some, None, IfSome, IsSomeAnd}
+use Rattle.std.proofs.Common.{◌≡◌, inr, ℕ, List, Option, Some, None, IfSome, IsSomeAnd}
 use Rattle.std.proofs.Common.{option_map, IfErr, Result, Ok, Err, refl, subst, sym, ◌∙◌}
 use Rattle.archive_terms.specs.Archive.{Entry}
 use Rattle.disk_model.specs.Images.{Pending, after_sync}

@@ -1,6 +1,6 @@
 -- What a stop in an append leaves on a disk in memory.
 use Rattle.std.proofs.Common.{◌≡◌, ◌≢◌, ℕ, zero, suc, ◌+◌, ◌-◌, ◌<◌, ◌≤◌, nat_le, Bool, true, false}
-use Rattle.std.proofs.Common.{IsFalse, if◌then◌else◌, List, [], ◌∷◌, ◌++◌, length, drop, fold, take}
+use Rattle.std.proofs.Common.{IsFalse, if◌then◌else◌, List, [], ◌∷◌, ◌++◌, length, fold, take}
 use Rattle.std.proofs.Common.{Option, Some, None, refl, sym, ◌∙◌, ap, subst, arith, append_assoc}
 use Rattle.std.specs.Option.{option_or}
 use Rattle.std.proofs.lemmas.Bool.Decides.{nat_tests}
@@ -24,7 +24,7 @@ use Rattle.disk_model.specs.declared.orders.Pick.TheVariants.{Old, New, Torn}
 use Rattle.disk_model.specs.declared.orders.Stop.{Stop}
 use Rattle.gate_journal.specs.File.{IsBatch, StandsAt, StandsFor, entries_octets}
 use Rattle.gate_journal.specs.Kept.{Keeps, IsAtRest, IsReady, IsToStop, StopsIn, KeepsOnRestart}
-use Rattle.gate_journal.specs.Kept.{appending, appending_octets, closed_batch, entries_left}
+use Rattle.gate_journal.specs.Kept.{appending, closed_batch, entries_left}
 use Rattle.gate_journal.specs.Kept.{leaves_batch, HasBatch, IsToFail, FailsIn, holds_batch}
 use Rattle.gate_journal.proofs.Adding.{behind, content_is, entries_are, front_of, front_there}
 use Rattle.gate_journal.proofs.Adding.{octets_written, stands_closed, stands_whole, written_behind}

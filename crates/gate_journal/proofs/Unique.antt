@@ -1,10 +1,10 @@
 -- A file stands for one list at most.
-use Rattle.std.proofs.Common.{◌≡◌, ◌≢◌, ℕ, zero, suc, ◌+◌, ◌<◌, ◌≤◌, ◌^◌, ◌&&◌, Bool, true, false}
+use Rattle.std.proofs.Common.{◌≡◌, ◌≢◌, ℕ, ◌+◌, ◌&&◌, Bool, true, false}
 use Rattle.std.proofs.Common.{List, [], ◌∷◌, ◌++◌, length, take, drop, slice_index, IsTrue, Result}
-use Rattle.std.proofs.Common.{Ok, Err, refl, sym, ap, subst, ◌∙◌, arith, append_assoc}
+use Rattle.std.proofs.Common.{Ok, refl, sym, ap, ◌∙◌, arith, append_assoc}
 use Rattle.std.specs.List.{AllByRecursion, list_all}
 use Rattle.std.specs.Int.{w16, w32, to_be_bytes, from_be_bytes}
-use Rattle.std.proofs.lemmas.List.{take_at, drop_at}
+use Rattle.std.proofs.lemmas.List.{append-nil, drop_at}
 use Rattle.std.proofs.lemmas.List.Concat.{flat_map-cons}
 use Rattle.std.proofs.lemmas.Nat.{from_be_bytes-to_be_bytes_2}
 use Rattle.archive_terms.specs.Archive.{Entry, is_storable}
@@ -28,7 +28,7 @@ same_entry law e f x y first second same =
     (ok_is (e, length (entry_octets e)) (f, length (entry_octets f)) (sym (law e x first)
     ∙ ap (entry_from 0) same ∙ law f y second))
 
-same_rest : (front x y : List ℕ) → front ++ x ≡ front ++ y → x ≡ y
+pub same_rest : (front x y : List ℕ) → front ++ x ≡ front ++ y → x ≡ y
 same_rest front x y same = sym (drop_at front x (length front) refl) ∙ ap (drop (length front)) same
     ∙ drop_at front y (length front) refl
 
@@ -77,38 +77,56 @@ same_batch law a b x y first second same =
     ∙ from_be_bytes-to_be_bytes_2 (length b) (omega (arith, second.most)) in
     same_entries law a b x y count first.storable second.storable (ap (drop 2) behind)
 
-head_of : {x y : ℕ} {xs ys : List ℕ} → x ∷ xs ≡ y ∷ ys → x ≡ y
+pub head_of : {x y : ℕ} {xs ys : List ℕ} → x ∷ xs ≡ y ∷ ys → x ≡ y
 head_of same = ap (λ (l : List ℕ). slice_index l 0) same
 
-tail_of : {x y : ℕ} {xs ys : List ℕ} → x ∷ xs ≡ y ∷ ys → xs ≡ ys
+pub tail_of : {x y : ℕ} {xs ys : List ℕ} → x ∷ xs ≡ y ∷ ys → xs ≡ ys
 tail_of same = ap (λ (l : List ℕ). drop 1 l) same
 
-one_only : ReadBack → (one other : List (List Entry)) (rest more : List ℕ) (gate shut : ℕ)
-    → AllByRecursion IsBatch one → AllByRecursion IsBatch other → gate ≢ 165 → shut ≢ 165
-    → gated one ++ gate ∷ rest ≡ gated other ++ shut ∷ more → one ≡ other
-one_only law [] [] rest more gate shut first second closed closed' same = refl
-one_only law [] (y ∷ ys) rest more gate shut first second closed closed' same =
-    absurd (closed (head_of same))
-one_only law (x ∷ xs) [] rest more gate shut first second closed closed' same =
-    absurd (closed' (sym (head_of same)))
-one_only law (x ∷ xs) (y ∷ ys) rest more gate shut first second closed closed' same =
-    let behind : batch_octets x ++ (gated xs ++ gate ∷ rest)
-    ≡ batch_octets y ++ (gated ys ++ shut ∷ more) =
-    sym (append_assoc (batch_octets x) (gated xs) (gate ∷ rest)) ∙ tail_of same
-    ∙ append_assoc (batch_octets y) (gated ys) (shut ∷ more) in
-    let found = same_batch law x y (gated xs ++ gate ∷ rest) (gated ys ++ shut ∷ more) first.0
-    second.0 behind in
-    ap (λ (l : List (List Entry)). x ∷ l) (one_only law xs ys rest more gate shut first.1 second.1
-    closed closed' found.1) ∙ ap (λ (b : List Entry). b ∷ ys) found.0
+-- these batches follow others, and these octets the others' octets
+pub record Follows (led whole : List (List Entry)) (rest behind : List ℕ) : Type 0 where
+  pub more : List (List Entry)
+  pub batches : whole ≡ led ++ more
+  pub octets : rest ≡ gated more ++ behind
+
+-- batches at the front of octets begin all batches up to a gate that isn't open
+pub follows_led : ReadBack → (led whole : List (List Entry)) (rest past : List ℕ) (shut : ℕ)
+    → AllByRecursion IsBatch led → AllByRecursion IsBatch whole → shut ≢ 165
+    → gated led ++ rest ≡ gated whole ++ shut ∷ past → Follows led whole rest (shut ∷ past)
+follows_led law [] whole rest past shut first second closed same =
+    record { more = whole; batches = refl; octets = same }
+follows_led law (x ∷ xs) [] rest past shut first second closed same =
+    absurd (closed (sym (head_of same)))
+follows_led law (x ∷ xs) (y ∷ ys) rest past shut first second closed same =
+    let behind : batch_octets x ++ (gated xs ++ rest) ≡ batch_octets y ++ (gated ys ++ shut ∷ past)
+    = sym (append_assoc (batch_octets x) (gated xs) rest) ∙ tail_of same
+    ∙ append_assoc (batch_octets y) (gated ys) (shut ∷ past) in
+    let found = same_batch law x y (gated xs ++ rest) (gated ys ++ shut ∷ past) first.0 second.0
+    behind in
+    let later = follows_led law xs ys rest past shut first.1 second.1 closed found.1 in
+    record {
+      more = later.more;
+      batches = ap (λ (l : List (List Entry)). y ∷ l) later.batches
+          ∙ ap (λ (b : List Entry). b ∷ (xs ++ later.more)) (sym found.0);
+      octets = later.octets;
+    }
+
+nothing_more : (more : List (List Entry)) (gate : ℕ) (rest behind : List ℕ) → gate ≢ 165
+    → gate ∷ rest ≡ gated more ++ behind → more ≡ []
+nothing_more [] gate rest behind closed same = refl
+nothing_more (b ∷ bs) gate rest behind closed same = absurd (closed (head_of same))
 
 same_batches : ReadBack → (one other : List Entry) (place there : ℕ) (file : List ℕ)
     (first : StandsAt one place file) (second : StandsAt other there file)
     → first.batches ≡ second.batches
 same_batches law one other place there file first second =
-    one_only law first.batches second.batches first.rest second.rest first.gate second.gate
-    first.leads.each second.leads.each first.shut second.shut
+    let follows = follows_led law first.batches second.batches (first.gate ∷ first.rest) second.rest
+    second.gate first.leads.each second.leads.each second.shut
     (same_rest header (gated first.batches ++ first.gate ∷ first.rest)
-    (gated second.batches ++ second.gate ∷ second.rest) (sym first.is ∙ second.is))
+    (gated second.batches ++ second.gate ∷ second.rest) (sym first.is ∙ second.is)) in
+    sym (follows.batches ∙ ap (λ (l : List (List Entry)). first.batches ++ l)
+    (nothing_more follows.more first.gate first.rest (second.gate ∷ second.rest) first.shut
+    follows.octets) ∙ append-nil first.batches)
 
 -- the list, and the place of the gate behind it
 pub stands_for_one : ReadBack → (one other : List Entry) (place there : ℕ) (file : List ℕ)

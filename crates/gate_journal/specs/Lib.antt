@@ -2,3 +2,4 @@ pub mod File
 pub mod Reading
 pub mod Kept
 pub mod Order
+pub mod Batches

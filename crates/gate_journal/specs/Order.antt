@@ -1,5 +1,5 @@
 -- Whether entries are an archive, seen from the last times among them.
-use Rattle.std.specs.Prelude.{ℕ, ◌≡◌, Option, Some, None, List, IsFalse}
+use Rattle.std.specs.Prelude.{◌≡◌, Option, Some, None, List, IsFalse}
 use Rattle.archive_terms.specs.Archive.{Entry, IsArchive, is_archive, last_time, frame_time}
 use Rattle.archive_terms.specs.Archive.{seal_time}
 use Rattle.gate_journal.specs.declared.order.Times.{Times}

@@ -66,6 +66,7 @@ impl<D: Disk> Journal<D> {
             (D.pending journal.disk) [])) }
         ensures gate { IfOk result (λ journal. journal.gate ≡ 8) }
         ensures fresh { IfOk result (λ journal. journal.is_stale ≡ false) }
+        ensures kept { IfOk result (λ journal. D.faults journal.disk ≡ D.faults disk) }
         ensures any_moment { IfOk result (λ journal. IfSome (D.pending disk)
             (λ told. told.greatest ≤ 9) → HoldsThroughout D.moment D.images_since disk journal.disk
             IsShort) }
@@ -102,7 +103,9 @@ impl<D: Disk> Journal<D> {
             (λ pending. StandsAt read.1 read.0.gate pending.content)) }
         ensures keeps { IfOk result (λ read. IfSome (D.pending disk) (λ _. Keeps
             (D.pending read.0.disk) read.1)) }
+        ensures archive { IfOk result (λ read. IsArchive read.1) }
         ensures fresh { IfOk result (λ read. read.0.is_stale ≡ false) }
+        ensures kept { IfOk result (λ read. D.faults read.0.disk ≡ D.faults disk) }
         ensures any_moment { IfOk result (λ read. HoldsThroughout D.moment D.images_since disk
             read.0.disk (IsImageOf (D.pending disk))) }
         ensures any_moment_refused { IfErr result (λ fault. HoldsThroughout D.moment D.images_since
@@ -138,7 +141,9 @@ impl<D: Disk> Journal<D> {
             (λ told. StandsAt entries self.new.gate told.content)) }
         ensures keeps { IfOk result (λ entries. IfSome (D.pending self.old.disk) (λ _. Keeps
             (D.pending self.new.disk) entries)) }
+        ensures archive { IfOk result IsArchive }
         ensures fresh { OnOk result (self.new.is_stale ≡ false) }
+        ensures kept { OnOk result (D.faults self.new.disk ≡ D.faults self.old.disk) }
         ensures stale { OnErr result (self.new.is_stale ≡ true) }
         ensures place { OnErr result (self.new.gate ≡ self.old.gate) }
         ensures any_moment { HoldsThroughout D.moment D.images_since self.old.disk self.new.disk
@@ -189,6 +194,7 @@ impl<D: Disk> Journal<D> {
         ensures place { OnErr result (self.new.gate ≡ self.old.gate) }
         ensures stale { IsErrOf result JournalFault.DiskFault → self.new.is_stale ≡ true }
         ensures fresh { OnOk result (self.new.is_stale ≡ false) }
+        ensures kept { OnOk result (D.faults self.new.disk ≡ D.faults self.old.disk) }
         ensures stays_stale { self.old.is_stale ≡ true → (result ≡ Err JournalFault.Stale) ×
             (self.new ≡ self.old) }
         ensures full { self.old.is_stale ≡ false
@@ -327,8 +333,10 @@ fn load_synced<D: Disk>(alloc: Global, disk: &mut D) -> Result<(Entries, u64), J
         (λ told. StandsAt read.0 read.1 told.content)) }
     ensures keeps { IfOk result (λ read. IfSome (D.pending disk.old) (λ _. Keeps
         (D.pending disk.new) read.0)) }
+    ensures archive { IfOk result (λ read. IsArchive read.0) }
     ensures at_rest { IfOk result (λ read. IsAtRest (D.pending disk.new) read.1) }
     ensures within { IfOk result (λ read. read.1 < D.extent disk.new) }
+    ensures kept { OnOk result (D.faults disk.new ≡ D.faults disk.old) }
     ensures fits { IfOk result (λ read. read.1 + 1 < 2 ^ 64) }
     ensures any_moment { HoldsThroughout D.moment D.images_since disk.old disk.new
         (IsImageOf (D.pending disk.old)) }
@@ -350,6 +358,7 @@ fn load_synced<D: Disk>(alloc: Global, disk: &mut D) -> Result<(Entries, u64), J
 fn read_all<D: Disk>(alloc: Global, disk: &mut D) -> Result<(Entries, u64), JournalFault>
     ensures stands { IfOk result (λ read. IfSome (D.pending disk.old)
         (λ pending. StandsAt read.0 read.1 pending.content)) }
+    ensures archive { IfOk result (λ read. IsArchive read.0) }
     ensures within { IfOk result (λ read. read.1 < D.extent disk.old) }
     ensures fits { IfOk result (λ read. read.1 + 1 < 2 ^ 64) }
     ensures same { OnOk result (disk.new ≡ disk.old) }

@@ -14,7 +14,7 @@ ghost use Rattle.disk_model.specs.declared.orders.Orders.{Orders};
 ghost use Rattle.disk_model.specs.declared.orders.Stop.{Stop};
 ghost use Rattle.gate_journal.specs.File.{IsBatch, StandsFor, StandsAt};
 ghost use Rattle.record_form.specs.Reading.{AreOctets};
-ghost use Rattle.gate_journal.specs.Reading.{IsDamagedAt, IsNoJournal};
+ghost use Rattle.gate_journal.specs.Reading.{IsDamagedAt, IsNoJournal, LedTo};
 ghost use Rattle.gate_journal.specs.Kept.{Keeps, IsAtRest, IsToStop, StopsIn, KeepsOnRestart};
 ghost use Rattle.gate_journal.specs.Kept.{appending, entries_left, leaves_batch, HasBatch};
 ghost use Rattle.gate_journal.specs.Kept.{IsToFail, FailsIn, holds_batch};
@@ -58,6 +58,14 @@ pub fn a_refused_file_stands_for_nothing()
 {
     archive_terms::laws::archive_grows();
     record_form::laws::read_where_spelled();
+    record_form::laws::read_back();
+}
+
+/// Entries that were read of a file are a front of those that it stands for.
+pub fn what_is_read_is_a_front()
+    ensures { (front entries : List Entry) (gate place : ℕ) (file : List ℕ) → LedTo gate front file
+        → StandsAt entries place file → (rest : List Entry) × (entries ≡ front ++ rest) }
+{
     record_form::laws::read_back();
 }
 

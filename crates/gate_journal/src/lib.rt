@@ -10,9 +10,12 @@
 //
 // An append costs four calls of the disk, and copies each octet of the batch once. A recovery costs
 // one sync and one read of the whole file; it goes over each octet once more and copies a frame's
-// octets once, into the entry that keeps them. Meanwhile the file is held in memory.
+// octets once, into the entry that keeps them. Meanwhile the file is held in memory. `Batches` reads
+// a file batch by batch, with a mebibyte of it in memory, or one batch where that has more.
 #![tactic(auto)]
 
+mod batch_fault;
+mod batches;
 mod fault;
 mod growing;
 mod journal;
@@ -21,6 +24,8 @@ mod loading;
 mod order;
 mod writing;
 
+pub use batch_fault::BatchFault;
+pub use batches::Batches;
 pub use fault::JournalFault;
 pub use journal::Journal;
 pub use order::{Times, follows};

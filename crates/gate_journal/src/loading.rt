@@ -36,8 +36,8 @@ pub fn load(alloc: Global, file: &[u8]) -> Result<(Entries, u64), JournalFault>
     load_batches(alloc, file)
 }
 
-// The place of the first octet of the header that is another one or missing.
-fn first_difference(file: &[u8]) -> Option<usize>
+/// The place of the first octet of the header that is another one or missing.
+pub fn first_difference(file: &[u8]) -> Option<usize>
     ensures header { IfNone result (file.now ≡ header ++ drop 8 file.now) }
     ensures other { IfSome result (λ place. IsNoJournal place file.now) }
 {
@@ -209,10 +209,10 @@ fn lesser(stated: u64, fault: JournalFault) -> JournalFault
     }
 }
 
-// The batch behind the gate at a place where that one is open, and where it ends; none where it
-// isn't.
+/// The batch behind the gate at a place where that one is open, and where it ends; none where it
+/// isn't.
 #[tactic(auto, unfolding(crate::specs::Reading::gate_at))]
-fn gated_batch(
+pub fn gated_batch(
     alloc: Global,
     growing: &mut Growing,
     file: &[u8],

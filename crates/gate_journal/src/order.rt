@@ -59,8 +59,8 @@ pub fn follows(entries: &Entries, batch: &Entries) -> bool
     pass(times, batch.as_slice()).is_some()
 }
 
-// The times of an archive with entries behind it, or none where that is no archive.
-fn pass(before: Option<Times>, entries: &[Entry]) -> Option<Times>
+/// The times of an archive with entries behind it, or none where that is no archive.
+pub fn pass(before: Option<Times>, entries: &[Entry]) -> Option<Times>
     ensures { (earlier : List terms.Entry) → Knows earlier before
         → Knows (earlier ++ entries_of entries.now) result }
 {

@@ -125,8 +125,8 @@ fn a_frame_out_of_order_is_named_by_its_time_before_later_fields(
     Ok(())
 }
 
-// A file of two batches, and what may stand behind its gate.
-fn two_batches(alloc: Global) -> Result<Vec<u8>, AllocError> {
+/// A file of two batches, and what may stand behind its gate.
+pub fn two_batches(alloc: Global) -> Result<Vec<u8>, AllocError> {
     let mut file = Vec::from_slice(alloc, &FILE[..39])?;
     file.extend_from_slice(MIXED)?;
     file.extend_from_slice(b"\x00\xa5\x00")?;

@@ -1,7 +1,6 @@
-use Rattle.std.proofs.Common.{◌≡◌, Ok, Some, refl, sym}
+use Rattle.std.proofs.Common.{◌≡◌, refl}
 use Rattle.std.proofs.lemmas.Result.{err_from_is_err_and}
 use Rattle.gate_journal.specs.Reading.{gate_at}
-use Rattle.gate_journal.specs.File.{StandsAt}
 use Rattle.gate_journal.proofs.Growth.{led_at_first, led_on, stands_there, no_gate, found_some}
 use Rattle.gate_journal.proofs.Growth.{found_none, where_none}
 use Rattle.gate_journal.proofs.Damage.{refused_there}

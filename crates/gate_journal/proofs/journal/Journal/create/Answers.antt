@@ -1,4 +1,4 @@
-use Rattle.std.proofs.Common.{◌≡◌, ◌<◌, rules, arith}
+use Rattle.std.proofs.Common.{rules, arith}
 use Rattle.gate_journal.proofs.Creating.{new_keeps, new_rests, if_good}
 use Rattle.gate_journal.proofs.journal.Journal.create.Goals as goal
 

@@ -1,0 +1,220 @@
+// The batches of a file, one after another.
+ghost use Rattle.std.specs.Prelude.{◌≡◌, ◌≢◌, ◌+◌, ◌-◌, ◌<◌, ◌≤◌, ◌^◌, ◌++◌, ◌⊎◌, ℕ, List, [], length};
+ghost use Rattle.std.specs.Prelude.{min, max, IsTrue, IfOk, OnOk, OnErr, IsErrOf, IfSome, IfNone};
+ghost use Rattle.std.specs.List.{list_all};
+ghost use Rattle.octet_core.specs.Fault.{Rose};
+ghost use Rattle.archive_terms.specs.Archive.{Entry, is_storable};
+ghost use Rattle.disk_model.specs.Moments.{Reads};
+ghost use Rattle.gate_journal.specs.File.{StandsAt};
+ghost use Rattle.gate_journal.specs.Kept.{OnlyReads};
+ghost use Rattle.gate_journal.specs.Batches.{Passed, StandsForSome, HoldsBatch};
+ghost use Rattle.gate_journal.specs.declared.batch_fault.BatchFault.TheVariants.{Unfit, DiskFault};
+ghost use Rattle.gate_journal.specs.declared.batch_fault.BatchFault.TheVariants.{Memory};
+ghost use Rattle.gate_journal.specs.declared.fault.JournalFault.TheVariants as JournalFault;
+
+use crate::growing::Growing;
+use crate::loading::{HEADER, OPEN, first_difference, gated_batch};
+use crate::order::{Times, pass};
+use crate::{BatchFault, JournalFault, laws};
+use disk_model::Disk;
+use record_form::Entries;
+use std::alloc::Global;
+use std::marker::Model;
+
+// How many octets are read at once, where no batch has more.
+const PIECE: usize = 1_048_576;
+
+/// A reading of a journal's file, batch by batch. The file is held in memory a piece at a time: a
+/// mebibyte, or a batch that has more.
+#[derive(Drop)]
+pub struct Batches {
+    // The last times of the entries that were read.
+    times: Times,
+    // Octets of the file from this place on, and where among them the next gate stands.
+    start: u64,
+    room: Vec<u8>,
+    at: usize,
+}
+
+impl Model for Batches {
+    ghost use Rattle.std.specs.Prelude.{◌+◌, ◌^◌, ◌≤◌, ◌<◌, length};
+    ghost use Rattle.gate_journal.specs.Batches.{BatchesState};
+
+    ghost Value = { BatchesState };
+
+    ghost view = { λ batches. record {
+      gate = batches.start + batches.at;
+      times = batches.times;
+      start = batches.start;
+      room = batches.room.items;
+    } };
+
+    ghost invariant = { λ batches. (batches.at ≤ length batches.room.items)
+        × (batches.start + length batches.room.items < 2 ^ 64) };
+}
+
+impl Batches {
+    /// A reading of the file of a disk, before its first batch. It costs one read.
+    pub fn open<D: Disk>(alloc: Global, disk: &mut D) -> Result<Batches, BatchFault>
+        ensures passed { IfOk result (λ batches. Passed (D.pending disk.old) [] batches) }
+        ensures unfit { IsErrOf result Unfit → ¬ StandsForSome (D.pending disk.old) }
+        ensures same { IsErrOf result DiskFault ⊎ (disk.new ≡ disk.old) }
+        ensures reads { OnlyReads D.pending D.moment D.images_since disk.old disk.new }
+        ensures cause { IsErrOf result DiskFault → Rose (D.faults disk.old) (D.faults disk.new) }
+    {
+        laws::a_refused_file_stands_for_nothing();
+        let mut room = Vec::new(alloc);
+        read_piece(disk, 0, PIECE, &mut room)?;
+        if first_difference(&room).is_some() {
+            return Err(BatchFault::Unfit);
+        }
+        Ok(Batches {
+            times: Times::NONE,
+            start: 0,
+            room,
+            at: HEADER.len(),
+        })
+    }
+
+    /// The entries of the next batch, or none where the next gate isn't open. `Unfit` says that the
+    /// file isn't of its form there, and so for no list of entries: why, a recovery tells. After an
+    /// error no more is to be read.
+    ///
+    /// It copies the octets of the batch's frames, and reads the file where the next batch isn't
+    /// yet in memory.
+    pub fn next<D: Disk>(
+        &mut self,
+        alloc: Global,
+        disk: &mut D,
+    ) -> Result<Option<Entries>, BatchFault>
+        ensures batch { IfOk result (λ next. IfSome next (λ batch. (entries : List Entry)
+            → Passed (D.pending disk.old) entries self.old
+            → Passed (D.pending disk.new) (entries ++ batch) self.new)) }
+        ensures storable { IfOk result (λ next. IfSome next (λ batch. IsTrue
+            (list_all is_storable batch))) }
+        ensures on { IfOk result (λ next. IfSome next (λ _. self.old.gate < self.new.gate)) }
+        ensures shut { IfOk result (λ next. IfNone next ((entries : List Entry)
+            → Passed (D.pending disk.old) entries self.old → IfSome (D.pending disk.old)
+            (λ told. StandsAt entries self.old.gate told.content))) }
+        ensures unfit { IsErrOf result Unfit → (entries : List Entry)
+            → Passed (D.pending disk.old) entries self.old
+            → ¬ StandsForSome (D.pending disk.old) }
+        ensures bound { self.new.gate < 2 ^ 64 }
+        ensures same { IsErrOf result DiskFault ⊎ (disk.new ≡ disk.old) }
+        ensures reads { OnlyReads D.pending D.moment D.images_since disk.old disk.new }
+        ensures cause { IsErrOf result DiskFault → Rose (D.faults disk.old) (D.faults disk.new) }
+    {
+        archive_terms::laws::archive_grows();
+        disk_model::laws::images_at_a_moment::<D>();
+        record_form::laws::read_where_spelled();
+        record_form::laws::read_back();
+        self.fill(disk)?;
+        let room = self.room.as_slice();
+        record_form::laws::slice(room);
+        let mut growing = Growing::new(alloc);
+        let end = match gated_batch(alloc, &mut growing, room, self.at) {
+            Ok(Some(end)) => end,
+            Ok(None) => return Ok(None),
+            Err(fault) => return Err(fault_of_reading(fault)),
+        };
+        let batch = growing.into_entries();
+        let Some(times) = pass(Some(self.times), batch.as_slice()) else {
+            return Err(BatchFault::Unfit);
+        };
+        self.times = times;
+        self.at = end;
+        Ok(Some(batch))
+    }
+
+    /// Where the next gate stands.
+    pub fn gate(&self) -> u64
+        ensures { result ≡ self.now.gate }
+    {
+        self.start + self.at as u64
+    }
+
+    // Has the room hold the next gate and its batch, as far as the file goes.
+    fn fill<D: Disk>(&mut self, disk: &mut D) -> Result<(), BatchFault>
+        ensures gate { self.new.gate ≡ self.old.gate }
+        ensures bound { self.new.gate < 2 ^ 64 }
+        ensures times { self.new.times ≡ self.old.times }
+        ensures room { OnOk result (Reads (D.pending disk.old) self.old.start self.old.room
+            → Reads (D.pending disk.old) self.new.start self.new.room) }
+        ensures holds { OnOk result (HoldsBatch self.new.room (self.new.gate - self.new.start)
+            ⊎ (D.extent disk.old ≤ self.new.start + length self.new.room)) }
+        ensures same { IsErrOf result DiskFault ⊎ (disk.new ≡ disk.old) }
+        ensures reads { OnlyReads D.pending D.moment D.images_since disk.old disk.new }
+        ensures unfit { ¬ IsErrOf result Unfit }
+        ensures cause { IsErrOf result DiskFault → Rose (D.faults disk.old) (D.faults disk.new) }
+    {
+        let mut needed = octets_of_batch(&self.room, self.at);
+        while self.room.len() - self.at < needed
+            && self.start + (self.room.len() as u64) < disk.size()
+        {
+            self.start = self.gate();
+            self.at = 0;
+            read_piece(disk, self.start, PIECE.max(needed + 7), &mut self.room)?;
+            needed = octets_of_batch(&self.room, self.at);
+        }
+        Ok(())
+    }
+}
+
+// A fault of the octets of a batch, or want of memory, to a reader of batches.
+fn fault_of_reading(fault: JournalFault) -> BatchFault
+    ensures { (result ≡ Memory) ⊎ (result ≡ Unfit) × (fault ≢ JournalFault.Memory) }
+{
+    match fault {
+        JournalFault::Memory => BatchFault::Memory,
+        _ => BatchFault::Unfit,
+    }
+}
+
+// How many octets the gate at a place and its batch have, as far as it is known: a gate that isn't
+// open has one.
+fn octets_of_batch(octets: &[u8], at: usize) -> usize
+    requires { at ≤ length octets.now }
+    ensures holds { at + result ≤ length octets.now → HoldsBatch octets.now at }
+    ensures bound { result < 2 ^ 33 }
+{
+    if at < octets.len() && octets[at] != OPEN {
+        return 1;
+    }
+    if octets.len() - at < 7 {
+        return 7;
+    }
+    7 + u32::from_be_bytes(octets[at + 1..at + 5].try_into().unwrap()) as usize
+}
+
+// Reads so many octets from a place of the file on, or as many as there are.
+fn read_piece<D: Disk>(
+    disk: &mut D,
+    place: u64,
+    count: usize,
+    room: &mut Vec<u8>,
+) -> Result<(), BatchFault>
+    ensures octets { OnOk result (Reads (D.pending disk.old) place room.new.items) }
+    ensures size { OnOk result (length room.new.items ≡ min count (D.extent disk.old - place)) }
+    ensures err { OnErr result (room.new.items ≡ []) }
+    ensures same { IsErrOf result DiskFault ⊎ (disk.new ≡ disk.old) }
+    ensures reads { OnlyReads D.pending D.moment D.images_since disk.old disk.new }
+    ensures unfit { ¬ IsErrOf result Unfit }
+    ensures cause { IsErrOf result DiskFault → Rose (D.faults disk.old) (D.faults disk.new) }
+{
+    disk_model::laws::images_at_a_moment::<D>();
+    let left = disk.size().saturating_sub(place);
+    let count = left.min(count as u64) as usize;
+    if count == 0 {
+        room.clear();
+        return Ok(());
+    }
+    if room.resize(count, 0).is_err() {
+        room.clear();
+        return Err(BatchFault::Memory);
+    }
+    if disk.read_at(place, room).is_err() {
+        room.clear();
+        return Err(BatchFault::DiskFault);
+    }
+    Ok(())
+}
