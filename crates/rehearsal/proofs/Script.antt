@@ -86,8 +86,8 @@ module _ (n : ℕ) (few : n ≤ 20000) where
       ≡ recorded (world_with d (frames i)) (stores (store_with (frames i)) (entry_at i))
   frame_stored d i below =
       let small : i < 20000 = omega arith in
-      stored_so (world_with d (frames i)) (offered_at i) (frame_valid i small) (frames_follow i small)
-      (frame_short i)
+      stored_so (world_with d (frames i)) (offered_at i) (frame_valid i small)
+      (frames_follow i small) (frame_short i)
       (enough_for i (need (entry_at i)) (omega arith) (omega (arith, length-frame i))) refl
 
   seal_stored : (d : Doors) (j : ℕ) → j < 20000
@@ -160,7 +160,8 @@ at_first : (site : Site) → site.capacity ≡ capacity
 at_first site is =
     ap (λ n. record { store = blank n; clock = 0; doors = anew site [] }) is
 
-module _ (n : ℕ) (some : 1 ≤ n) (few : n ≤ 20000) (site : Site) (is : site.capacity ≡ capacity) where
+module _ (n : ℕ) (some : 1 ≤ n) (few : n ≤ 20000) (site : Site)
+    (is : site.capacity ≡ capacity) where
   abbrev small : n - 1 < 20000
   small = omega arith
 

@@ -7,7 +7,6 @@ use Rattle.std.proofs.lemmas.List.{length-take, length-append, take_all}
 use Rattle.archive_terms.specs.Archive.{Entry}
 use Rattle.archive_terms.specs.Selection.{Selection}
 use Rattle.archive_terms.specs.Delivery.{Terms}
-use Rattle.archive_terms.specs.Placed.{placed_answered}
 use Rattle.archive_terms.specs.Rounds.{Answer, whole, free, Round, last_front}
 use Rattle.frame_select.specs.Item.{said_of}
 use Rattle.return_core.specs.Course.{Course, Run, run_answered, with_answer, is_offering}
@@ -21,23 +20,6 @@ use Rattle.station_desk.proofs.Rounds.{OfflineRounds, rounds-more, last_front-ro
 use Rattle.station_desk.proofs.Rounds.{all_told}
 
 -- ---- the current buffer is taken
-
--- once a buffer was taken, none is offered
-answered_by : (r : Run) (b : Bool) → r.placed.fixed ≡ b
-    → (cond b (placed_answered r.terms whole r.placed) r.placed).fixed ≡ false
-answered_by r true is = refl
-answered_by r false is = is
-
-none_run : (r : Run) → (run_answered whole r).placed.fixed ≡ false
-none_run r = answered_by r r.placed.fixed refl
-
-pub none_offered : (c : Course) → is_offering (with_answer c whole) ≡ false
-none_offered c = by_case c.run
-  where
-    by_case : (run : Option Run)
-        → is_offering (with_answer (record c { run = run }) whole) ≡ false
-    by_case None = refl
-    by_case (Some r) = none_run r
 
 -- where none is offered nothing is done
 idle_run : (r : Run) → r.placed.fixed ≡ false → run_answered whole r ≡ r
@@ -129,19 +111,8 @@ module _ (law : OfflineRounds) (not_due : NotDue) (s : Selection) (entries : Lis
       let a = length-take (between.made + 1) told in
       let b = length-take between.made told in
       let c = length-take count told in
-      let same = ap length between.handed in (
-        omega (arith, longer, sum, a, b, c, same, within),
-        omega (
-          arith,
-          longer,
-          sum,
-          a,
-          b,
-          c,
-          same,
-          within,
-        ),
-      )
+      let same = ap length between.handed in
+      (omega arith, omega arith)
 
   at_buffer : is_offering new ≡ true → IsAtBuffer s entries (count + 1) new
   at_buffer offers =

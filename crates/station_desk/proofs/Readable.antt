@@ -1,5 +1,5 @@
 -- Whoever reads the messages of a START reads its frames, and nothing else.
-use Rattle.std.proofs.Common.{◌≡◌, ℕ, suc, pos, negsuc, ◌≤ℤ◌, ◌+◌, ◌*◌, ◌≤◌, ◌<◌, ◌&&◌, nat_le}
+use Rattle.std.proofs.Common.{◌≡◌, ℕ, suc, ℤ, pos, negsuc, ◌≤ℤ◌, ◌+◌, ◌*◌, ◌≤◌, ◌<◌, ◌&&◌, nat_le}
 use Rattle.std.proofs.Common.{Bool}
 use Rattle.std.proofs.Common.{true, false, IsTrue, cond, if◌then◌else◌, List, [], ◌∷◌, length, map}
 use Rattle.std.proofs.Common.{take}
@@ -61,45 +61,35 @@ abbrev made : ℕ → ℕ → Rest → Cds
 made days millis rest = record { days = days; millis = millis; rest = rest }
 
 fields_micros : (days millis n : ℕ) → IsTrue (is_moment (made days millis (Micros n)))
-    → (days ≤ 65535) × (millis ≤ 86399999) × (n ≤ 999)
-fields_micros days millis n is = (
-  grind (arith, nat_tests),
-  grind (arith, nat_tests),
-  grind (arith, nat_tests),
-)
+    → FieldsFit (made days millis (Micros n))
+fields_micros days millis n is =
+    let in_days : days ≤ 65535 = grind (arith, nat_tests) in
+    let in_millis : millis ≤ 86399999 = grind (arith, nat_tests) in
+    let in_rest : n ≤ 999 = grind (arith, nat_tests) in
+    record { days = omega arith; millis = omega arith; rest = omega arith }
 
 fields_picos : (days millis n : ℕ) → IsTrue (is_moment (made days millis (Picos n)))
-    → (days ≤ 65535) × (millis ≤ 86399999) × (n ≤ 999999999)
-fields_picos days millis n is = (
-  grind (arith, nat_tests),
-  grind (arith, nat_tests),
-  grind (arith, nat_tests),
-)
+    → FieldsFit (made days millis (Picos n))
+fields_picos days millis n is =
+    let in_days : days ≤ 65535 = grind (arith, nat_tests) in
+    let in_millis : millis ≤ 86399999 = grind (arith, nat_tests) in
+    let in_rest : n ≤ 999999999 = grind (arith, nat_tests) in
+    record { days = omega arith; millis = omega arith; rest = omega arith }
 
 fields_by : (days millis : ℕ) (rest : Rest) → IsTrue (is_moment (made days millis rest))
     → FieldsFit (made days millis rest)
-fields_by days millis (Micros n) is =
-    let h = fields_micros days millis n is in
-    record {
-      days = omega (arith, h.0);
-      millis = omega (arith, h.1);
-      rest = omega (arith, h.2);
-    }
-fields_by days millis (Picos n) is =
-    let h = fields_picos days millis n is in
-    record {
-      days = omega (arith, h.0);
-      millis = omega (arith, h.1);
-      rest = omega (arith, h.2);
-    }
+fields_by days millis (Micros n) is = fields_micros days millis n is
+fields_by days millis (Picos n) is = fields_picos days millis n is
 
 fields_fit : (time : Cds) → IsTrue (is_moment time) → FieldsFit time
 fields_fit time is = fields_by time.days time.millis time.rest is
 
--- a frame that may be archived, whose fields fit in their octets
+-- a frame that may be archived: its fields fit in their octets, and a user is told it with any
+-- continuity
 record MayStand (f : terms.Frame) : Type 0 where
-  storable : is_storable (frame f) ≡ true
   ert : FieldsFit f.ert
+  shown : (told : ℤ) → negsuc 0 ≤ℤ told → told ≤ℤ pos 16777215
+      → IsFrame (frame_of f.ert f.antenna told f.quality f.octets)
 
 may_stand : (f : terms.Frame) → is_storable (frame f) ≡ true → MayStand f
 may_stand f storable =
@@ -116,7 +106,19 @@ may_stand f storable =
     let p3 = and_parts (time && q && a && b) l p2.0 in
     let p4 = and_parts (time && q && a) b p3.0 in
     let p5 = and_parts (time && q) a p4.0 in
-    record { storable = storable; ert = fields_fit f.ert (and_parts time q p5.0).0 }
+    let p6 = and_parts time q p5.0 in
+    record {
+      ert = fields_fit f.ert p6.0;
+      shown = λ told least greatest. record {
+        antenna_some = leb-true 1 (length antenna) p5.1;
+        antenna_short = leb-true (length antenna) 16 p4.1;
+        continuity_least = least;
+        continuity_greatest = greatest;
+        quality = leb-true f.quality 2 p6.1;
+        octets_some = leb-true 1 (length octets) p2.1;
+        octets_fit = leb-true (length octets) 65536 p1.1;
+      };
+    }
 
 -- an offline delivery hands over frames and the end of data
 abbrev IsOffline : Item → Type 0
@@ -148,14 +150,8 @@ picks_are start stop quality entries n (frame f ∷ rest) archive =
     one_picked n (frame f) (picks start stop quality entries (n + 1) rest)
     (may_stand f parts.0) (picks_are start stop quality entries (n + 1) rest parts.1)
     (is_picked (selection start stop quality) entries n (frame f))
-picks_are start stop quality entries n (loss_of_sync l ∷ rest) archive =
-    picks_are start stop quality entries (n + 1) rest
-    (first_storable (loss_of_sync l) rest archive).1
-picks_are start stop quality entries n (production status ∷ rest) archive =
-    picks_are start stop quality entries (n + 1) rest
-    (first_storable (production status) rest archive).1
-picks_are start stop quality entries n (seal at ∷ rest) archive =
-    picks_are start stop quality entries (n + 1) rest (first_storable (seal at) rest archive).1
+picks_are start stop quality entries n (entry ∷ rest) archive =
+    picks_are start stop quality entries (n + 1) rest (first_storable entry rest archive).1
 
 -- ---- the buffers of a START
 
@@ -202,36 +198,9 @@ continuity_in_range : (entries : List terms.Entry) (before : Option ℕ) (place 
     → (negsuc 0 ≤ℤ continuity entries before place)
     × (continuity entries before place ≤ℤ pos 16777215)
 continuity_in_range entries None place = (grind (arith, ints), grind (arith, ints))
-continuity_in_range entries (Some before) place = let capped : gap entries before place ≤ 16777215 =
-    omega arith in (grind (arith, ints), grind (arith, ints))
-
-frame_in_range : (entries : List terms.Entry) (before : Option ℕ) (place : ℕ) (f : terms.Frame)
-    → is_storable (frame f) ≡ true
-    → IsFrame (frame_of f.ert f.antenna (continuity entries before place) f.quality f.octets)
-frame_in_range entries before place f storable =
-    let antenna = f.antenna in
-    let octets = f.octets in
-    let time = is_moment f.ert in
-    let q = nat_le f.quality 2 in
-    let a = nat_le 1 (length antenna) in
-    let b = nat_le (length antenna) 16 in
-    let l = nat_le f.lost 16777215 in
-    let o = nat_le 1 (length octets) in
-    let p1 = and_parts (time && q && a && b && l && o) (nat_le (length octets) 65536) storable in
-    let p2 = and_parts (time && q && a && b && l) o p1.0 in
-    let p3 = and_parts (time && q && a && b) l p2.0 in
-    let p4 = and_parts (time && q && a) b p3.0 in
-    let p5 = and_parts (time && q) a p4.0 in
-    let told = continuity_in_range entries before place in
-    record {
-      antenna_some = leb-true 1 (length antenna) p5.1;
-      antenna_short = leb-true (length antenna) 16 p4.1;
-      continuity_least = told.0;
-      continuity_greatest = told.1;
-      quality = leb-true f.quality 2 (and_parts time q p5.0).1;
-      octets_some = leb-true 1 (length octets) p2.1;
-      octets_fit = leb-true (length octets) 65536 p1.1;
-    }
+continuity_in_range entries (Some before) place =
+    let capped : gap entries before place ≤ 16777215 = omega arith in
+    (grind (arith, ints), grind (arith, ints))
 
 end_small : length (canonical pdu.end_of_data) ≤ most_octets
 unfolding canonical element shortest_length
@@ -270,7 +239,8 @@ module _ (short : FramesAreShort) (plain : FramesArePlain) (ended : EndIsPlain) 
       let stands : MayStand f = all.0 in
       let rest = say archive (Some place) buffer all.1 in
       let shown = frame_of f.ert f.antenna (continuity archive before place) f.quality f.octets in
-      let ranges = frame_in_range archive before place f stands.storable in
+      let told = continuity_in_range archive before place in
+      let ranges = stands.shown (continuity archive before place) told.0 told.1 in
       let is = plain shown ranges stands.ert in
       record {
         handed = (ranges, rest.handed);

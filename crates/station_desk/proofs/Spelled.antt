@@ -1,21 +1,17 @@
 -- The octets of a message, item by item.
 use Rattle.std.proofs.Common.{◌≡◌, ℕ, zero, suc, ◌+◌, ◌≤◌, ◌<◌, List, [], ◌∷◌, ◌++◌, length, map}
 use Rattle.std.proofs.Common.{take}
-use Rattle.std.proofs.Common.{get_or, refl, sym, ap, subst, ◌∙◌, append_assoc, length-append, arith}
+use Rattle.std.proofs.Common.{get_or, refl, sym, ap, subst, ◌∙◌, arith}
 use Rattle.std.specs.List.{flat_map, AllByRecursion}
 use Rattle.std.proofs.lemmas.Grind.{flat_map-append}
 use Rattle.std.proofs.lemmas.List.{append-nil, take_more}
 use Rattle.std.proofs.lemmas.List.Folds.{length-flat_map-take}
-use Rattle.ber_core.specs.Tree.{Tree}
 use Rattle.ber_core.specs.Spelling.{canonical}
-use Rattle.isp1_tml.specs.Message.{header}
-use Rattle.return_pdu.specs.Items.{buffer_start, items_spelled}
-use Rattle.return_pdu.specs.Items.{BufferIsHeadAndItems}
+use Rattle.return_pdu.specs.Items.{items_spelled}
 use Rattle.frame_select.specs.declared.item.Item.{Item}
 use Rattle.frame_select.specs.Item.{item_of, items_of}
 use Rattle.station_desk.specs.Told.{item_tree}
 use Rattle.station_desk.specs.Readable.{IsHanded}
-use Rattle.station_desk.specs.Told.{message_octets}
 
 -- the octets of an item in a transfer buffer
 abbrev pub octets_of : Item → List ℕ
@@ -55,20 +51,3 @@ handed_at items i item all below here = subst (λ x. IsHanded (item_of x)) (sym 
     at [] i all below = absurd (omega arith)
     at (first ∷ items) zero all below = all.0
     at (first ∷ items) (suc i) all below = at items i all.1 (omega arith)
-
-pub message_is : BufferIsHeadAndItems → (items : List Item) (content : ℕ)
-    → content ≡ length (items_spelled (map item_tree (items_of items)))
-    → (header 1 (length (buffer_start content) + content) ++ buffer_start content)
-    ++ items_spelled (map item_tree (items_of items)) ≡ message_octets (items_of items)
-message_is law items content size =
-    let trees : List Tree = map item_tree (items_of items) in
-    subst (λ (n : ℕ). (header 1 (length (buffer_start n) + n) ++ buffer_start n)
-    ++ items_spelled trees ≡ message_octets (items_of items)) (sym size)
-    (rw (
-      law trees,
-      length-append (buffer_start (length (items_spelled trees)))
-          (items_spelled trees),
-    )
-    (append_assoc (header 1 (length (buffer_start (length (items_spelled trees)))
-    + length (items_spelled trees))) (buffer_start (length (items_spelled trees)))
-    (items_spelled trees)))

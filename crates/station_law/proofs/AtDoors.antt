@@ -1,8 +1,8 @@
 -- What is at each door once one of them changes.
-use Rattle.std.proofs.Common.{◌≡◌, ℕ, zero, suc, true, false, Option, Some, None, List, []}
-use Rattle.std.proofs.Common.{◌∷◌, length, ◌<◌, ◌≤◌, get_or, replicate, slice_get, set, refl, sym}
-use Rattle.std.proofs.Common.{ap, subst, ◌∙◌, arith}
-use Rattle.std.proofs.lemmas.Option.{slice_get_past, slice_get_read}
+use Rattle.std.proofs.Common.{◌≡◌, ℕ, zero, suc, true, Option, Some, None, List, []}
+use Rattle.std.proofs.Common.{◌∷◌, length, ◌<◌, get_or, replicate, slice_get, set, refl, sym}
+use Rattle.std.proofs.Common.{ap, subst, ◌∙◌}
+use Rattle.std.proofs.lemmas.Option.{slice_get_read}
 use Rattle.std.specs.Prelude.{vec_items}
 use Rattle.station_config.specs.declared.site.Site.{Site}
 use Rattle.station_book.specs.State as books
@@ -14,8 +14,8 @@ use Rattle.drill_text.specs.declared.script_line.ScriptLine.{ScriptLine}
 use Rattle.drill_text.specs.declared.script_line.ScriptLine.TheVariants.{Open}
 use Rattle.station_links.specs.Run.{Order, order_in, obeyed}
 use Rattle.station_law.specs.declared.doors.Turns.{Turns}
-use Rattle.station_law.specs.Doors.{Doors, Acted, Act, opens, rounds_of, ordered, act_of, act}
-use Rattle.station_law.specs.Doors.{Ran, acted_by}
+use Rattle.station_law.specs.Doors.{Doors, Act, opens, rounds_of, ordered, act_of, act}
+use Rattle.station_law.specs.Doors.{acted_by}
 use Rattle.station_law.specs.Doors.{acted, acted_on}
 use Rattle.station_law.specs.Standing.{DoorsSeen, IsOpen, Match, IsThere, AreDoors, AreLeft}
 use Rattle.station_law.specs.Standing.{there, is_free, IsActed, IsAsked, IsOrdered, IsObeyed}
@@ -43,21 +43,6 @@ pub set_twice : {A : Type 0} → (xs : List A) (c : ℕ) (a b : A) → set (set 
 set_twice [] c a b = refl
 set_twice (x ∷ xs) zero a b = refl
 set_twice (x ∷ xs) (suc c) a b = ap (λ (rest : List _). x ∷ rest) (set_twice xs c a b)
-
--- nothing is set past the end
-pub set_past : {A : Type 0} → (xs : List A) (c : ℕ) (a : A) → length xs ≤ c → set xs c a ≡ xs
-set_past [] c a past = refl
-set_past (x ∷ xs) zero a past = absurd (omega arith)
-set_past (x ∷ xs) (suc c) a past =
-    ap (λ (rest : List _). x ∷ rest) (set_past xs c a (omega arith))
-
--- where nothing is at a place, nothing changes if it is emptied
-pub emptied : {A : Type 0} → (xs : List (Option A)) (c : ℕ) → there (slice_get xs c) ≡ None
-    → set xs c None ≡ xs
-emptied [] c none = refl
-emptied (None ∷ xs) zero none = refl
-emptied (Some a ∷ xs) zero none = absurd cc
-emptied (x ∷ xs) (suc c) none = ap (λ (rest : List _). x ∷ rest) (emptied xs c none)
 
 -- ---- what matches at one place
 
@@ -111,17 +96,6 @@ module _ (seen : DoorsSeen) (d : Doors) (c reading : ℕ) (are : AreDoors seen d
         };
       })
 
-  not_open : (o : Option (Option Connected)) → is_free o ≡ false → opens d reading c o ≡ None
-  not_open None free = refl
-  not_open (Some None) free = absurd cc
-  not_open (Some (Some l)) free = refl
-
-  pub not_opened : is_free (slice_get seen.connections c) ≡ false
-      → IsActed None d (opens d reading c (slice_get d.connections c)) seen
-  not_opened free =
-      subst (λ (a : Option Acted). IsActed None d a seen)
-      (sym (not_open (slice_get d.connections c) (sym same_free ∙ free))) (refl, are)
-
 -- ---- a connection is taken out of its door, and put back
 
 pub taken_out : (seen : DoorsSeen) (d : Doors) (c : ℕ) → AreDoors seen d
@@ -136,24 +110,7 @@ taken_out seen d c are = record {
       (match_set (λ k. IsThere d.site k) seen.connections d.connections c v l are.at stands);
 }
 
--- a connection that was taken out is put back, as it is then, or isn't
-pub put_back : (left new : DoorsSeen) (d : Doors) (c : ℕ) (ran : Ran) (v : Option links.Seen)
-    (book : books.State) (said : SaidAt) → AreLeft left d c
-    → HasRan d.site c ran left.book book (vec_items said.lines) v → said.c ≡ c
-    → new ≡ record left { book = book; connections = set left.connections c v }
-    → HasActed said d (acted_by d c ran) new
-put_back left new d c ran v book said are ran_so c_is new_is =
-    subst (λ (x : DoorsSeen). HasActed said d (acted_by d c ran) x) (sym new_is) (record {
-      c_is = c_is;
-      says = ran_so.says;
-      doors = record {
-        site = are.site;
-        book = ran_so.book_is ∙ ap (λ (b : books.State). replay b ran.events) are.book;
-        at = are.puts v ran.left ran_so.leaves;
-      };
-    })
-
--- so it is with the rounds of the connection that was taken out
+-- a connection that was taken out is put back behind its rounds, as it is then, or isn't
 pub put_ran : (left new : DoorsSeen) (d : Doors) (c reading n : ℕ) (l : Connected)
     (v : Option links.Seen) (book : books.State) (said : SaidAt) → AreLeft left d c
     → HasRan left.site c (rounds_of left.site c reading n left.book (Some l)) left.book book
@@ -161,22 +118,20 @@ pub put_ran : (left new : DoorsSeen) (d : Doors) (c reading n : ℕ) (l : Connec
     → new ≡ record left { book = book; connections = set left.connections c v }
     → HasActed said d (acted_by d c (rounds_of d.site c reading n d.book (Some l))) new
 put_ran left new d c reading n l v book said are ran_so c_is new_is =
-    put_back left new d c (rounds_of d.site c reading n d.book (Some l)) v book said are
-    (subst (λ (b : books.State). HasRan d.site c (rounds_of d.site c reading n b (Some l)) left.book
-    book (vec_items said.lines) v) are.book
-    (subst (λ (s : Site). HasRan s c (rounds_of s c reading n left.book (Some l)) left.book book
-    (vec_items said.lines) v) are.site ran_so)) c_is new_is
+    let ran = rounds_of d.site c reading n d.book (Some l) in
+    let so : HasRan d.site c ran left.book book (vec_items said.lines) v =
+    rw (← are.site, ← are.book) ran_so in
+    rw new_is (record {
+      c_is = c_is;
+      says = so.says;
+      doors = record {
+        site = are.site;
+        book = so.book_is ∙ ap (λ (b : books.State). replay b ran.events) are.book;
+        at = are.puts v ran.left so.leaves;
+      };
+    })
 
--- nobody was there
-module _ (seen : DoorsSeen) (d : Doors) (c : ℕ) (are : AreDoors seen d)
-    (none : there (slice_get seen.connections c) ≡ None) where
-  pub as_before : AreDoors (record seen { connections = set seen.connections c None }) d
-  as_before =
-      subst (λ (vs : List (Option links.Seen)). AreDoors (record seen { connections = vs }) d)
-      (sym (emptied seen.connections c none))
-      (record { site = are.site; book = are.book; at = are.at })
-
--- somebody was
+-- a connection was at a door
 pub record IsOut (site : Site) (c : ℕ) (v : links.Seen) (at : Option (Option Connected))
     : Type 0 where
   pub l : Connected
@@ -263,10 +218,6 @@ no_opening d reading (Open c) other = absurd (other c refl)
 no_opening d reading line other = refl
 
 -- ---- a door by its number
-
-pub none_past : {X : Type 0} → (xs : List (Option X)) (c : ℕ) → length xs ≤ c
-    → None ≡ there (slice_get xs c)
-none_past xs c past = sym (ap (λ (o : Option (Option _)). there o) (slice_get_past xs c past))
 
 pub there_at : {X : Type 0} → (xs : List (Option X)) (c : ℕ) (x : Option X) → c < length xs
     → x ≡ get_or xs c x → x ≡ there (slice_get xs c)

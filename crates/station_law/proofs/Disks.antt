@@ -93,5 +93,8 @@ image_before one old new (Some pick) again there image is =
 
 -- the orders are gone, and what is pending stays
 pub unsteered_by : (disk : DiskState) → disk.memory_refused ≡ false
-    → IsUnsteered (steered disk (record { failing = record { failing = []; made = 0 }; stop = None }))
+    → IsUnsteered (steered disk (record {
+      failing = record { failing = []; made = 0 };
+      stop = None;
+    }))
 unsteered_by disk ample = record { goes_on = refl; succeeds = refl; ample = ample }

@@ -1,5 +1,5 @@
 -- What the doors become by what became of an entry.
-use Rattle.std.proofs.Common.{◌≡◌, ℕ, Bool, true, false, Option, Some, None, List, []}
+use Rattle.std.proofs.Common.{◌≡◌, ℕ, Bool, true, false, Option, Some, List, []}
 use Rattle.std.proofs.Common.{if◌then◌else◌}
 use Rattle.std.proofs.Common.{refl, sym, ap, subst, ◌∙◌, IsTrue}
 use Rattle.cds_time.specs.declared.cds.Cds.{Cds}
@@ -13,8 +13,6 @@ use Rattle.drill_text.specs.declared.script_line.ScriptLine.TheVariants.{Skip, O
 use Rattle.drill_text.specs.declared.script_line.ScriptLine.TheVariants.{Crash, Fault}
 use Rattle.drill_text.specs.Reading.{HasValidEntry}
 use Rattle.station_law.specs.declared.order.Order.{Order}
-use Rattle.station_law.specs.declared.order.Strike.{Strike}
-use Rattle.station_law.specs.declared.order.Strike.TheVariants.{Stop, Fail}
 use Rattle.station_law.specs.declared.outcome.Outcome.{Outcome}
 use Rattle.station_law.specs.declared.outcome.Outcome.TheVariants.{Stored, Refused, Crashed, Failed}
 use Rattle.station_law.specs.declared.refusal.Refusal.{Refusal}
@@ -22,13 +20,14 @@ use Rattle.station_law.specs.Store.{Store, Recorded}
 use Rattle.station_law.specs.Doors.{Doors, act}
 use Rattle.station_law.specs.State.{State}
 use Rattle.station_law.specs.Answer.{Answer, is_wrong}
-use Rattle.station_law.specs.Orders.{is_hit, behind_store, found, pick_of}
+use Rattle.station_law.specs.Orders.{found, pick_of}
 use Rattle.station_law.specs.Power.{crash_line}
-use Rattle.station_law.specs.Outcomes.{said_of}
-use Rattle.station_law.specs.Entries.{stores, struck, stores_under, by_refusal, offer}
-use Rattle.station_law.specs.Entries.{refusal}
+use Rattle.station_law.specs.Outcomes.{said_of, done_of}
+use Rattle.station_law.specs.Entries.{stores, crashes, fails, by_refusal, offer}
 use Rattle.station_law.specs.Standing.{DoorsSeen, AreDoors, Seen, Stands, HasDone}
 use Rattle.station_law.specs.Stopped.{IsDone}
+use Rattle.station_law.specs.Does.{IsTaken}
+use Rattle.station_law.proofs.Offered.{offered_by}
 use Rattle.station_law.specs.Lines.{doors_by, doors_behind, recorded, offered, connected, step}
 
 -- doors whose book gets nothing are as they were
@@ -49,25 +48,17 @@ module _ (store : Store) (entry : Entry) (seen : DoorsSeen) (d : Doors) where
   by_stores order (Crashed count) is are = absurd cc
   by_stores order (Failed count) is are = absurd cc
 
-  by_strike : (there : List Entry) (strike : Strike) → Follow (struck store entry there strike)
-  by_strike there (Stop pick) Stored is are = absurd cc
-  by_strike there (Stop pick) (Refused why) is are = absurd cc
-  by_strike there (Stop pick) (Crashed count) is are = are
-  by_strike there (Stop pick) (Failed count) is are = absurd cc
-  by_strike there Fail Stored is are = absurd cc
-  by_strike there Fail (Refused why) is are = absurd cc
-  by_strike there Fail (Crashed count) is are = absurd cc
-  by_strike there Fail (Failed count) is are = are
+  crashed : (found : List Entry) → Follow (crashes store entry found)
+  crashed found Stored is are = absurd cc
+  crashed found (Refused why) is are = absurd cc
+  crashed found (Crashed count) is are = are
+  crashed found (Failed count) is are = absurd cc
 
-  by_hit : (order : Order) (hits : Bool)
-      → Follow (if hits then struck store entry (found order store.published entry) order.strike
-      else stores (record store { order = behind_store order }) entry)
-  by_hit order true = by_strike (found order store.published entry) order.strike
-  by_hit order false = by_stores (behind_store order)
-
-  by_order : (order : Option Order) → order ≡ store.order → Follow (stores_under store entry order)
-  by_order None is = by_stores None
-  by_order (Some order) is = by_hit order (is_hit order)
+  failed : (found : List Entry) → Follow (fails store entry found)
+  failed found Stored is are = absurd cc
+  failed found (Refused why) is are = absurd cc
+  failed found (Crashed count) is are = absurd cc
+  failed found (Failed count) is are = are
 
   refused : (why : Refusal) → Follow (by_refusal store entry (Some why))
   refused why Stored is are = absurd cc
@@ -75,37 +66,42 @@ module _ (store : Store) (entry : Entry) (seen : DoorsSeen) (d : Doors) where
   refused why (Crashed count) is are = absurd cc
   refused why (Failed count) is are = absurd cc
 
-  by_cause : (why : Option Refusal) → Follow (by_refusal store entry why)
-  by_cause None = by_order store.order refl
-  by_cause (Some why) = refused why
-
   pub followed : Follow (offer store entry)
-  followed = by_cause (refusal store entry)
+  followed = offered_by Follow store entry by_stores crashed failed refused
 
 -- an entry's line was done, all but its text
-pub offer_done : (state : State) (entry : Entry) (outcome : Outcome) (seen new : Seen)
-    (recorder : Recorded) → Stands seen state
+pub offer_taken : (entry : Entry) (outcome : Outcome) (seen new : Seen) (recorder : Recorded)
     → said_of outcome ≡ (offer seen.recorder.state entry).said
+    → done_of outcome ≡ (offer seen.recorder.state entry).done
     → IsDone (offer seen.recorder.state entry) recorder
     → ((d : Doors) → AreDoors seen.doors d
     → AreDoors new.doors (doors_by outcome entry recorder.state.published d))
-    → new.recorder ≡ recorder → new.clock ≡ seen.clock → HasDone (offered state entry) new
-offer_done state entry outcome seen new recorder stands said done follows same clock =
-    let said_so : said_of outcome ≡ (offer state.store entry).said =
-    said ∙ ap (λ (s : Store). (offer s entry).said) stands.store in
-    let done_so : IsDone (offer state.store entry) recorder =
-    subst (λ (s : Store). IsDone (offer s entry) recorder) stands.store done in
-    record {
-      stands = record {
-        store = ap (λ (r : Recorded). r.state) same ∙ done_so.state;
-        clock = clock ∙ stands.clock;
-        doors = followed state.store entry new.doors state.doors outcome said_so
-            (subst (λ (s : Store). AreDoors new.doors
-            (doors_by outcome entry s.published state.doors)) done_so.state
-            (follows state.doors stands.doors));
-      };
-      ready = ap (λ (r : Recorded). r.is_spent) same ∙ done_so.ready;
-    }
+    → new.recorder ≡ recorder → new.clock ≡ seen.clock
+    → IsTaken (λ state. offered state entry) seen new (said_of outcome) (done_of outcome)
+offer_taken entry outcome seen new recorder said done is_done follows same clock =
+    record { says = says; ends = ends; next = next }
+  where
+    says : (state : State) → Stands seen state → said_of outcome ≡ (offer state.store entry).said
+    says state stands = said ∙ ap (λ (s : Store). (offer s entry).said) stands.store
+
+    ends : (state : State) → Stands seen state → done_of outcome ≡ (offer state.store entry).done
+    ends state stands = done ∙ ap (λ (s : Store). (offer s entry).done) stands.store
+
+    next : (state : State) → Stands seen state → HasDone (offered state entry) new
+    next state stands =
+        let done_so : IsDone (offer state.store entry) recorder =
+        subst (λ (s : Store). IsDone (offer s entry) recorder) stands.store is_done in
+        record {
+          stands = record {
+            store = ap (λ (r : Recorded). r.state) same ∙ done_so.state;
+            clock = clock ∙ stands.clock;
+            doors = followed state.store entry new.doors state.doors outcome (says state stands)
+                (subst (λ (s : Store). AreDoors new.doors
+                (doors_by outcome entry s.published state.doors)) done_so.state
+                (follows state.doors stands.doors));
+          };
+          ready = ap (λ (r : Recorded). r.is_spent) same ∙ done_so.ready;
+        }
 
 -- ---- lines that aren't of the store
 

@@ -1,9 +1,9 @@
 -- The text of the buffers that a START of the desk is still to hand over.
-use Rattle.std.proofs.Common.{◌≡◌, ℕ, ◌+◌, ◌-◌, ◌<◌, ◌≤◌, true, false, cond, nat_lt, List, []}
-use Rattle.std.proofs.Common.{◌∷◌, ◌++◌, length, map, drop, get_or, Option, Result, Ok, Err, refl}
+use Rattle.std.proofs.Common.{◌≡◌, ℕ, ◌+◌, ◌-◌, ◌<◌, ◌≤◌, true, false, nat_lt, List, []}
+use Rattle.std.proofs.Common.{◌++◌, length, map, drop, get_or, Option, Result, Ok, Err, refl}
 use Rattle.std.proofs.Common.{sym, ap, ◌∙◌, arith}
 use Rattle.std.proofs.lemmas.Bool.Decides.{nat_tests}
-use Rattle.std.proofs.lemmas.List.{drop_more, length-drop}
+use Rattle.std.proofs.lemmas.List.{drop_more, drop_all}
 use Rattle.std.specs.Result.{IsErrAnd}
 use Rattle.station_desk.specs.Told.{Told, message_octets}
 use Rattle.station_desk.specs.Cursor.{Cursor, at_next, current}
@@ -40,13 +40,6 @@ next_text old new next has =
     ∙ ap (λ (bs : List Told). sent_text 0 (message_octets (current new))
     ++ texts (map (handed 0) (drop new.count bs))) (sym same)
 
-none_behind : (told : List Told) (n : ℕ) → length told ≤ n → drop n told ≡ []
-none_behind told n past = by_length (drop n told) (omega (arith, length-drop n told))
-  where
-    by_length : (xs : List Told) → length xs ≡ 0 → xs ≡ []
-    by_length [] is = refl
-    by_length (x ∷ xs) is = absurd (omega (arith, is))
-
 -- where there is none, nothing is to come
 pub no_text : (old new : Cursor) → new ≡ at_next old → new.has_current ≡ false
     → text_to_come old ≡ []
@@ -54,7 +47,7 @@ no_text old new next has =
     let none : nat_lt old.count (length old.buffers) ≡ false =
     sym (ap (λ (c : Cursor). c.has_current) next) ∙ has in
     let past : length old.buffers ≤ old.count = grind (arith, nat_tests) in
-    ap (λ (bs : List Told). texts (map (handed 0) bs)) (none_behind old.buffers old.count past)
+    ap (λ (bs : List Told). texts (map (handed 0) bs)) (drop_all old.count old.buffers past)
 
 -- nothing more was written, for want of memory
 pub refused_before : {T : Type 0} (start now : Option (List ℕ)) (f g : ℕ) (whole rest : List ℕ)

@@ -166,27 +166,22 @@ same_refusal seen archive state rests capacity entry =
     (sym rests.acknowledges.agrees.counted) capacity rests.used_are in
     ap (λ o. chain_of o (is_short entry) (nat_le 256 (length archive.waiting))
     (archives.need archive.waiting entry) (archives.free archive)) ordered
-    ∙ ap (λ m. chain_of (keeps_order published entry) (is_short entry) m
-    (archives.need archive.waiting entry) (archives.free archive)) few
-    ∙ ap (λ n. chain_of (keeps_order published entry) (is_short entry) false n
-    (archives.free archive)) wants
-    ∙ ap (λ f. chain_of (keeps_order published entry) (is_short entry) false (need entry) f) room
-    ∙ chains (keeps_order published entry) (is_short entry) (need entry) (free state)
-    (nat_lt (free state) (need entry)) refl
+    ∙ rw (few, wants, room) (chains (keeps_order published entry) (is_short entry) (need entry)
+    (free state) (nat_lt (free state) (need entry)) refl)
+
+-- a fault of an offer is of one refusal
+abbrev of_fault : OfferFault → Refusal
+of_fault faults.Backward = refusals.Backward
+of_fault (faults.Full n f) = refusals.Full n f
+of_fault _ = refusals.TooLong
+
+of_same : (v : Refusal) → of_fault (fault_of v) ≡ v
+of_same refusals.Backward = refl
+of_same refusals.TooLong = refl
+of_same (refusals.Full n f) = refl
 
 same_fault : (v w : Refusal) → fault_of v ≡ fault_of w → v ≡ w
-same_fault refusals.Backward refusals.Backward e = refl
-same_fault refusals.Backward refusals.TooLong e = absurd cc
-same_fault refusals.Backward (refusals.Full n f) e = absurd cc
-same_fault refusals.TooLong refusals.Backward e = absurd cc
-same_fault refusals.TooLong refusals.TooLong e = refl
-same_fault refusals.TooLong (refusals.Full n f) e = absurd cc
-same_fault (refusals.Full n f) refusals.Backward e = absurd cc
-same_fault (refusals.Full n f) refusals.TooLong e = absurd cc
-same_fault (refusals.Full n f) (refusals.Full m g) e =
-    let wanted : n ≡ m = cc in
-    let left : f ≡ g = cc in
-    rw (wanted, left) refl
+same_fault v w e = sym (of_same v) ∙ ap of_fault e ∙ of_same w
 
 never_memory : (v : Refusal) → fault_of v ≡ faults.Memory → ⊥
 never_memory refusals.Backward e = cc
@@ -239,35 +234,19 @@ pub used_more : (entries : List Entry) (entry : Entry)
     → used (entries ++ entry ∷ []) ≡ used entries + need entry
 used_more entries entry = let more = sum_by_push need entries entry in omega (arith, more)
 
-pub one_octets : (entry : Entry) → length (entries_octets (entry ∷ [])) ≡ length (entry_octets entry)
+pub one_octets : (entry : Entry)
+    → length (entries_octets (entry ∷ [])) ≡ length (entry_octets entry)
 one_octets entry = ap (λ (octets : List ℕ). length octets) (append-nil (entry_octets entry))
 
 wanted_one : (entry : Entry) → archives.wanted (entry ∷ []) ≡ need entry
 wanted_one entry = ap (λ n. n + 7) (one_octets entry)
-
-pub no_entry : (entry : Entry) → entry ∷ [] ≡ [] → ⊥
-no_entry entry e = grind (arith, e)
 
 -- the same refusal by the same fields
 refuses_same : (one other : ArchiveState DiskState) (entry : Entry) → one.times ≡ other.times
     → one.waiting ≡ other.waiting → one.count ≡ other.count → one.capacity ≡ other.capacity
     → one.used ≡ other.used → archives.refusal one entry ≡ archives.refusal other entry
 refuses_same one other entry times waiting count capacity used_are =
-    let make : Times → List Entry → ℕ → ℕ → ℕ → ArchiveState DiskState = λ t w n c u. record one {
-      times = t;
-      waiting = w;
-      count = n;
-      capacity = c;
-      used = u;
-    } in
-    ap (λ t. archives.refusal (make t one.waiting one.count one.capacity one.used) entry) times
-    ∙ ap (λ w. archives.refusal (make other.times w one.count one.capacity one.used) entry) waiting
-    ∙ ap (λ n. archives.refusal (make other.times other.waiting n one.capacity one.used) entry)
-    count
-    ∙ ap (λ c. archives.refusal (make other.times other.waiting other.count c one.used) entry)
-    capacity
-    ∙ ap (λ u. archives.refusal (make other.times other.waiting other.count other.capacity u) entry)
-    used_are
+    rw (times, waiting, count, capacity, used_are) refl
 
 -- an archive that rests refuses what any other of its entries does
 pub takes_so : (archive : ArchiveState DiskState) (entries : List Entry) → Rests archive entries
@@ -343,16 +322,6 @@ stands_at true entries entry file stands =
     let octets = one_octets entry in
     subst (λ (n : ℕ). StandsAt (entries ++ entry ∷ []) n file) (omega (arith, more, octets)) stands
 stands_at false entries entry file stands = stands
-
--- last times by their fields
-pub times_by : (t : Times) (f s : Option ℕ) → t.frame ≡ f → t.seal ≡ s
-    → t ≡ record { frame = f; seal = s }
-times_by t f s is_frame is_seal =
-    let one : t ≡ record { frame = f; seal = t.seal } =
-    ap (λ (x : Option ℕ). record { frame = x; seal = t.seal }) is_frame in
-    let two : record { frame = f; seal = t.seal } ≡ record { frame = f; seal = s } =
-    ap (λ (x : Option ℕ). record { frame = f; seal = x }) is_seal in
-    one ∙ two
 
 -- what holds whatever an error is
 pub on_err : {T E P : Type 0} (result : Result T E) → P → OnErr result P

@@ -1,9 +1,9 @@
 pub mod Results
-pub mod Behind
 pub mod Disks
 pub mod Held
 pub mod Striking
 pub mod Reopening
+pub mod Offered
 pub mod Worlds
 pub mod AtDoors
 pub mod Following

@@ -7,6 +7,7 @@ use Rattle.std.proofs.Common.{is_some, nat_lt, refl, sym, ap, subst, ◌∙◌, 
 use Rattle.std.proofs.Common.{⊎_elim}
 use Rattle.std.proofs.lemmas.Bool.{eq-eqb}
 use Rattle.std.proofs.lemmas.Bool.Decides.{eqb_tells}
+use Rattle.std.proofs.lemmas.Bool.{true≢false, false≢true}
 use Rattle.std.specs.List.{AllByRecursion}
 use Rattle.archive_terms.specs.Archive.{Entry, is_valid}
 use Rattle.cds_time.specs.declared.cds.Cds.{Cds}
@@ -30,12 +31,9 @@ use Rattle.station_links.specs.Rounds.{round_at, round_of, end_after, stands_aft
 use Rattle.station_links.specs.Rounds.{listened_at, told_now}
 use Rattle.station_links.specs.Run.{Order, Deed, said_by, events_by, RunsAreSessions}
 use Rattle.station_links.specs.Run.{IsSession, rounds_by}
-use Rattle.station_law.specs.declared.order.Order as orders
-use Rattle.station_law.specs.declared.order.Strike.{Strike}
 use Rattle.station_law.specs.declared.order.Strike.TheVariants.{Stop, Fail}
-use Rattle.station_law.specs.declared.refusal.Refusal.{Refusal}
 use Rattle.station_law.specs.Store.{Store}
-use Rattle.station_law.specs.Doors.{Doors, Act, Acted, act_of, acted, acted_on, acted_by, act}
+use Rattle.station_law.specs.Doors.{Act, Acted, act_of, acted, acted_on, acted_by}
 use Rattle.station_law.specs.Doors.{opens}
 use Rattle.station_law.specs.Doors.{Ran, ordered, rounds_of, anew}
 use Rattle.station_desk.specs.Start.{moment}
@@ -44,17 +42,19 @@ use Rattle.station_desk.specs.Told.{Told}
 use Rattle.station_law.specs.Said.{linked, handed, told, refused}
 use Rattle.station_law.specs.Answer.{Answer, says, is_wrong}
 use Rattle.station_law.specs.Standing.{there}
-use Rattle.station_law.specs.Entries.{offer, refusal, by_refusal, stores_under, struck, stores}
+use Rattle.station_law.specs.Entries.{offer}
 use Rattle.station_desk.specs.Start.{told_desk}
 use Rattle.station_law.specs.Desk.{desk, said_at_start}
-use Rattle.station_law.specs.Orders.{pick_of, is_hit, behind_store, found}
+use Rattle.station_law.specs.Orders.{pick_of}
 use Rattle.station_law.specs.Power.{crash_line, fault_line, fails_now, orders as order_line}
-use Rattle.station_law.specs.Lines.{recorded, offered, connected, publishing, doors_behind}
+use Rattle.station_law.specs.Lines.{recorded, offered, connected}
 use Rattle.station_law.specs.Lines.{step_read}
 use Rattle.station_law.specs.Connections.{at_door, turns_of, orders_in, deeds_by, deeds_at, said_at}
 use Rattle.station_law.specs.Connections.{published_by, events_of_act, acted_at}
-use Rattle.station_law.specs.Connections.{line_events, events_at, GoesOn, Life, no_life, life}
+use Rattle.station_law.specs.Connections.{events_at, GoesOn, Life, no_life, life}
 use Rattle.station_law.specs.Connections.{IsOfSession}
+use Rattle.station_law.proofs.Rounds.{gone}
+use Rattle.station_law.proofs.Offered.{offered_by}
 
 -- ---- doors
 
@@ -94,73 +94,51 @@ module _ (site : Site) (c : ℕ) where
   later_events None rest = []
   later_events (Some l) rest = events_by site c l rest
 
-  module _ (reading : ℕ) where
-    none_ran : (n : ℕ) (b : books.State)
-        → rounds_of site c reading n b None ≡ record { said = []; events = []; left = None }
-    none_ran zero b = refl
-    none_ran (suc n) b = refl
+  -- deeds of a connection say and ask for this, and then for what deeds behind them do of what is
+  -- left of it
+  record Gathers (l : Connected) (deeds : List Deed) (ran : Ran) (rest : List Deed) : Type 0 where
+    says : said_by site c l (deeds ++ rest) ≡ ran.said ++ later_said ran.left rest
+    asks : events_by site c l (deeds ++ rest) ≡ ran.events ++ later_events ran.left rest
 
-    said_behind : (n : ℕ) (b : books.State) (end : Option EndWord) (l : Connected)
-        (said : List LinkLine) (rest : List Deed)
-        → said_by site c l (turns_of site c reading n b (Some l) ++ rest)
-        ≡ (rounds_of site c reading n b (Some l)).said
-        ++ later_said (rounds_of site c reading n b (Some l)).left rest
-        → said ++ (if is_some end then []
-        else said_by site c l (turns_of site c reading n b (left_by end l) ++ rest))
-        ≡ (said ++ (rounds_of site c reading n b (left_by end l)).said)
-        ++ later_said (rounds_of site c reading n b (left_by end l)).left rest
-    said_behind n b None l said rest so =
-        ap (λ more. said ++ more) so
-        ∙ sym (append_assoc said (rounds_of site c reading n b (Some l)).said _)
-    said_behind n b (Some why) l said rest so =
-        rw (none_ran n b) (sym (append-nil (said ++ [])))
+  -- a round first, and the others unless it ended the connection
+  behind : {A : Type 0} → (reading n : ℕ) (b : books.State) (of : Connected → List Deed → List A)
+      (left : Option Connected → List Deed → List A) (in_ran : Ran → List A)
+      (end : Option EndWord) (l : Connected) (first : List A) (rest : List Deed)
+      → left None rest ≡ [] → in_ran (record { said = []; events = []; left = None }) ≡ []
+      → of l (turns_of site c reading n b (Some l) ++ rest)
+      ≡ in_ran (rounds_of site c reading n b (Some l))
+      ++ left (rounds_of site c reading n b (Some l)).left rest
+      → first ++ (if is_some end then []
+      else of l (turns_of site c reading n b (left_by end l) ++ rest))
+      ≡ (first ++ in_ran (rounds_of site c reading n b (left_by end l)))
+      ++ left (rounds_of site c reading n b (left_by end l)).left rest
+  behind reading n b of left in_ran None l first rest nothing none so =
+      ap (λ more. first ++ more) so ∙ sym (append_assoc first _ _)
+  behind reading n b of left in_ran (Some why) l first rest nothing none so =
+      rw (gone site c reading n b, none, nothing) (sym (append-nil (first ++ [])))
 
-    turned_said : (n : ℕ) (b : books.State) (l : Connected) (rest : List Deed)
-        → said_by site c l (turns_of site c reading n b (Some l) ++ rest)
-        ≡ (rounds_of site c reading n b (Some l)).said
-        ++ later_said (rounds_of site c reading n b (Some l)).left rest
-    turned_said zero b l rest = refl
-    turned_said (suc n) b l rest =
-        let r = round_at site c l b reading in
-        let o = round_of site c l b reading in
-        said_behind n (replay b o.events) (end_after site l r) (stands_after site l r) o.said rest
-        (turned_said n (replay b o.events) (stands_after site l r) rest)
+  turned : (reading n : ℕ) (b : books.State) (l : Connected) (rest : List Deed)
+      → Gathers l (turns_of site c reading n b (Some l))
+      (rounds_of site c reading n b (Some l)) rest
+  turned reading zero b l rest = record { says = refl; asks = refl }
+  turned reading (suc n) b l rest =
+      let r = round_at site c l b reading in
+      let o = round_of site c l b reading in
+      let next = stands_after site l r in
+      let so = turned reading n (replay b o.events) next rest in
+      record {
+        says = behind reading n (replay b o.events) (said_by site c) later_said (λ ran. ran.said)
+            (end_after site l r) next o.said rest refl refl so.says;
+        asks = behind reading n (replay b o.events) (events_by site c) later_events
+            (λ ran. ran.events) (end_after site l r) next o.events rest refl refl so.asks;
+      }
 
-    events_behind : (n : ℕ) (b : books.State) (end : Option EndWord) (l : Connected)
-        (events : List Event) (rest : List Deed)
-        → events_by site c l (turns_of site c reading n b (Some l) ++ rest)
-        ≡ (rounds_of site c reading n b (Some l)).events
-        ++ later_events (rounds_of site c reading n b (Some l)).left rest
-        → events ++ (if is_some end then []
-        else events_by site c l (turns_of site c reading n b (left_by end l) ++ rest))
-        ≡ (events ++ (rounds_of site c reading n b (left_by end l)).events)
-        ++ later_events (rounds_of site c reading n b (left_by end l)).left rest
-    events_behind n b None l events rest so =
-        ap (λ more. events ++ more) so
-        ∙ sym (append_assoc events (rounds_of site c reading n b (Some l)).events _)
-    events_behind n b (Some why) l events rest so =
-        rw (none_ran n b) (sym (append-nil (events ++ [])))
-
-    turned_events : (n : ℕ) (b : books.State) (l : Connected) (rest : List Deed)
-        → events_by site c l (turns_of site c reading n b (Some l) ++ rest)
-        ≡ (rounds_of site c reading n b (Some l)).events
-        ++ later_events (rounds_of site c reading n b (Some l)).left rest
-    turned_events zero b l rest = refl
-    turned_events (suc n) b l rest =
-        let r = round_at site c l b reading in
-        let o = round_of site c l b reading in
-        events_behind n (replay b o.events) (end_after site l r) (stands_after site l r) o.events
-        rest (turned_events n (replay b o.events) (stands_after site l r) rest)
-
-  ordered_said : (o : Option Order) (l : Connected) (rest : List Deed)
-      → said_by site c l (orders_in o ++ rest) ≡ said_by site c (ordered o l) rest
-  ordered_said None l rest = refl
-  ordered_said (Some o) l rest = refl
-
-  ordered_events : (o : Option Order) (l : Connected) (rest : List Deed)
-      → events_by site c l (orders_in o ++ rest) ≡ events_by site c (ordered o l) rest
-  ordered_events None l rest = refl
-  ordered_events (Some o) l rest = refl
+  -- what comes or is ordered comes first
+  ordered_first : (o : Option Order) (l : Connected) (deeds : List Deed) (ran : Ran)
+      (rest : List Deed) → Gathers (ordered o l) deeds ran rest
+      → Gathers l (orders_in o ++ deeds) ran rest
+  ordered_first None l deeds ran rest so = so
+  ordered_first (Some o) l deeds ran rest so = record { says = so.says; asks = so.asks }
 
 -- ---- whose events they are
 
@@ -185,10 +163,6 @@ legal_both : (b : books.State) (h k : List Event) → IsLegal b h → IsLegal (r
 legal_both b [] k first second = second
 legal_both b (e ∷ h) k first second =
     (first.0, legal_both (then_after b e) h k first.1 second)
-
-replay_both : (b : books.State) (h k : List Event) → replay b (h ++ k) ≡ replay (replay b h) k
-replay_both b [] k = refl
-replay_both b (e ∷ h) k = replay_both (then_after b e) h k
 
 -- the events of rounds at a door
 module _ (site : Site) (k c : ℕ) (same : Bool) (is : (k == c) ≡ same) where
@@ -257,30 +231,9 @@ handed_elsewhere c (buffer ∷ buffers) = handed_elsewhere c buffers
 
 -- no line that concerns what is stored says anything of a door
 module _ (c : ℕ) where
-  by_strike : (store : Store) (entry : Entry) (there : List Entry) (strike : Strike)
-      → said_at c (struck store entry there strike).said ≡ []
-  by_strike store entry there (Stop pick) = refl
-  by_strike store entry there Fail = refl
-
-  by_hit : (store : Store) (entry : Entry) (order : orders.Order) (hits : Bool)
-      → said_at c (if hits then struck store entry (found order store.published entry) order.strike
-      else stores (record store { order = behind_store order }) entry).said ≡ []
-  by_hit store entry order true =
-      by_strike store entry (found order store.published entry) order.strike
-  by_hit store entry order false = refl
-
-  by_order : (store : Store) (entry : Entry) (order : Option orders.Order)
-      → said_at c (stores_under store entry order).said ≡ []
-  by_order store entry None = refl
-  by_order store entry (Some order) = by_hit store entry order (is_hit order)
-
-  by_cause : (store : Store) (entry : Entry) (why : Option Refusal)
-      → said_at c (by_refusal store entry why).said ≡ []
-  by_cause store entry None = by_order store entry store.order
-  by_cause store entry (Some why) = refl
-
   offer_apart : (store : Store) (entry : Entry) → said_at c (offer store entry).said ≡ []
-  offer_apart store entry = by_cause store entry (refusal store entry)
+  offer_apart store entry = offered_by (λ a. said_at c a.said ≡ []) store entry
+      (λ order. refl) (λ found. refl) (λ found. refl) (λ why. refl)
 
   by_times : (store : Store) (start stop : Cds) (quality : ℕ) (early : Bool)
       → said_at c (if early then told refused ∷ []
@@ -313,17 +266,20 @@ module _ (c : ℕ) where
 
 -- ---- one line
 
+-- what a line says of a door, the events that are its own, and what is left at it
+abbrev ran_at : ℕ → State → Answer State → List Event → Ran
+ran_at c state a acted = record {
+  said = said_at c a.said;
+  events = events_at c (published_by a.recovers state.doors.book a.given ++ acted);
+  left = at_door a.next c;
+}
+
 -- what a line does to the connection at a door
 record Moves (c : ℕ) (state : State) (l : Connected) (deeds : List Deed) (a : Answer State)
     (acted : List Event) : Type 0 where
   site : a.next.doors.site ≡ state.doors.site
-  says : (rest : List Deed) → (at_door a.next c ≡ None → rest ≡ [])
-      → said_by state.doors.site c l (deeds ++ rest)
-      ≡ said_at c a.said ++ later_said state.doors.site c (at_door a.next c) rest
-  asks : (rest : List Deed) → (at_door a.next c ≡ None → rest ≡ [])
-      → events_by state.doors.site c l (deeds ++ rest)
-      ≡ events_at c (published_by a.recovers state.doors.book a.given ++ acted)
-      ++ later_events state.doors.site c (at_door a.next c) rest
+  gathers : (rest : List Deed) → (at_door a.next c ≡ None → rest ≡ [])
+      → Gathers state.doors.site c l deeds (ran_at c state a acted) rest
 
 -- the connection stays as it is
 stays : (c : ℕ) (state : State) (l : Connected) (a : Answer State) (acted : List Event)
@@ -336,8 +292,7 @@ stays c state l a acted at site same none unasked =
     let left : at_door a.next c ≡ Some l = ap there same ∙ at in
     record {
       site = site;
-      says = λ rest gone. rw (none, left) refl;
-      asks = λ rest gone. rw (unasked, left) refl;
+      gathers = λ rest gone. rw (none, unasked, left) (record { says = refl; asks = refl });
     }
 
 -- it isn't there any more
@@ -347,8 +302,8 @@ goes : (c : ℕ) (state : State) (l : Connected) (a : Answer State) (acted : Lis
     → Moves c state l [] a acted
 goes c state l a acted site left none unasked = record {
   site = site;
-  says = λ rest gone. rw (none, left, gone left) refl;
-  asks = λ rest gone. rw (unasked, left, gone left) refl;
+  gathers = λ rest gone.
+      rw (none, unasked, left, gone left) (record { says = refl; asks = refl });
 }
 
 -- a publishing is no door's
@@ -379,10 +334,13 @@ module _ (c : ℕ) (state : State) (l : Connected) (at : at_door state c ≡ Som
           stays c state l (recorded state a) [] at site same none
           (none_published c a.recovers state.doors.book a.given)
 
+  wrong : MovesBy [] (is_wrong state) []
+  wrong = stays c state l (is_wrong state) [] at refl refl refl refl
+
   by_valid : (entry : Entry) (valid : Bool)
       → MovesBy [] (if valid then offered state entry else is_wrong state) []
   by_valid entry true = stored (offer state.store entry) (offer_apart c state.store entry)
-  by_valid entry false = stays c state l (is_wrong state) [] at refl refl refl refl
+  by_valid entry false = wrong
 
   -- another door
   elsewhere : (k : ℕ) (other : (k == c) ≡ false) (differ : ¬ (k ≡ c)) (ran : Ran)
@@ -396,8 +354,8 @@ module _ (c : ℕ) (state : State) (l : Connected) (at : at_door state c ≡ Som
   opens_so : (k : ℕ) (o : Option (Option Connected)) → slice_get state.doors.connections k ≡ o
       → MovesBy [] (connected state (opens state.doors state.clock k o))
       (events_of_act (opens state.doors state.clock k o))
-  opens_so k None slot = stays c state l (is_wrong state) [] at refl refl refl refl
-  opens_so k (Some (Some other)) slot = stays c state l (is_wrong state) [] at refl refl refl refl
+  opens_so k None slot = wrong
+  opens_so k (Some (Some other)) slot = wrong
   opens_so k (Some None) slot =
       let differ : ¬ (k ≡ c) = λ is.
       let none : at_door state c ≡ None =
@@ -412,9 +370,8 @@ module _ (c : ℕ) (state : State) (l : Connected) (at : at_door state c ≡ Som
   acts_elsewhere : (a : Act) (o : Option (Option Connected)) → (a.c == c) ≡ false
       → ¬ (a.c ≡ c) → MovesBy [] (connected state (acted_on state.doors state.clock a o))
       (events_of_act (acted_on state.doors state.clock a o))
-  acts_elsewhere a None other differ = stays c state l (is_wrong state) [] at refl refl refl refl
-  acts_elsewhere a (Some None) other differ =
-      stays c state l (is_wrong state) [] at refl refl refl refl
+  acts_elsewhere a None other differ = wrong
+  acts_elsewhere a (Some None) other differ = wrong
   acts_elsewhere a (Some (Some m)) other differ =
       let ran = rounds_of state.doors.site a.c state.clock a.rounds state.doors.book
       (Some (ordered a.order m)) in
@@ -437,24 +394,18 @@ acts_here state l a at =
     let slot : slice_get d.connections a.c ≡ Some (Some l) = slot_of _ l at in
     let first = ordered a.order l in
     let ran = rounds_of d.site a.c state.clock a.rounds d.book (Some first) in
-    let turned = turns_of d.site a.c state.clock a.rounds d.book (Some first) in
     let left : there (slice_get (set d.connections a.c ran.left) a.c) ≡ ran.left =
     ap there (set_there d.connections a.c (Some l) ran.left slot) in
-    let here = said_here a.c ran.said self in
     let events : events_at a.c ran.events ≡ ran.events =
     picked_events true a.c ran.events (rounds_are d.site a.c a.c true self state.clock a.rounds
     d.book (Some first)) in
     rw slot (record {
       site = refl;
-      says = λ rest gone.
-          rw (left, here) (ap (said_by d.site a.c l) (append_assoc (orders_in a.order) turned rest)
-          ∙ ordered_said d.site a.c a.order l (turned ++ rest)
-          ∙ turned_said d.site a.c state.clock a.rounds d.book first rest);
-      asks = λ rest gone.
-          rw (left, events)
-          (ap (events_by d.site a.c l) (append_assoc (orders_in a.order) turned rest)
-          ∙ ordered_events d.site a.c a.order l (turned ++ rest)
-          ∙ turned_events d.site a.c state.clock a.rounds d.book first rest);
+      gathers = λ rest gone.
+          let so = ordered_first d.site a.c a.order l _ ran rest
+          (turned d.site a.c state.clock a.rounds d.book first rest) in
+          rw (left, said_here a.c ran.said self, events)
+          (record { says = so.says; asks = so.asks });
     })
 
 module _ (c : ℕ) (state : State) (l : Connected) (at : at_door state c ≡ Some l) where
@@ -464,7 +415,7 @@ module _ (c : ℕ) (state : State) (l : Connected) (at : at_door state c ≡ Som
       (events_of_act (acted state.doors state.clock a))
 
   acts_so : (a : Option Act) → MovesAct c a
-  acts_so None = stays c state l (is_wrong state) [] at refl refl refl refl
+  acts_so None = wrong c state l at
   acts_so (Some a) = ⊎_elim
       (λ here.
       let self : (a.c == a.c) ≡ true = eq-eqb a.c a.c refl in
@@ -496,7 +447,7 @@ module _ (c : ℕ) (state : State) (l : Connected) (at : at_door state c ≡ Som
 
   moves : (line : Option ScriptLine) → Moves c state l (deeds_at state c l line)
       (step_read state line) (events_of_act (acted_at state line))
-  moves None = stays c state l (is_wrong state) [] at refl refl refl refl
+  moves None = wrong c state l at
   moves (Some line) = line_moves line
 
 -- ---- lines
@@ -508,45 +459,45 @@ module _ {L : Type 0} (reads : L → Option ScriptLine) (c : ℕ) where
   ended state (line ∷ lines) none = rw none refl
 
   -- a life's deeds say it, and ask for it
-  record Lived (state : State) (l : Connected) (v : Life) : Type 0 where
-    says : said_by state.doors.site c l v.deeds ≡ v.said
-    asks : events_by state.doors.site c l v.deeds ≡ v.events
+  record Lived (site : Site) (l : Connected) (v : Life) : Type 0 where
+    says : said_by site c l v.deeds ≡ v.said
+    asks : events_by site c l v.deeds ≡ v.events
 
-  module _ (site : Site) (next : State) (same : next.doors.site ≡ site) (v : Life)
-      (over : at_door next c ≡ None → v ≡ no_life)
-      (goes_on : (l : Connected) → at_door next c ≡ Some l → Lived next l v) where
-    said_later : (o : Option Connected) → at_door next c ≡ o
-        → later_said site c o v.deeds ≡ v.said
-    said_later None is = ap (λ v. v.said) (sym (over is))
-    said_later (Some l) is =
-        subst (λ site. said_by site c l v.deeds ≡ v.said) same (goes_on l is).says
-
-    asked_later : (o : Option Connected) → at_door next c ≡ o
-        → later_events site c o v.deeds ≡ v.events
-    asked_later None is = ap (λ v. v.events) (sym (over is))
-    asked_later (Some l) is =
-        subst (λ site. events_by site c l v.deeds ≡ v.events) same (goes_on l is).asks
+  -- so do those of a line, and of what follows it
+  module _ (site : Site) (l : Connected) (deeds : List Deed) (ran : Ran) (later : Life)
+      (gathers : Gathers site c l deeds ran later.deeds) where
+    followed : (left : Option Connected) → ran.left ≡ left → (left ≡ None → later ≡ no_life)
+        → ((m : Connected) → left ≡ Some m → Lived site m later)
+        → Lived site l (record {
+          deeds = deeds ++ later.deeds;
+          said = ran.said ++ later.said;
+          events = ran.events ++ later.events;
+        })
+    followed None is over goes_on =
+        let none = over refl in
+        record {
+          says = gathers.says ∙ rw (is, none) refl;
+          asks = gathers.asks ∙ rw (is, none) refl;
+        }
+    followed (Some m) is over goes_on =
+        let so = goes_on m refl in
+        record {
+          says = gathers.says ∙ rw (is, so.says) refl;
+          asks = gathers.asks ∙ rw (is, so.asks) refl;
+        }
 
   lived : (lines : List L) (state : State) (l : Connected) → at_door state c ≡ Some l
-      → Lived state l (life reads c state lines)
+      → Lived state.doors.site l (life reads c state lines)
   lived [] state l at = record { says = refl; asks = refl }
   lived (line ∷ lines) state l at =
       let a = step_read state (reads line) in
+      let acted = events_of_act (acted_at state (reads line)) in
       let later = life reads c a.next lines in
       let moved = moves c state l at (reads line) in
-      let over = ended a.next lines in
-      let gone : at_door a.next c ≡ None → later.deeds ≡ [] =
-      λ none. ap (λ v. v.deeds) (over none) in
-      rw at (record {
-        says = moved.says later.deeds gone
-            ∙ ap (λ rest. said_at c a.said ++ rest)
-            (said_later state.doors.site a.next moved.site later over (lived lines a.next)
-            (at_door a.next c) refl);
-        asks = moved.asks later.deeds gone
-            ∙ ap (λ rest. events_at c (line_events state (reads line)) ++ rest)
-            (asked_later state.doors.site a.next moved.site later over (lived lines a.next)
-            (at_door a.next c) refl);
-      })
+      rw at (followed state.doors.site l (deeds_at state c l (reads line)) (ran_at c state a acted)
+      later (moved.gathers later.deeds (λ none. ap (λ v. v.deeds) (ended a.next lines none)))
+      (at_door a.next c) refl (ended a.next lines)
+      (λ m is. subst (λ site. Lived site m later) moved.site (lived lines a.next m is)))
 
   pub of_session : RunsAreSessions → (state : State) (reading : ℕ) (lines : List L)
       → at_door state c ≡ Some (opened_link c reading)
@@ -563,45 +514,47 @@ module _ {L : Type 0} (reads : L → Option ScriptLine) (c : ℕ) where
 
 -- ---- the book
 
-true_false : true ≡ false → ⊥
-true_false is = absurd cc
-
-false_true : false ≡ true → ⊥
-false_true is = absurd cc
-
 module _ (state : State) where
-  -- a line that concerns what is stored
-  abbrev Goes : Answer State → List Event → Type 0
-  Goes a acted =
-      (IsLegal state.doors.book (published_by a.recovers state.doors.book a.given ++ acted))
-      × ((a.recovers ≡ false → a.next.doors.book
-      ≡ replay state.doors.book (published_by a.recovers state.doors.book a.given ++ acted))
-      × (a.recovers ≡ true → a.next.doors ≡ anew state.doors.site a.next.store.published))
+  -- a line goes on so, whose connection has these events
+  record Goes (a : Answer State) (acted : List Event) : Type 0 where
+    site : a.next.doors.site ≡ state.doors.site
+    legal : IsLegal state.doors.book (published_by a.recovers state.doors.book a.given ++ acted)
+    same : a.recovers ≡ false → a.next.doors.book
+        ≡ replay state.doors.book (published_by a.recovers state.doors.book a.given ++ acted)
+    renewed : a.recovers ≡ true → a.next.doors ≡ anew state.doors.site a.next.store.published
 
   still : (a : Answer State) → a.recovers ≡ false → a.given ≡ [] → a.next.doors ≡ state.doors
       → Goes a []
-  still a kept none same =
-      rw (kept, none) (tt, (λ is. ap (λ d. d.book) same, λ is. absurd (false_true is)))
-
-  published : (d : Doors) (given : List Entry)
-      → IsLegal d.book (publishing d.book given ++ [])
-      × (replay d.book (publishing d.book given) ≡ replay d.book (publishing d.book given ++ []))
-  published d [] = (tt, refl)
-  published d (entry ∷ given) = ((refl, tt), refl)
-
-  by_recovery : (r : Bool) (given : List Entry) (found : List Entry)
-      → (IsLegal state.doors.book (published_by r state.doors.book given ++ []))
-      × ((r ≡ false → (doors_behind r state.doors given found).book
-      ≡ replay state.doors.book (published_by r state.doors.book given ++ []))
-      × (r ≡ true → doors_behind r state.doors given found ≡ anew state.doors.site found))
-  by_recovery true given found =
-      (tt, (λ is. absurd (true_false is), λ is. refl))
-  by_recovery false given found =
-      let so = published state.doors given in
-      (so.0, (λ is. so.1, λ is. absurd (false_true is)))
+  still a kept none same = record {
+    site = ap (λ d. d.site) same;
+    legal = rw (kept, none) tt;
+    same = λ is. rw (kept, none) (ap (λ d. d.book) same);
+    renewed = λ is. absurd (false≢true (sym kept ∙ is));
+  }
 
   recorded_goes : (a : Answer Store) → Goes (recorded state a) []
-  recorded_goes a = by_recovery a.recovers a.given a.next.published
+  recorded_goes a = by_recovery a.recovers a.given
+    where
+      by_recovery : (r : Bool) (given : List Entry)
+          → Goes (recorded state (record a { recovers = r; given = given })) []
+      by_recovery true given = record {
+        site = refl;
+        legal = tt;
+        same = λ is. absurd (true≢false is);
+        renewed = λ is. refl;
+      }
+      by_recovery false [] = record {
+        site = refl;
+        legal = tt;
+        same = λ is. refl;
+        renewed = λ is. absurd (false≢true is);
+      }
+      by_recovery false (entry ∷ given) = record {
+        site = refl;
+        legal = (refl, tt);
+        same = λ is. refl;
+        renewed = λ is. absurd (false≢true is);
+      }
 
   valid_goes : (entry : Entry) (valid : Bool)
       → Goes (if valid then offered state entry else is_wrong state) []
@@ -611,7 +564,12 @@ module _ (state : State) where
   acted_goes : (o : Option Acted) → IsLegal state.doors.book (events_of_act o)
       → Goes (connected state o) (events_of_act o)
   acted_goes None legal = still (is_wrong state) refl refl refl
-  acted_goes (Some a) legal = (legal, (λ is. refl, λ is. absurd (false_true is)))
+  acted_goes (Some a) legal = record {
+    site = refl;
+    legal = legal;
+    same = λ is. refl;
+    renewed = λ is. absurd (false≢true is);
+  }
 
   opens_legal : (k : ℕ) (o : Option (Option Connected))
       → IsLegal state.doors.book (events_of_act (opens state.doors state.clock k o))
@@ -651,41 +609,7 @@ module _ (state : State) where
   goes_read None = still (is_wrong state) refl refl refl
   goes_read (Some line) = line_goes line
 
-  -- no line changes the site
-  site_by : (r : Bool) (given found : List Entry)
-      → (doors_behind r state.doors given found).site ≡ state.doors.site
-  site_by true given found = refl
-  site_by false given found = refl
-
-  recorded_site : (a : Answer Store) → (recorded state a).next.doors.site ≡ state.doors.site
-  recorded_site a = site_by a.recovers a.given a.next.published
-
-  valid_site : (entry : Entry) (valid : Bool)
-      → (if valid then offered state entry else is_wrong state).next.doors.site
-      ≡ state.doors.site
-  valid_site entry true = recorded_site (offer state.store entry)
-  valid_site entry false = refl
-
-  acted_site : (o : Option Acted) → (connected state o).next.doors.site ≡ state.doors.site
-  acted_site None = refl
-  acted_site (Some a) = refl
-
-  line_site : (line : ScriptLine)
-      → (step_read state (Some line)).next.doors.site ≡ state.doors.site
-  line_site Skip = refl
-  line_site (Offer entry) = valid_site (entry_of entry) (is_valid (entry_of entry))
-  line_site (Desk start stop quality) = recorded_site (desk state.store start stop quality)
-  line_site (Clock time) = refl
-  line_site (Crash k pick) = recorded_site (crash_line state.store k (pick_of pick))
-  line_site (Fault k) = recorded_site (fault_line state.store k)
-  line_site line = acted_site (act state.doors state.clock line)
-
-  site_read : (line : Option ScriptLine)
-      → (step_read state line).next.doors.site ≡ state.doors.site
-  site_read None = refl
-  site_read (Some line) = line_site line
-
   pub goes_on : (line : Option ScriptLine) → GoesOn state line
   goes_on line =
       let so = goes_read line in
-      record { site = site_read line; legal = so.0; same = so.1.0; renewed = so.1.1 }
+      record { site = so.site; legal = so.legal; same = so.same; renewed = so.renewed }

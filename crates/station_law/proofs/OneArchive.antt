@@ -1,23 +1,19 @@
 -- A world's book has what is stored, behind each call of its parts.
 use Rattle.std.proofs.Common.{◌≡◌, ℕ, Bool, true, false, Option, Some, None, IsTrue, refl, sym, ap}
-use Rattle.std.proofs.Common.{[], subst, ◌∙◌}
+use Rattle.std.proofs.Common.{subst, ◌∙◌}
 use Rattle.archive_terms.specs.Archive.{is_valid}
 use Rattle.record_form.specs.Entry.{entry_of}
 use Rattle.record_form.specs.declared.entry.Entry as form
 use Rattle.drill_text.specs.declared.script_line.ScriptLine.{ScriptLine}
 use Rattle.drill_text.specs.declared.script_line.ScriptLine.TheVariants.{Offer}
-use Rattle.station_config.specs.declared.site.Site.{Site}
 use Rattle.station_book.specs.State as books
-use Rattle.station_law.specs.declared.order.Order.{Order}
 use Rattle.station_law.specs.declared.outcome.Outcome.{Outcome}
 use Rattle.station_law.specs.declared.said.SaidAt.{SaidAt}
-use Rattle.station_law.specs.Store.{Store, Recorded, blank}
-use Rattle.station_law.specs.Doors.{Doors, Acted, act, anew, doors_after}
+use Rattle.station_law.specs.Store.{Store, Recorded}
+use Rattle.station_law.specs.Doors.{Doors, Acted, act, doors_after}
 use Rattle.station_law.specs.State.{State}
 use Rattle.station_law.specs.Answer.{Answer}
-use Rattle.station_law.specs.Sound.{IsSound}
 use Rattle.station_law.specs.Entries.{offer}
-use Rattle.station_law.specs.Power.{fails_now}
 use Rattle.station_law.specs.Outcomes.{said_of}
 use Rattle.station_law.specs.Stopped.{IsDone}
 use Rattle.station_law.specs.Lines.{doors_by, offered, connected, step}
@@ -34,15 +30,6 @@ agree_unless false store doors agree = agree refl
 pub agrees : (spent : Bool) (store : Store) (doors : DoorsSeen) → spent ≡ false
     → AgreeUnless spent store doors → Agree store doors
 agrees spent store doors ready agree = subst (λ (b : Bool). AgreeUnless b store doors) ready agree
-
-pub agree_first : (site : Site) (capacity : ℕ) (doors : DoorsSeen) → AreDoors doors (anew site [])
-    → Agree (blank capacity) doors
-agree_first site capacity doors are = record {
-  sound = record { archive = refl; settled = refl };
-  stands = anew site [];
-  are = are;
-  same = ap (λ (b : books.State). b.published) are.book;
-}
 
 -- the state that a store and doors are, at a reading of the clock
 abbrev state_of : Store → ℕ → Doors → State
@@ -86,26 +73,6 @@ offer_agrees law store entry outcome old new recorder valid agree said done foll
       are = are;
       same = ap (λ (b : books.State). b.published) are.book ∙ one.same;
     })
-
-pub power_agrees : (store : Store) (site : Site) (old new : DoorsSeen) (recorder : Recorded)
-    → Agree store old → IsDone (fails_now store) recorder
-    → AreDoors new (anew site recorder.state.published) → Agree recorder.state new
-power_agrees store site old new recorder agree done are = record {
-  sound = subst IsSound (sym done.state)
-      (record { archive = agree.sound.archive; settled = agree.sound.settled });
-  stands = anew site recorder.state.published;
-  are = are;
-  same = ap (λ (b : books.State). b.published) are.book;
-}
-
-pub order_agrees : (store : Store) (order : Option Order) (doors : DoorsSeen) → Agree store doors
-    → Agree (record store { order = order }) doors
-order_agrees store order doors agree = record {
-  sound = record { archive = agree.sound.archive; settled = agree.sound.settled };
-  stands = agree.stands;
-  are = agree.are;
-  same = agree.same;
-}
 
 pub acted_agrees : OneStaysAtDoors → (store : Store) (reading : ℕ) (line : ScriptLine)
     (said : Option SaidAt) (old new : DoorsSeen) → Agree store old

@@ -1,10 +1,9 @@
 -- What an archive is once it is opened again.
 use Rattle.std.proofs.Common.{◌≡◌, ℕ, ◌+◌, ◌-◌, Bool, true, false, Some}
 use Rattle.std.proofs.Common.{MatchOption, if◌then◌else◌, List, [], ◌∷◌, ◌++◌, length, take}
-use Rattle.std.proofs.Common.{drop, nat_lt, refl, sym, ap, subst, ◌∙◌, arith}
+use Rattle.std.proofs.Common.{drop, not, nat_lt, refl, sym, ap, subst, ◌∙◌, arith}
 use Rattle.std.proofs.lemmas.List.{append-nil}
-use Rattle.std.proofs.lemmas.Bool.Decides.{nat_tests}
-use Rattle.std.proofs.Common.{IsTrue, Result, Ok, Err, OnErr}
+use Rattle.std.proofs.Common.{IsTrue}
 use Rattle.archive_terms.specs.Archive.{Entry}
 use Rattle.record_form.specs.Entry.{entry_of}
 use Rattle.record_form.specs.declared.entry.Entry as form
@@ -58,7 +57,8 @@ module _ (one : OneList) (place : OnePlace) (archive back now : ArchiveState Dis
     (λ pick. back.disk ≡ restarted archive.disk pick))
     (uses : Uses found now.used (content_of back.disk)) where
   back_disk : back.disk ≡ restarted archive.disk down.pick
-  back_disk = restarted_by archive.disk back.disk archive.disk.stopped down.pick down.stopped back_is
+  back_disk = restarted_by archive.disk back.disk archive.disk.stopped down.pick down.stopped
+      back_is
 
   there : StandsAt left (used left - 1) (content_of back.disk)
   there = subst (λ (d : DiskState). StandsAt left (used left - 1) (content_of d)) (sym back_disk)
@@ -108,9 +108,6 @@ module _ (one : OneList) (place : OnePlace) (archive now : ArchiveState DiskStat
     })
     (acknowledges : Acknowledges told_by now (published ++ landed))
     (made : AllMade IsMadeCall archive.disk (Sync ∷ []) now.disk) where
-  there_now : List Entry
-  there_now = if holds_batch calls then published ++ entry ∷ [] else published
-
   file : StandsAt (if holds_batch calls then published ++ entry ∷ [] else published)
       (used (if holds_batch calls then published ++ entry ∷ [] else published) - 1)
       (content_of archive.disk)
@@ -158,28 +155,23 @@ module _ (one : OneList) (place : OnePlace) (archive now : ArchiveState DiskStat
   }
 
   -- where none is lost the file holds the entry, and where one is it doesn't
-  by_lost : (has : Bool) → lost ≡ (if has then [] else entry ∷ []) → nat_lt 0 (length lost) ≡ false
-      → has ≡ true
-  by_lost true is none = refl
-  by_lost false is none = absurd (let one : length lost ≡ 1 =
-      ap (λ (l : List Entry). length l) is in grind (arith, nat_tests, one, none))
-
-  by_none : (has : Bool) → lost ≡ (if has then [] else entry ∷ []) → nat_lt 0 (length lost) ≡ true
-      → has ≡ false
-  by_none false is some = refl
-  by_none true is some = absurd (let none : length lost ≡ 0 =
-      ap (λ (l : List Entry). length l) is in grind (arith, nat_tests, none, some))
+  by_lost : (has some : Bool) → lost ≡ (if has then [] else entry ∷ [])
+      → nat_lt 0 (length lost) ≡ some → has ≡ not some
+  by_lost true some none is = let no : some ≡ false = sym is ∙ rw none refl in rw no refl
+  by_lost false some one is = let yes : some ≡ true = sym is ∙ rw one refl in rw yes refl
 
   pub kept_all : nat_lt 0 (length lost) ≡ false → Rests now (published ++ entry ∷ [])
   kept_all none = subst (λ (has : Bool). Rests now
       (if has then published ++ entry ∷ [] else published))
-      (by_lost (holds_batch calls) (by_count (holds_batch calls) count_there).0 none) rests_there
+      (by_lost (holds_batch calls) false (by_count (holds_batch calls) count_there).0 none)
+      rests_there
 
   pub lost_all : nat_lt 0 (length lost) ≡ true
       → Rests now published × Takes now published entry
   lost_all some = (
     subst (λ (has : Bool). Rests now (if has then published ++ entry ∷ [] else published))
-        (by_none (holds_batch calls) (by_count (holds_batch calls) count_there).0 some) rests_there,
+        (by_lost (holds_batch calls) true (by_count (holds_batch calls) count_there).0 some)
+        rests_there,
     ap (λ (a : ArchiveState DiskState). archives.refusal
         (at_rest archive.disk a.capacity (used published) published) entry) now_is ∙ failed.taken,
   )
@@ -231,12 +223,7 @@ settled_failed state entry again archive order entries is hit fail same count re
       said = ap (λ (n : ℕ). told fault ∷ told (notices.archive n) ∷ []) long
           ∙ ap (λ (a : Answer Store). a.said) (sym answer);
       rests = subst (λ (a : Answer Store). Rests archive a.next.published) (sym answer)
-          (subst (λ (e : form.Entry). Rests archive (state.published ++ entry_of e ∷ [])) same rests);
+          (subst (λ (e : form.Entry). Rests archive (state.published ++ entry_of e ∷ [])) same
+          rests);
       published = ap (λ (a : Answer Store). a.next.published) (sym answer);
     }
-
--- what holds where an error comes
-pub follows_if_err : {T E : Type 0} → {P Q : Type 0} (result : Result T E) → OnErr result P → (P → Q)
-    → OnErr result Q
-follows_if_err (Ok value) bad follows = bad
-follows_if_err (Err error) bad follows = follows bad

@@ -65,7 +65,7 @@ left_none b None left = refl
 left_none b (Some l) left = absurd left
 
 -- nothing comes of rounds of a connection that isn't there
-gone : (site : Site) (c reading n : ℕ) (b : books.State)
+pub gone : (site : Site) (c reading n : ℕ) (b : books.State)
     → rounds_of site c reading n b None ≡ record { said = []; events = []; left = None }
 gone site c reading zero b = refl
 gone site c reading (suc n) b = refl

@@ -78,14 +78,15 @@ told_as archive told orders order is same =
 module _ (archive told : ArchiveState DiskState) (strike : Strike) (calls : ℕ)
     (published : List Entry) (entry : Entry) (waits : Waits archive published entry)
     (told_is : told ≡ record archive { disk = steered archive.disk (orders_by strike calls) }) where
-  pub told_waits : told.waiting ≡ entry ∷ []
+  told_waits : told.waiting ≡ entry ∷ []
   told_waits = ap (λ (a : ArchiveState DiskState). a.waiting) told_is ∙ waits.is_at.waits
 
   pub told_still : Acknowledges told_by told published
-  told_still = subst (λ (a : ArchiveState DiskState). Acknowledges told_by a published) (sym told_is)
+  told_still = subst (λ (a : ArchiveState DiskState). Acknowledges told_by a published)
+      (sym told_is)
       (steered_still archive (orders_by strike calls) published waits.is_at.acknowledges)
 
-  pub made_there : (after : DiskState)
+  made_there : (after : DiskState)
       → (1 ≤ length told.waiting
       → AllMade IsMadeCall told.disk (appending (told.used - 1) told.waiting) after)
       → AllMade IsMadeCall (steered archive.disk (orders_by strike calls))
@@ -153,8 +154,7 @@ never_made laws Fail calls some hit archive told published entry waits told_is a
 module _ (laws : Struck) (calls : ℕ) (some : 0 < calls) (hit : IsTrue (nat_le calls 4))
     (archive : ArchiveState DiskState) (published : List Entry) (entry : Entry)
     (waits : Waits archive published entry)
-    (at_rest : IsAtRest (Some (pending_of archive.disk)) (archive.used - 1))
-    (after : DiskState) (ample : after.memory_refused ≡ false) where
+    (at_rest : IsAtRest (Some (pending_of archive.disk)) (archive.used - 1)) where
   abbrev gate : ℕ
   gate = archive.used - 1
 
@@ -171,7 +171,7 @@ module _ (laws : Struck) (calls : ℕ) (some : 0 < calls) (hit : IsTrue (nat_le 
   batch : IsBatch (entry ∷ [])
   batch = one_batch entry (laws.storable published (entry ∷ []) longer)
 
-  module _ (pick : Pick)
+  module _ (after : DiskState) (ample : after.memory_refused ≡ false) (pick : Pick)
       (failed : FailedAtOne IsMadeCall IsFailedCall (steered archive.disk (stop_at calls pick))
       (appending gate (entry ∷ [])) after) where
     abbrev stop : disks.Stop
@@ -186,18 +186,19 @@ module _ (laws : Struck) (calls : ℕ) (some : 0 < calls) (hit : IsTrue (nat_le 
       ample = ample;
     }
 
-    pub stopped_there : after.stopped ≡ Some pick
+    stopped_there : after.stopped ≡ Some pick
     stopped_there = laws.stopped (steered archive.disk (stop_at calls pick)) after gate (entry ∷ [])
         stop stops
 
-    pub left_there : HasBatch (leaves_batch calls pick) published (entry ∷ []) (used published - 1)
+    left_there : HasBatch (leaves_batch calls pick) published (entry ∷ []) (used published - 1)
         (content_of (restarted after pick))
     left_there = subst (λ (n : ℕ). HasBatch (leaves_batch calls pick) published (entry ∷ []) n
         (content_of (restarted after pick))) gate_is
         (laws.left (steered archive.disk (stop_at calls pick)) after gate published (entry ∷ [])
         stop at_rest kept batch longer stops)
 
-  module _ (failed : FailedAtOne IsMadeCall IsFailedCall
+  module _ (after : DiskState) (ample : after.memory_refused ≡ false)
+      (failed : FailedAtOne IsMadeCall IsFailedCall
       (steered archive.disk (orders_by Fail calls)) (appending gate (entry ∷ [])) after) where
     fails : FailsIn (steered archive.disk (orders_by Fail calls)) gate (entry ∷ []) calls after
     fails = record {
@@ -208,22 +209,18 @@ module _ (laws : Struck) (calls : ℕ) (some : 0 < calls) (hit : IsTrue (nat_le 
       ample = ample;
     }
 
-    pub runs_there : after.stopped ≡ None
+    runs_there : after.stopped ≡ None
     runs_there = laws.runs (steered archive.disk (orders_by Fail calls)) after gate (entry ∷ [])
         calls fails
 
-    pub held_there : HasBatch (holds_batch calls) published (entry ∷ []) (used published - 1)
+    held_there : HasBatch (holds_batch calls) published (entry ∷ []) (used published - 1)
         (content_of after)
     held_there = subst (λ (n : ℕ). HasBatch (holds_batch calls) published (entry ∷ []) n
         (content_of after)) gate_is
         (laws.held (steered archive.disk (orders_by Fail calls)) after gate published (entry ∷ [])
         calls at_rest kept batch longer fails)
 
--- the archive then, by what was to happen
-module _ (laws : Struck) (calls : ℕ) (some : 0 < calls) (hit : IsTrue (nat_le calls 4))
-    (archive : ArchiveState DiskState) (published : List Entry) (entry : Entry)
-    (waits : Waits archive published entry)
-    (at_rest : IsAtRest (Some (pending_of archive.disk)) (archive.used - 1)) where
+  -- the archive then, by what was to happen
   pub struck_by : (strike : Strike) (told failed now : ArchiveState DiskState)
       → told ≡ record archive { disk = steered archive.disk (orders_by strike calls) }
       → failed ≡ with_failed told failed.disk
@@ -235,34 +232,31 @@ module _ (laws : Struck) (calls : ℕ) (some : 0 < calls) (hit : IsTrue (nat_le 
       → IsStruck strike calls now published entry
   struck_by (Stop pick) told failed now told_is failed_is now_is still ample calls_failed =
       subst (λ (a : ArchiveState DiskState). IsDown a
-      (if leaves_batch calls pick then published ++ entry ∷ [] else published)) (sym now_is) (record {
+      (if leaves_batch calls pick then published ++ entry ∷ [] else published)) (sym now_is)
+      (record {
         pick = pick;
         stopped = ap (λ (p : Option Pick). option_or p (pick_within 0 None))
-            (stopped_there laws calls some hit archive published entry waits at_rest failed.disk
-            ample pick calls_failed);
+            (stopped_there failed.disk ample pick calls_failed);
         unsteered = unsteered_by failed.disk ample;
         holds = stands_at (leaves_batch calls pick) published entry
             (content_of (restarted failed.disk pick))
-            (left_there laws calls some hit archive published entry waits at_rest failed.disk ample
-            pick calls_failed);
+            (left_there failed.disk ample pick calls_failed);
       })
   struck_by Fail told failed now told_is failed_is now_is still ample calls_failed =
       let capacity : failed.capacity ≡ archive.capacity =
       ap (λ (a : ArchiveState DiskState). a.capacity) failed_is
       ∙ ap (λ (a : ArchiveState DiskState). a.capacity) told_is in
-      let waiting : told.waiting ≡ entry ∷ [] =
-      ap (λ (a : ArchiveState DiskState). a.waiting) told_is ∙ waits.is_at.waits in
-      subst (λ (a : ArchiveState DiskState). HasFailed a calls published entry) (sym now_is) (record {
+      let waiting = told_waits archive told Fail calls published entry waits told_is in
+      subst (λ (a : ArchiveState DiskState). HasFailed a calls published entry) (sym now_is)
+      (record {
         acknowledges = steered_still failed no_orders published still;
         waits = ap (λ (a : ArchiveState DiskState). a.waiting) failed_is ∙ waiting;
         failed = ap (λ (a : ArchiveState DiskState). a.failed) failed_is
             ∙ ap (λ (ws : List Entry). length ws) waiting;
         runs = ap (λ (p : Option Pick). option_or p (pick_within 0 None))
-            (runs_there laws calls some hit archive published entry waits at_rest failed.disk ample
-            calls_failed);
+            (runs_there failed.disk ample calls_failed);
         unsteered = unsteered_by failed.disk ample;
-        holds = held_there laws calls some hit archive published entry waits at_rest failed.disk
-            ample calls_failed;
+        holds = held_there failed.disk ample calls_failed;
         taken = subst (λ (c : ℕ). Takes (record archive { capacity = c }) published entry)
             (sym capacity) waits.taken;
       })

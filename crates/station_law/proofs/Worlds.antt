@@ -6,7 +6,7 @@ use Rattle.std.proofs.lemmas.Bool.Decides.{nat_tests}
 use Rattle.std.specs.Option.{IfSome, option_or}
 use Rattle.std.proofs.lemmas.List.Sums.{fold_push}
 use Rattle.std.proofs.lemmas.Bool.{true≢false}
-use Rattle.archive_terms.specs.Archive.{Entry, frame_time, seal_time, last_time}
+use Rattle.archive_terms.specs.Archive.{Entry, frame_time, seal_time}
 use Rattle.record_form.specs.Entry.{entry_of}
 use Rattle.record_form.specs.declared.entry.Entry as form
 use Rattle.disk_model.specs.Images.{Pending}
@@ -19,19 +19,18 @@ use Rattle.gate_journal.specs.declared.order.Times.{Times}
 use Rattle.frame_archive.specs.State.{ArchiveState, at_rest, times_of, times_after}
 use Rattle.frame_archive.specs.Held.{Acknowledges, Uses}
 use Rattle.station_law.specs.declared.order.Order.{Order}
-use Rattle.station_law.specs.declared.order.Strike.{Strike}
-use Rattle.station_law.specs.declared.order.Strike.TheVariants.{Stop, Fail}
 use Rattle.station_law.specs.declared.refusal.Refusal.{Refusal}
 use Rattle.station_law.specs.declared.step_done.StepDone.TheVariants.{Fine}
 use Rattle.station_law.specs.Store.{Store}
 use Rattle.station_law.specs.Answer.{Answer}
-use Rattle.station_law.specs.Orders.{is_hit, behind_store, order_behind, leaves_entry, found}
-use Rattle.station_law.specs.Entries.{refusal, stores, struck, stores_under, by_refusal, offer}
+use Rattle.station_law.specs.Orders.{is_hit, order_behind}
+use Rattle.station_law.specs.Entries.{refusal, crashes, stores_under, by_refusal, offer}
 use Rattle.station_law.specs.Held.{told_by, Rests, HoldsAllOrNone, begun_list, IsHeld}
 use Rattle.station_law.specs.Stopped.{IsLeft}
 use Rattle.station_law.proofs.Disks.{IsCalm, calm_after}
 use Rattle.station_law.proofs.Held.{AtRestStands, none_stored, alone, empty_place}
 use Rattle.station_law.proofs.Reopening.{one_more}
+use Rattle.station_law.proofs.Offered.{stored_by}
 
 -- what is kept is what a recovery finds
 abbrev pub FindsKept : Type 0
@@ -42,14 +41,10 @@ FindsKept = (pending : Option Pending) (entries found : List Entry) (gate : ℕ)
 -- last times grow by an entry
 times_of-push : (entries : List Entry) (e : Entry)
     → times_of (entries ++ e ∷ []) ≡ times_after (times_of entries) e
-times_of-push entries e =
-    let make : Option ℕ → Option ℕ → Times = λ f s. record { frame = f; seal = s } in
-    ap (λ (f : Option ℕ). make f (last_time seal_time None (entries ++ e ∷ [])))
-    (fold_push (λ (last : Option ℕ) (entry : Entry). option_or (frame_time entry) last) None
-    entries e)
-    ∙ ap (make (option_or (frame_time e) (last_time frame_time None entries)))
-    (fold_push (λ (last : Option ℕ) (entry : Entry). option_or (seal_time entry) last) None
-    entries e)
+times_of-push entries e = rw (
+  fold_push (λ (last : Option ℕ) (entry : Entry). option_or (frame_time entry) last) None entries e,
+  fold_push (λ (last : Option ℕ) (entry : Entry). option_or (seal_time entry) last) None entries e,
+) refl
 
 -- ---- a new world
 
@@ -96,106 +91,40 @@ held_new finds stands blank made opened is_blank create same keeps capacity entr
 -- ---- an entry's store
 
 module _ (state : Store) (entry : Entry) where
-  -- what is published behind it
-  abbrev IsNext : List Entry → Type 0
-  IsNext p = (p ≡ state.published ++ entry ∷ []) ⊎ (p ≡ state.published)
+  -- what its store leaves: the entry is published then or isn't, and an order may be left
+  record Leaves (order : Option Order) (a : Answer Store) : Type 0 where
+    given : a.given ≡ entry ∷ []
+    done : a.done ≡ Fine
+    published : (a.next.published ≡ state.published ++ entry ∷ [])
+        ⊎ (a.next.published ≡ state.published)
+    next : a.next ≡ record state { published = a.next.published; order = order }
 
-  after_strike : (strike : Strike) (kept : Bool) → IsNext (struck state entry
-      (if kept then state.published ++ entry ∷ [] else state.published) strike).next.published
-  after_strike (Stop pick) true = inl refl
-  after_strike (Stop pick) false = inr refl
-  after_strike Fail kept = inl refl
+  abbrev store_ends : Answer Store
+  store_ends = stores_under state entry state.order
 
-  after_hit : (order : Order) (hits : Bool) → IsNext (if hits
-      then struck state entry (found order state.published entry) order.strike
-      else stores (record state { order = behind_store order }) entry).next.published
-  after_hit order true =
-      after_strike order.strike (leaves_entry order.strike order.calls)
-  after_hit order false = inl refl
+  leaves : Leaves (order_behind state.order) store_ends
+  leaves = stored_by Leaves state entry
+      (λ order. record { given = refl; done = refl; published = inl refl; next = refl }) by_kept
+      (λ kept. record { given = refl; done = refl; published = inl refl; next = refl })
+    where
+      by_kept : (kept : Bool) → Leaves None (crashes state entry
+          (if kept then state.published ++ entry ∷ [] else state.published))
+      by_kept true = record { given = refl; done = refl; published = inl refl; next = refl }
+      by_kept false = record { given = refl; done = refl; published = inr refl; next = refl }
 
-  pub next_published : (order : Option Order)
-      → ((stores_under state entry order).next.published ≡ state.published ++ entry ∷ [])
-      ⊎ ((stores_under state entry order).next.published ≡ state.published)
-  next_published None = inl refl
-  next_published (Some order) = after_hit order (is_hit order)
-
-  -- the state behind it has what is published and the order that is left
-  abbrev next_as : Store → Option Order → Type 0
-  next_as next order = next ≡ record state { published = next.published; order = order }
-
-  state_strike : (there : List Entry) (strike : Strike)
-      → next_as (struck state entry there strike).next None
-  state_strike there (Stop pick) = refl
-  state_strike there Fail = refl
-
-  state_hit : (order : Order) (hits : Bool) → next_as (if hits
-      then struck state entry (found order state.published entry) order.strike
-      else stores (record state { order = behind_store order }) entry).next
-      (if hits then None else behind_store order)
-  state_hit order true = state_strike (found order state.published entry) order.strike
-  state_hit order false = refl
-
-  left_by_hit : (order : Order) (hits : Bool) → is_hit order ≡ hits
-      → (if hits then None else behind_store order) ≡ behind_store order
-  left_by_hit order true is = sym (ap (λ (b : Bool). if b then None
-      else Some (record order { calls = order.calls - 4 })) is)
-  left_by_hit order false is = refl
-
-  pub next_state : (order : Option Order) → order ≡ state.order
-      → (stores_under state entry order).next
-      ≡ record state {
-        published = (stores_under state entry order).next.published;
-        order = order_behind order;
-      }
-  next_state None is = ap (λ (o : Option Order). record state {
-    published = state.published ++ entry ∷ [];
-    order = o;
-  }) (sym is)
-  next_state (Some order) is =
-      state_hit order (is_hit order)
-      ∙ ap (λ (o : Option Order). record state {
-        published = (stores_under state entry (Some order)).next.published;
-        order = o;
-      }) (left_by_hit order (is_hit order) refl)
-
-  done_strike : (there : List Entry) (strike : Strike) → (struck state entry there strike).done ≡ Fine
-  done_strike there (Stop pick) = refl
-  done_strike there Fail = refl
-
-  done_hit : (order : Order) (hits : Bool) → (if hits
-      then struck state entry (found order state.published entry) order.strike
-      else stores (record state { order = behind_store order }) entry).done ≡ Fine
-  done_hit order true = done_strike (found order state.published entry) order.strike
-  done_hit order false = refl
-
-  pub done_fine : (order : Option Order) → (stores_under state entry order).done ≡ Fine
-  done_fine None = refl
-  done_fine (Some order) = done_hit order (is_hit order)
-
-  given_strike : (there : List Entry) (strike : Strike)
-      → (struck state entry there strike).given ≡ entry ∷ []
-  given_strike there (Stop pick) = refl
-  given_strike there Fail = refl
-
-  given_hit : (order : Order) (hits : Bool) → (if hits
-      then struck state entry (found order state.published entry) order.strike
-      else stores (record state { order = behind_store order }) entry).given ≡ entry ∷ []
-  given_hit order true = given_strike (found order state.published entry) order.strike
-  given_hit order false = refl
-
-  given_one : (order : Option Order) → (stores_under state entry order).given ≡ entry ∷ []
-  given_one None = refl
-  given_one (Some order) = given_hit order (is_hit order)
+  pub next_published : (store_ends.next.published ≡ state.published ++ entry ∷ [])
+      ⊎ (store_ends.next.published ≡ state.published)
+  next_published = leaves.published
 
   -- an entry that isn't refused is stored
-  pub stored_so : None ≡ refusal state entry → stores_under state entry state.order ≡ offer state entry
+  pub stored_so : None ≡ refusal state entry → store_ends ≡ offer state entry
   stored_so is = ap (by_refusal state entry) is
 
   pub given_is : None ≡ refusal state entry → entry ∷ [] ≡ (offer state entry).given
-  given_is is = sym (given_one state.order) ∙ ap (λ (a : Answer Store). a.given) (stored_so is)
+  given_is is = sym leaves.given ∙ ap (λ (a : Answer Store). a.given) (stored_so is)
 
   pub done_is : None ≡ refusal state entry → Fine ≡ (offer state entry).done
-  done_is is = sym (done_fine state.order) ∙ ap (λ (a : Answer Store). a.done) (stored_so is)
+  done_is is = sym leaves.done ∙ ap (λ (a : Answer Store). a.done) (stored_so is)
 
   -- a refused one changes nothing
   pub refused_so : (why : Refusal) → Some why ≡ refusal state entry
@@ -205,8 +134,8 @@ module _ (state : Store) (entry : Entry) where
   -- the state that the line of an entry leaves
   pub done_now : (capacity : ℕ) (published unsettled : List Entry) (order : Option Order)
       → None ≡ refusal state entry → capacity ≡ state.capacity
-      → published ≡ (stores_under state entry state.order).next.published
-      → unsettled ≡ state.unsettled → order ≡ order_behind state.order
+      → published ≡ store_ends.next.published → unsettled ≡ state.unsettled
+      → order ≡ order_behind state.order
       → record {
         capacity = capacity;
         published = published;
@@ -214,18 +143,8 @@ module _ (state : Store) (entry : Entry) where
         order = order;
       } ≡ (offer state entry).next
   done_now capacity published unsettled order taken capacity_is published_is unsettled_is order_is =
-      let make : ℕ → List Entry → List Entry → Option Order → Store = λ c p u o. record {
-        capacity = c;
-        published = p;
-        unsettled = u;
-        order = o;
-      } in
-      let there = (stores_under state entry state.order).next.published in
-      ap (λ c. make c published unsettled order) capacity_is
-      ∙ ap (λ p. make state.capacity p unsettled order) published_is
-      ∙ ap (λ u. make state.capacity there u order) unsettled_is
-      ∙ ap (λ o. make state.capacity there state.unsettled o) order_is
-      ∙ sym (next_state state.order refl) ∙ ap (λ (a : Answer Store). a.next) (stored_so taken)
+      rw (capacity_is, published_is, unsettled_is, order_is)
+      (sym leaves.next ∙ ap (λ (a : Answer Store). a.next) (stored_so taken))
 
 -- the order behind a store is for a call to come
 past : (order : Order) (hits : Bool) → nat_le order.calls 4 ≡ hits
@@ -255,28 +174,12 @@ pub times_next : (published next : List Entry) (entry : Entry) (before now : Tim
     → (is_kept ≡ false → now ≡ before) → now ≡ times_of next
 times_next published next entry before now count is_kept before_are counted (inl more) test kept
     lost =
-    let yes : is_kept ≡ true = sym test
-    ∙ ap (λ (n : ℕ). nat_lt n (length next)) counted
-    ∙ ap (λ (l : List Entry). nat_lt (length published) (length l)) more ∙ longer published entry in
-    kept yes ∙ ap (λ (t : Times). times_after t entry) before_are ∙ sym (times_of-push published entry)
-    ∙ ap times_of (sym more)
+    let yes : is_kept ≡ true = sym test ∙ rw (counted, more) (longer published entry) in
+    kept yes ∙ rw (before_are, more) (sym (times_of-push published entry))
 times_next published next entry before now count is_kept before_are counted (inr same) test kept
     lost =
-    let no : is_kept ≡ false = sym test
-    ∙ ap (λ (n : ℕ). nat_lt n (length next)) counted
-    ∙ ap (λ (l : List Entry). nat_lt (length published) (length l)) same
-    ∙ no_longer (length published) in
-    lost no ∙ before_are ∙ ap times_of (sym same)
-
--- a world whose store is over
-pub held_next : (archive : ArchiveState DiskState) (published : List Entry) (times : Times)
-    (order : Option Order) → AtRestStands → Rests archive published → times ≡ times_of published
-    → IfSome order (λ o. 0 < o.calls) → IsHeld archive published times None order false
-held_next archive published times order stands rests times_are to_come = record {
-  ready = λ _. record { rests = rests; times_are = times_are; none_begun = refl };
-  images = none_stored stands archive published [] rests [];
-  to_come = to_come;
-}
+    let no : is_kept ≡ false = sym test ∙ rw (counted, same) (no_longer (length published)) in
+    lost no ∙ rw (before_are, same) refl
 
 -- a world that is spent
 pub held_spent : (archive : ArchiveState DiskState) (published : List Entry) (times : Times)
@@ -301,6 +204,13 @@ held_found archive published found times begun order stands same rests times_are
       to_come = to_come;
     })
 
+-- a world whose store is over
+pub held_next : (archive : ArchiveState DiskState) (published : List Entry) (times : Times)
+    (order : Option Order) → AtRestStands → Rests archive published → times ≡ times_of published
+    → IfSome order (λ o. 0 < o.calls) → IsHeld archive published times None order false
+held_next archive published times order stands rests times_are to_come =
+    held_found archive published published times None order stands refl rests times_are refl to_come
+
 -- behind a store the file holds all or nothing of its entry
 all_or_none : (published next : List Entry) (entry : Entry) (image : List ℕ)
     → (next ≡ published ++ entry ∷ []) ⊎ (next ≡ published) → StandsFor next image
@@ -318,7 +228,7 @@ settled_images stands archive state one entry same rests =
     subst (λ (e : form.Entry). HoldsAllOrNone archive.disk state.published (entry_of e ∷ []))
     (sym same) (λ image is. all_or_none state.published
     (stores_under state (entry_of entry) state.order).next.published (entry_of entry) image
-    (next_published state (entry_of entry) state.order)
+    (next_published state (entry_of entry))
     (alone stands archive (stores_under state (entry_of entry) state.order).next.published [] rests
     image is))
 

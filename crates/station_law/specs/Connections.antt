@@ -123,8 +123,8 @@ module _ {L : Type 0} (reads : L → Option ScriptLine) where
       life_by c state (reads line) (at_door state c)
       (life c (step_read state (reads line)).next lines)
 
--- What is said of a connection that was opened at a reading, and its events of the book, is *Session*
--- of the rounds that its deeds fix.
+-- What is said of a connection that was opened at a reading, and its events of the book, is
+-- *Session* of the rounds that its deeds fix.
 abbrev pub IsOfSession : Site → ℕ → ℕ → Life → Type 0
 IsOfSession site c reading life =
     AllByRecursion BringsPieces life.deeds

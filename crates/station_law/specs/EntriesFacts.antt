@@ -98,7 +98,8 @@ module _ (grows : Grows) (state : Store) (entry : Entry) (sound : IsSound state)
       refl
 
   by_hit : (order : Order) (hits : Bool) → IsArchive (state.published ++ entry ∷ [])
-      → Keeps state (if hits then struck state entry (found order state.published entry) order.strike
+      → Keeps state (if hits
+      then struck state entry (found order state.published entry) order.strike
       else stores (record state { order = behind_store order }) entry)
   by_hit order true archive = hit order order.strike archive
   by_hit order false archive = adds _ [] archive refl refl (λ starts. refl) refl

@@ -20,6 +20,7 @@ pub mod Held
 pub mod Storing
 pub mod Stopped
 pub mod Standing
+pub mod Does
 pub mod Lines
 pub mod LinesFacts
 pub mod Shown

@@ -11,8 +11,8 @@ use Rattle.drill_text.specs.Transcript as forms
 use Rattle.station_links.specs.declared.link_line.LinkLine.{LinkLine}
 use Rattle.station_links.specs.Said as links
 
--- a line of the transcript that hands nothing over: why an entry or a START is refused; that a store
--- failed; that the power did; and how many entries the archive has once it is opened again
+-- a line of the transcript that hands nothing over: why an entry or a START is refused; that a
+-- store failed; that the power did; and how many entries the archive has once it is opened again
 pub data Notice : Type 0 where
   backward : Notice
   too_long : Notice

@@ -83,8 +83,8 @@ published_by Stored published entry = with_entry published entry
 published_by (Crashed found) published entry = found
 published_by (Failed entries) published entry = with_entry published entry
 
--- A store is over: it is told as the entry's line says, and the archive rests with what is published
--- behind that line.
+-- A store is over: it is told as the entry's line says, and the archive rests with what is
+-- published behind that line.
 pub record IsSettled (state : Store) (entry : Entry) (archive : ArchiveState DiskState)
     (settled : Settled) : Type 0 where
   pub said : said_by settled ≡ (stores_under state entry state.order).said

@@ -10,10 +10,10 @@ ghost use Rattle.drill_text.specs.Reading.{Fits, HasValidEntry};
 ghost use Rattle.station_law.specs.State.{State, start};
 ghost use Rattle.station_law.specs.Said.{texts};
 ghost use Rattle.station_law.specs.Standing.{AreDoors, Stands, HasDone};
+ghost use Rattle.station_law.specs.Does.{Steps, Does};
 ghost use Rattle.station_law.specs.Doors.{Doors as Exchange, act, anew};
 ghost use Rattle.station_law.specs.Desk.{desk};
 ghost use Rattle.station_law.specs.Lines.{step, offered, recorded, connected, doors_by};
-ghost use Rattle.station_law.specs.Outcomes.{said_of, done_of};
 ghost use Rattle.station_law.specs.Power.{crash_line, fault_line, fails_now};
 ghost use Rattle.station_law.specs.Runs.{in_store};
 ghost use Rattle.station_law.specs.Output.{Wrote};
@@ -141,19 +141,9 @@ impl World {
     fn offer_line<O: Sink>(&mut self, entry: &Entry, output: &mut O) -> Result<StepDone, Stop>
         requires valid { IsTrue (is_valid (entry_of entry.now)) }
         requires ready { self.old.recorder.is_spent ≡ false }
-        ensures written { (state : State) → Stands self.old state
-            → Wrote (O.written output.old) (O.written output.new)
-            (O.faults output.old) (O.faults output.new)
-            (texts (offered state (entry_of entry.now)).said) result }
-        ensures done { IfOk result (λ done. (state : State) → Stands self.old state
-            → done ≡ (offered state (entry_of entry.now)).done) }
-        ensures next { OnOk result ((state : State) → Stands self.old state
-            → HasDone (offered state (entry_of entry.now)) self.new) }
-        ensures write_fault { IsErrOf result Stop.WriteFault → (state : State)
-            → Stands self.old state → HasDone (offered state (entry_of entry.now)) self.new }
-        ensures stopped { OnErr result ((state : State) → Stands self.old state
-            → IsStopped self.old.recorder (in_store (offered state (entry_of entry.now)))
-            self.new.recorder) }
+        ensures { Does (λ state. offered state (entry_of entry.now)) self.old self.new
+            (O.written output.old) (O.written output.new)
+            (O.faults output.old) (O.faults output.new) result }
     {
         let outcome = self.offer(entry)?;
         outcome.put(self.alloc, output)?;
@@ -165,15 +155,7 @@ impl World {
     fn offer(&mut self, entry: &Entry) -> Result<Outcome, Memory>
         requires valid { IsTrue (is_valid (entry_of entry.now)) }
         requires ready { self.old.recorder.is_spent ≡ false }
-        ensures said { IfOk result (λ outcome. (state : State) → Stands self.old state
-            → said_of outcome ≡ (offered state (entry_of entry.now)).said) }
-        ensures done { IfOk result (λ outcome. (state : State) → Stands self.old state
-            → done_of outcome ≡ (offered state (entry_of entry.now)).done) }
-        ensures next { OnOk result ((state : State) → Stands self.old state
-            → HasDone (offered state (entry_of entry.now)) self.new) }
-        ensures stopped { OnErr result ((state : State) → Stands self.old state
-            → IsStopped self.old.recorder (in_store (offered state (entry_of entry.now)))
-            self.new.recorder) }
+        ensures { Steps (λ state. offered state (entry_of entry.now)) self.old self.new result }
     {
         one_archive_stays();
         let Ok(outcome) = self.recorder.offer(entry) else {
@@ -187,20 +169,9 @@ impl World {
     // The power fails now, or at a later call of the disk.
     fn crash_line<O: Sink>(&mut self, k: u32, pick: Pick, output: &mut O) -> Result<StepDone, Stop>
         requires ready { self.old.recorder.is_spent ≡ false }
-        ensures written { (state : State) → Stands self.old state
-            → Wrote (O.written output.old) (O.written output.new)
-            (O.faults output.old) (O.faults output.new)
-            (texts (recorded state (crash_line state.store k pick)).said) result }
-        ensures done { IfOk result (λ done. (state : State) → Stands self.old state
-            → done ≡ (recorded state (crash_line state.store k pick)).done) }
-        ensures next { OnOk result ((state : State) → Stands self.old state
-            → HasDone (recorded state (crash_line state.store k pick)) self.new) }
-        ensures write_fault { IsErrOf result Stop.WriteFault → (state : State)
-            → Stands self.old state
-            → HasDone (recorded state (crash_line state.store k pick)) self.new }
-        ensures stopped { OnErr result ((state : State) → Stands self.old state
-            → IsStopped self.old.recorder
-            (in_store (recorded state (crash_line state.store k pick))) self.new.recorder) }
+        ensures { Does (λ state. recorded state (crash_line state.store k pick)) self.old self.new
+            (O.written output.old) (O.written output.new)
+            (O.faults output.old) (O.faults output.new) result }
     {
         if k == 0 {
             return self.crash_now(pick, output);
@@ -215,19 +186,9 @@ impl World {
     // The power fails now, and the archive is opened again.
     fn crash_now<O: Sink>(&mut self, pick: Pick, output: &mut O) -> Result<StepDone, Stop>
         requires ready { self.old.recorder.is_spent ≡ false }
-        ensures written { (state : State) → Stands self.old state
-            → Wrote (O.written output.old) (O.written output.new)
-            (O.faults output.old) (O.faults output.new)
-            (texts (recorded state (fails_now state.store)).said) result }
-        ensures done { IfOk result (λ done. (state : State) → Stands self.old state
-            → done ≡ (recorded state (fails_now state.store)).done) }
-        ensures next { OnOk result ((state : State) → Stands self.old state
-            → HasDone (recorded state (fails_now state.store)) self.new) }
-        ensures write_fault { IsErrOf result Stop.WriteFault → (state : State)
-            → Stands self.old state → HasDone (recorded state (fails_now state.store)) self.new }
-        ensures stopped { OnErr result ((state : State) → Stands self.old state
-            → IsStopped self.old.recorder (in_store (recorded state (fails_now state.store)))
-            self.new.recorder) }
+        ensures { Does (λ state. recorded state (fails_now state.store)) self.old self.new
+            (O.written output.old) (O.written output.new)
+            (O.faults output.old) (O.faults output.new) result }
     {
         let outcome = self.fail_power(pick)?;
         outcome.put(self.alloc, output)?;
@@ -237,14 +198,7 @@ impl World {
     // The power fails; the archive is opened again, the book is new, and nobody is connected.
     fn fail_power(&mut self, pick: Pick) -> Result<Outcome, Memory>
         requires ready { self.old.recorder.is_spent ≡ false }
-        ensures said { IfOk result (λ outcome. (state : State) → Stands self.old state
-            → said_of outcome ≡ (recorded state (fails_now state.store)).said) }
-        ensures done { IfOk result (λ outcome. done_of outcome ≡ StepDone.Fine) }
-        ensures next { OnOk result ((state : State) → Stands self.old state
-            → HasDone (recorded state (fails_now state.store)) self.new) }
-        ensures stopped { OnErr result ((state : State) → Stands self.old state
-            → IsStopped self.old.recorder (in_store (recorded state (fails_now state.store)))
-            self.new.recorder) }
+        ensures { Steps (λ state. recorded state (fails_now state.store)) self.old self.new result }
     {
         let Ok(outcome) = self.recorder.fail_power(pick) else {
             self.recorder.give_up();
@@ -298,20 +252,9 @@ impl World {
     fn doors_line<O: Sink>(&mut self, line: &ScriptLine, output: &mut O) -> Result<StepDone, Stop>
         requires ready { self.old.recorder.is_spent ≡ false }
         requires fits { Fits line.now }
-        ensures written { (state : State) → Stands self.old state
-            → Wrote (O.written output.old) (O.written output.new)
-            (O.faults output.old) (O.faults output.new)
-            (texts (connected state (act state.doors state.clock line.now)).said) result }
-        ensures done { IfOk result (λ done. (state : State) → Stands self.old state
-            → done ≡ (connected state (act state.doors state.clock line.now)).done) }
-        ensures next { OnOk result ((state : State) → Stands self.old state
-            → HasDone (connected state (act state.doors state.clock line.now)) self.new) }
-        ensures write_fault { IsErrOf result Stop.WriteFault → (state : State)
-            → Stands self.old state
-            → HasDone (connected state (act state.doors state.clock line.now)) self.new }
-        ensures stopped { OnErr result ((state : State) → Stands self.old state
-            → IsStopped self.old.recorder
-            (in_store (connected state (act state.doors state.clock line.now))) self.new.recorder) }
+        ensures { Does (λ state. connected state (act state.doors state.clock line.now))
+            self.old self.new (O.written output.old) (O.written output.new)
+            (O.faults output.old) (O.faults output.new) result }
     {
         one_archive_stays();
         let Ok(said) = self.doors.act(line, self.clock) else {

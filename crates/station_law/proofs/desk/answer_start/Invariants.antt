@@ -1,4 +1,4 @@
-use Rattle.std.proofs.Common.{◌≡◌, ◌-◌, ◌≤◌, length, map, drop}
+use Rattle.std.proofs.Common.{◌≡◌, ◌-◌, length, map, drop}
 use Rattle.station_desk.specs.Start.{told_desk}
 use Rattle.station_law.specs.Desk.{said_at_start}
 use Rattle.station_law.specs.Said.{handed, texts}

@@ -1,10 +1,42 @@
-use Rattle.std.proofs.Common.{◌∙◌, ap, rules, [], ◌∷◌}
+use Rattle.std.proofs.Common.{◌≡◌, ◌∙◌, ap, rules, List, [], ◌∷◌}
+use Rattle.archive_terms.specs.Archive.{Entry}
 use Rattle.disk_model.specs.declared.orders.Orders.{Orders}
 use Rattle.disk_model.specs.MemoryDisk.{steered}
+use Rattle.station_law.specs.Held.{Waits, HoldsAllOrNone}
+use Rattle.station_law.specs.Storing.{orders_by}
 use Rattle.station_law.proofs.Held.{none_stored}
 use Rattle.station_law.proofs.Striking.{Struck, never_made, struck_by, told_as, told_still}
 use Rattle.station_law.proofs.Striking.{told_images, images_told, failed_there}
 use Rattle.station_law.proofs.storing.strike.Goals as goal
+use Rattle.station_law.proofs.storing.strike.Goals.{After-store}
+
+laws : (c : After-store) → Struck
+laws c = record {
+  to_stop = c.a_stop_leaves_whole_batches.ensures.steered;
+  no_stop = c.a_stop_leaves_whole_batches.ensures.fails;
+  stopped = c.a_stop_leaves_whole_batches.ensures.stopped;
+  left = c.a_stop_leaves_whole_batches.ensures.file;
+  to_fail = c.a_fault_leaves_whole_batches.ensures.steered;
+  no_fault = c.a_fault_leaves_whole_batches.ensures.fails;
+  runs = c.a_fault_leaves_whole_batches.ensures.runs;
+  held = c.a_fault_leaves_whole_batches.ensures.file;
+  storable = c.a_batch_may_follow.ensures.storable;
+}
+
+-- the disk was told the order
+told : (c : After-store) → c.steer.new.self ≡ record c.args.archive.now {
+  disk = steered c.args.archive.now.disk (orders_by c.args.order.strike c.args.order.calls);
+}
+told c = told_as c.args.archive.now c.steer.new.self c.in_ok-orders.orders c.args.order
+    c.steer.ensures.steered c.in_ok-orders.ensures
+
+-- whatever became of the store
+images : (c : After-store) → (published : List Entry) (one : Entry)
+    → Waits c.args.archive.now published one
+    → HoldsAllOrNone c.store.new.self.disk published (one ∷ [])
+images c published one waits = told_images c.args.archive.now c.steer.new.self c.store.new.self
+    c.in_ok-orders.orders published one waits c.steer.ensures.steered
+    (λ fresh. c.store.ensures.any_moment fresh published)
 
 pub returns-in_err-orders-clause-images : goal.returns-in_err-orders-clause-images
 returns-in_err-orders-clause-images c = λ published one waits.
@@ -13,67 +45,41 @@ returns-in_err-orders-clause-images c = λ published one waits.
 
 pub unreachable-requires : goal.unreachable-requires
 unreachable-requires c =
-    let laws : Struck = record {
-      to_stop = c.a_stop_leaves_whole_batches.ensures.steered;
-      no_stop = c.a_stop_leaves_whole_batches.ensures.fails;
-      stopped = c.a_stop_leaves_whole_batches.ensures.stopped;
-      left = c.a_stop_leaves_whole_batches.ensures.file;
-      to_fail = c.a_fault_leaves_whole_batches.ensures.steered;
-      no_fault = c.a_fault_leaves_whole_batches.ensures.fails;
-      runs = c.a_fault_leaves_whole_batches.ensures.runs;
-      held = c.a_fault_leaves_whole_batches.ensures.file;
-      storable = c.a_batch_may_follow.ensures.storable;
-    } in
-    never_made laws c.args.order.strike c.args.order.calls c.requires.to_come c.requires.hit
+    let at = (goal.at.unreachable-requires c).After-store in
+    never_made (laws at) c.args.order.strike c.args.order.calls c.requires.to_come c.requires.hit
     c.args.archive.now c.steer.new.self c.requires.waits.0 c.requires.waits.1 c.requires.waits.2
-    (told_as c.args.archive.now c.steer.new.self c.in_ok-orders.orders c.args.order
-    c.steer.ensures.steered c.in_ok-orders.ensures) c.store.new.self.disk c.in-Ok.ensures.calls
+    (told at) c.store.new.self.disk c.in-Ok.ensures.calls
 
 pub returns-in-Err : goal.returns-in-Err
 returns-in-Err c = record {
   struck = tt;
-  images = λ published one waits. told_images c.args.archive.now c.steer.new.self c.store.new.self
-      c.in_ok-orders.orders published one waits c.steer.ensures.steered
-      (λ fresh. c.store.ensures.any_moment fresh published);
+  images = images (goal.at.returns-in-Err c).After-store;
   capacity = search rules;
 }
 
 pub returns-then-wants_memory-clause-images : goal.returns-then-wants_memory-clause-images
-returns-then-wants_memory-clause-images c = λ published one waits.
-    told_images c.args.archive.now c.steer.new.self c.store.new.self c.in_ok-orders.orders published
-    one waits c.steer.ensures.steered (λ fresh. c.store.ensures.any_moment fresh published)
+returns-then-wants_memory-clause-images c =
+    images (goal.at.returns-then-wants_memory-clause-images c).After-store
 
 pub returns-clause-struck : goal.returns-clause-struck
 returns-clause-struck c = λ published one waits.
-    let laws : Struck = record {
-      to_stop = c.a_stop_leaves_whole_batches.ensures.steered;
-      no_stop = c.a_stop_leaves_whole_batches.ensures.fails;
-      stopped = c.a_stop_leaves_whole_batches.ensures.stopped;
-      left = c.a_stop_leaves_whole_batches.ensures.file;
-      to_fail = c.a_fault_leaves_whole_batches.ensures.steered;
-      no_fault = c.a_fault_leaves_whole_batches.ensures.fails;
-      runs = c.a_fault_leaves_whole_batches.ensures.runs;
-      held = c.a_fault_leaves_whole_batches.ensures.file;
-      storable = c.a_batch_may_follow.ensures.storable;
-    } in
-    let told = told_as c.args.archive.now c.steer.new.self c.in_ok-orders.orders c.args.order
-    c.steer.ensures.steered c.in_ok-orders.ensures in
-    struck_by laws c.args.order.calls c.requires.to_come c.requires.hit c.args.archive.now published
-    one waits (c.steer.ensures.at_rest waits.is_at.fresh) c.args.order.strike c.steer.new.self
-    c.store.new.self c.steer-2.new.self told (c.store.ensures.failed (search rules))
+    let at = (goal.at.returns-clause-struck c).After-store in
+    struck_by (laws at) c.args.order.calls c.requires.to_come c.requires.hit c.args.archive.now
+    published one waits (c.steer.ensures.at_rest waits.is_at.fresh) c.args.order.strike
+    c.steer.new.self c.store.new.self c.steer-2.new.self (told at)
+    (c.store.ensures.failed (search rules))
     (c.steer-2.ensures.steered ∙ ap (λ (o : Orders). record c.store.new.self {
       disk = steered c.store.new.self.disk o;
     }) c.no_orders.ensures)
     (c.in-Err-DiskFault.ensures.still published (told_still c.args.archive.now c.steer.new.self
-    c.args.order.strike c.args.order.calls published one waits told))
+    c.args.order.strike c.args.order.calls published one waits (told at)))
     (search rules)
     (failed_there c.args.archive.now c.steer.new.self c.args.order.strike c.args.order.calls
-    published one waits told c.store.new.self.disk (c.store.ensures.failed_calls (search rules)))
+    published one waits (told at) c.store.new.self.disk
+    (c.store.ensures.failed_calls (search rules)))
 
 pub returns-clause-images : goal.returns-clause-images
 returns-clause-images c = λ published one waits.
     images_told c.store.new.self c.steer-2.new.self c.no_orders.result published (one ∷ [])
     c.steer-2.ensures.steered
-    (told_images c.args.archive.now c.steer.new.self c.store.new.self c.in_ok-orders.orders
-    published one waits c.steer.ensures.steered
-    (λ fresh. c.store.ensures.any_moment fresh published))
+    (images (goal.at.returns-clause-images c).After-store published one waits)

@@ -1,7 +1,6 @@
-use Rattle.std.proofs.Common.{◌≡◌, true, sym, ◌∙◌, ap, rules}
+use Rattle.std.proofs.Common.{◌≡◌, true, rules}
 use Rattle.frame_select.specs.Selection.{selection_of}
 use Rattle.return_core.specs.Course.{is_offering}
-use Rattle.station_desk.specs.Cursor.{current}
 use Rattle.station_desk.proofs.Saying.{current_few}
 use Rattle.station_desk.proofs.buffers.Buffers.items.Goals as goal
 

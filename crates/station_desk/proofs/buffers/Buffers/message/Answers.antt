@@ -17,4 +17,5 @@ message-requires-clause-handed g c =
 pub returns : goal.returns
 returns g c =
     subst (λ (octets : List ℕ). IfOk c.message.result (λ writer. writer.octets ≡ octets))
-    (ap message_octets c.items.ensures.said ∙ octets_said (current c.args.self.now)) c.message.ensures
+    (ap message_octets c.items.ensures.said ∙ octets_said (current c.args.self.now))
+    c.message.ensures

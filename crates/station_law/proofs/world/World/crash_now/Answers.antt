@@ -1,24 +1,10 @@
-use Rattle.std.proofs.Common.{inl, sym, ap}
-use Rattle.station_law.specs.Power.{fails_now}
-use Rattle.station_law.specs.Lines.{recorded}
-use Rattle.station_law.specs.State.{State}
-use Rattle.station_law.specs.Said.{texts}
-use Rattle.station_law.specs.Runs.{in_store}
-use Rattle.station_law.specs.Standing.{Stands}
-use Rattle.station_law.specs.Stopped.{IsStopped}
-use Rattle.station_law.proofs.Held.{on_err}
-use Rattle.station_law.proofs.Telling.{all_told}
+use Rattle.station_law.proofs.Telling.{told, untold}
 use Rattle.station_law.proofs.world.World.crash_now.Goals as goal
 
-pub returns-in_err-put-clause-stopped : goal.returns-in_err-put-clause-stopped
-returns-in_err-put-clause-stopped g c =
-    let stops : (state : State) → Stands c.args.self.now state
-    → IsStopped c.args.self.now.recorder (in_store (recorded state (fails_now state.store)))
-    c.fail_power.new.self.recorder =
-    λ state stands. inl (c.in_ok-outcome.ensures.next state stands).stands.store in
-    on_err _ stops
+pub returns-in_err-put : goal.returns-in_err-put
+returns-in_err-put g c = untold c.in_ok-outcome.ensures.taken _ _ _ _ c.in_err-put.field-0.0
+    c.from_residual-in_err-put.result c.from_residual-in_err-put.ensures.1
+    c.in_err-put.ensures
 
-pub returns-clause-written : goal.returns-clause-written
-returns-clause-written g c = λ state stands.
-    all_told _ _ _ _ _ _ _ _ (ap texts (sym (c.in_ok-outcome.ensures.said state stands)))
-    c.in_ok-put.ensures
+pub returns : goal.returns
+returns g c = rw c.done.ensures (told c.in_ok-outcome.ensures.taken _ _ _ _ _ c.in_ok-put.ensures)

@@ -1,27 +1,23 @@
-use Rattle.std.proofs.Common.{◌≡◌, false, refl, sym, subst, rules}
+use Rattle.std.proofs.Common.{◌≡◌, false, refl, rules}
 use Rattle.record_form.specs.Entry.{entry_of}
-use Rattle.station_law.specs.Standing.{Seen, Stands, Agree}
-use Rattle.station_law.proofs.Following.{offer_done}
+use Rattle.station_law.specs.Standing.{Seen, Agree}
+use Rattle.station_law.proofs.Following.{offer_taken}
 use Rattle.station_law.proofs.OneArchive.{agrees, agree_unless, offer_agrees}
 use Rattle.station_law.proofs.world.World.offer.Goals as goal
 
-pub returns-clause-next : goal.returns-clause-next
-returns-clause-next c = λ state stands.
+pub returns : goal.returns
+returns c =
     let seen : Seen = record {
       recorder = c.self.inside.recorder;
       clock = c.self.inside.clock;
       doors = c.self.inside.doors;
     } in
-    let here : Stands seen state =
-    subst (λ (x : Seen). Stands x state) (sym c.self.view_is) stands in
-    let new : Seen = record {
-      recorder = c.follow.new.recorder;
-      clock = c.self.inside.clock;
-      doors = c.follow.new.doors;
-    } in
-    offer_done state (entry_of c.args.entry.now) c.in-Ok.outcome seen new c.offer.new.self here
-    c.in-Ok.ensures.said c.in-Ok.ensures.next c.in_ok-follow.ensures.followed
-    c.in_ok-follow.ensures.same refl
+    let new : Seen =
+    record seen { recorder = c.follow.new.recorder; doors = c.follow.new.doors } in
+    let taken = offer_taken (entry_of c.args.entry.now) c.in-Ok.outcome seen new c.offer.new.self
+    c.in-Ok.ensures.said c.in-Ok.ensures.done c.in-Ok.ensures.next
+    c.in_ok-follow.ensures.followed c.in_ok-follow.ensures.same refl in
+    record { taken = rw (← c.self.view_is) taken; stopped = tt }
 
 pub invariant_of-self-2 : goal.invariant_of-self-2
 invariant_of-self-2 c =
