@@ -7,7 +7,12 @@ pub mod Read
 pub mod Outcomes
 pub mod Promises
 pub mod Lists
+pub mod Gathering
+pub mod Listed
 pub mod Frames
 pub mod Blocks
 pub mod Rehearsals
+pub mod PiecesSpelled
+pub mod Pieces
 pub mod Sessions
+pub mod Unprovided

@@ -5,7 +5,6 @@ use Rattle.std.specs.Result.{IfErr}
 use Rattle.std.specs.Option.{IfSome}
 use Rattle.octet_core.specs.Fault.{count_up}
 use Rattle.octet_core.specs.Written.{Gains, GainsFront}
-use Rattle.octet_core.specs.Writing.{gains_front-none}
 use Rattle.station_law.specs.declared.stop.Stop.{Stop}
 use Rattle.station_law.specs.declared.stop.Stop.TheVariants as stops
 use Rattle.station_law.specs.Output.{Wrote}
@@ -13,8 +12,7 @@ use Rattle.station_law.specs.State.{start}
 use Rattle.station_law.specs.Lines.{step_text}
 use Rattle.station_law.specs.Runs.{in_order, all_fine}
 use Rattle.provider_cli.specs.declared.status.Status.{Status}
-use Rattle.provider_cli.specs.declared.status.Status.TheVariants.{WriteFault, Memory}
-use Rattle.provider_cli.specs.Command.{code, closed, Closes, EndsAs}
+use Rattle.provider_cli.specs.Command.{code, closed, Closes}
 use Rattle.provider_cli.specs.Drilled.{text_by, status_by, ran, ended, Drilled}
 use Rattle.provider_cli.specs.Drilled.{HasText, HasReads, HasWrites, HasScript}
 use Rattle.provider_cli.specs.Lines.{lines_of}
@@ -76,31 +74,6 @@ module _ (left left_now before after : Option (List ℕ)) (r s f g : ℕ) (scrip
             (short, sym is));
       }
 
-  -- what begins its text
-  begun : {T : Type 0} (stop : Stop) → Wrote {T = T} before after f g (text_by script) (Err stop)
-      → IfSome left (λ script. GainsFront before after (text_by script))
-  begun stop wrote =
-      of_input left script (λ script. GainsFront before after (text_by script)) read wrote.front
-
-  pub output_failed : Wrote {T = Status} before after f g (text_by script) (Err stops.WriteFault)
-      → Drilled (showing left r before f) (showing left_now s after g) WriteFault
-  output_failed wrote = record {
-    text = begun stops.WriteFault wrote;
-    reads = kept;
-    writes = wrote.raised refl;
-    script = of_input left script (λ script. length script ≤ most_octets) read short;
-  }
-
-  pub memory_refused : Wrote {T = Status} before after f g (text_by script) (Err stops.Memory)
-      → Drilled (showing left r before f) (showing left_now s after g) Memory
-  memory_refused wrote = record {
-    text = begun stops.Memory wrote;
-    reads = kept;
-    writes = unraised before after f g (text_by script) (Err stops.Memory) wrote
-        (λ is. absurd cc);
-    script = tt;
-  }
-
 -- a status's own line, by a call that fails by the output alone
 pub gains_line : {T : Type 0} (before after : Option (List ℕ)) (f g : ℕ) (line : List ℕ)
     (result : Result T Stop) → Wrote {T = T} before after f g line result
@@ -118,21 +91,6 @@ pub line_count : {T : Type 0} (before after : Option (List ℕ)) (f g : ℕ) (li
 line_count before after f g line result wrote =
     ⊎_elim (λ is. inr (wrote.raised is)) (λ same. inl same) wrote.kept
 
--- memory was refused before any line was run
-begins : (left written : Option (List ℕ))
-    → IfSome left (λ script. GainsFront written written (text_by script))
-begins None written = tt
-begins (Some script) written = gains_front-none written (text_by script)
-
-pub not_run : (left left_now written : Option (List ℕ)) (r s f : ℕ) → s ≡ r
-    → Drilled (showing left r written f) (showing left_now s written f) Memory
-not_run left left_now written r s f kept = record {
-  text = begins left written;
-  reads = kept;
-  writes = refl;
-  script = tt;
-}
-
 -- a command's text was written, and its exit code is by how that ended
 pub closes_by : (before after : Option (List ℕ)) (f g : ℕ) (text : List ℕ) (own : Status)
     (exit : ℕ) (result : Result (Unit {0}) Stop) → exit ≡ code (closed result own)
@@ -148,8 +106,3 @@ closes_by before after f g text own exit (Err stops.Memory) is wrote =
       unraised before after f g text (Err stops.Memory) wrote
           (λ e. absurd cc),
     ))
-
--- an exit code that is a status's
-pub ends_as : (exit : ℕ) (IsSo : Status → Type 0) (status : Status) → exit ≡ code status
-    → IsSo status → EndsAs exit IsSo
-ends_as exit IsSo status is so = record { status = status; exit_is = is; is_so = so }

@@ -1,17 +1,15 @@
 -- A rehearsal for which memory was refused.
 use Rattle.std.proofs.Common.{◌≡◌, ℕ, ◌≤◌, inr, Option, List, refl}
-use Rattle.octet_core.specs.Writing.{gains_front-none}
-use Rattle.rehearsal.specs.Rehearsal.{text}
 use Rattle.rehearsal.specs.Script.{IsOfScript}
 use Rattle.provider_cli.specs.declared.status.Status.TheVariants.{Memory}
 use Rattle.provider_cli.specs.Command.{code}
 use Rattle.provider_cli.specs.Rehearsals.{IsRehearsal}
 
--- nothing of its text was written
+-- nothing was written
 pub unwritten : (n : ℕ) (output : Option (List ℕ)) (faults exit : ℕ) → exit ≡ code Memory
     → ((frames : ℕ) → 1 ≤ frames → frames ≤ 20000 → IsOfScript frames)
     → IsRehearsal n output output faults faults exit
 unwritten n output faults exit is law = record {
-  closes = inr (inr (is, gains_front-none output (text n), refl));
+  tells = inr (is, refl, refl);
   script = law n;
 }

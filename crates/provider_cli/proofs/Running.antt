@@ -101,6 +101,31 @@ pub record Goes (first : State) (world : Seen) (start now : Option (List ℕ)) (
   pub behind : Behind start now f g (text_from number first text) (text_from next_number state rest)
   pub ends : status_from true first text ≡ status_from fine state rest
 
+-- so they go on behind a line that isn't a bad one, in a world that stands for the next state
+pub goes_on : {T : Type 0} (first state next : State) (world : Seen)
+    (start now then : Option (List ℕ)) (f g h first_number number : ℕ)
+    (whole text line behind : List ℕ) (so_far fine : Bool) (done : StepDone) (value : T)
+    → 0 < length text → line ≡ line_in text → behind ≡ behind_in text
+    → next ≡ (step_text state line).next → done ≡ (step_text state line).done
+    → ((rest : List ℕ) → text_later done rest ≡ rest)
+    → status_later done so_far next behind ≡ status_from fine next behind
+    → Behind start now f g (text_from first_number first whole) (text_from number state text)
+    → status_from true first whole ≡ status_from so_far state text
+    → Wrote {T = T} now then g h (text_at number (step_text state line)) (Ok value)
+    → Stands world next
+    → Goes first world start then f h first_number (number + 1) whole behind fine
+goes_on first state next world start now then f g h first_number number whole text line behind
+    so_far fine done value some first_line later goes ends on by so_behind so_ends wrote stands =
+    record {
+      state = next;
+      stands = stands;
+      behind = behind_as _ _ _ _ _ _ _ (on (text_from (number + 1) next behind))
+          (line_run state next text line behind done some first_line later goes ends number start
+          now then f g h (text_from first_number first whole) value so_behind wrote);
+      ends = so_ends
+          ∙ on_status state next text line behind done some first_line later goes ends so_far ∙ by;
+    }
+
 -- what holds of an answer follows from what holds of it for each state
 pub if_ok : {T E : Type 0} (result : Result T E) (P Q : T → Type 0) → ((t : T) → P t → Q t)
     → IfOk result P → IfOk result Q

@@ -11,6 +11,7 @@ use Rattle.station_law.specs.State.{State, start as new_world}
 use Rattle.provider_cli.specs.Connection.{Connection, IsConnectionOf, EachConnection, IsSessionOf}
 use Rattle.provider_cli.specs.Connection.{HasHistory, world_before, world_behind, life_of}
 use Rattle.provider_cli.specs.Laws.{Laws}
+use Rattle.provider_cli.proofs.Pieces.{lines_bring}
 
 set_there : {A : Type 0} → (xs : List A) (c : ℕ) (x y : A) → slice_get xs c ≡ Some x
     → slice_get (set xs c y) c ≡ Some y
@@ -54,7 +55,7 @@ module _ (laws : Laws) (script : List ℕ) (o : Connection) (is : IsConnectionOf
   is_session = λ some.
       subst (λ site. IsOfSession site o.c (world_before o).clock (life_of o some)) site_is
       (laws.connections.lives (world_behind o) o.c (world_before o).clock (take some o.later)
-      just_opened)
+      just_opened) (lines_bring o.c (take some o.later) (world_behind o))
 
 pub each_connection : (input : Option (List ℕ)) (IsSo : Connection → Type 0)
     → ((script : List ℕ) (o : Connection) → IsConnectionOf script o → IsSo o)

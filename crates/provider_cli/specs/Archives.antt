@@ -1,6 +1,6 @@
 -- What `init` and `list` do with the file of a disk. This product's own rules.
-use Rattle.std.specs.Prelude.{◌≡◌, ◌⊎◌, ℕ, ◌<◌, Option, IfSome, IsSomeAnd, List, [], ◌∷◌, ◌++◌}
-use Rattle.std.specs.Prelude.{codes, Result}
+use Rattle.std.specs.Prelude.{◌≡◌, ◌⊎◌, ℕ, ◌<◌, Option, None, IfSome, IsSomeAnd, List, [], ◌∷◌}
+use Rattle.std.specs.Prelude.{◌++◌, codes, Result, Ok, Err, IfOk, OnOk, OnErr}
 use Rattle.std.specs.Fmt.{decimal}
 use Rattle.std.specs.List.{flat_map}
 use Rattle.octet_core.specs.Fault.{Rose}
@@ -11,12 +11,18 @@ use Rattle.record_form.specs.declared.entry.Entry as record_form
 use Rattle.record_form.specs.declared.entry.Entry.TheVariants as entries
 use Rattle.gate_journal.specs.declared.fault.JournalFault.{JournalFault}
 use Rattle.gate_journal.specs.declared.fault.JournalFault.TheVariants as refusals
+use Rattle.gate_journal.specs.declared.batch_fault.BatchFault.{BatchFault}
+use Rattle.gate_journal.specs.declared.batch_fault.BatchFault.TheVariants as batches
 use Rattle.gate_journal.specs.File.{StandsFor}
 use Rattle.gate_journal.specs.Kept.{Keeps}
 use Rattle.gate_journal.specs.Reading.{IsNoJournal, IsDamagedAt}
 use Rattle.drill_text.specs.Reading.{entry_text}
 use Rattle.station_law.specs.Output.{Wrote}
+use Rattle.station_law.specs.Steps.{Behind}
 use Rattle.station_law.specs.declared.stop.Stop.{Stop}
+use Rattle.station_law.specs.declared.stop.Stop.TheVariants as stops
+use Rattle.provider_cli.specs.declared.ending.Ending.{Ending}
+use Rattle.provider_cli.specs.declared.ending.Ending.TheVariants as endings
 use Rattle.provider_cli.specs.declared.status.Status.{Status}
 use Rattle.provider_cli.specs.declared.status.Status.TheVariants as ends
 use Rattle.provider_cli.specs.Command.{Closes}
@@ -84,15 +90,20 @@ pub record Empties (before after : Option (List ℕ)) (faults_before faults_afte
   pub splits : held ≡ text ++ left
   pub wrote : Wrote before after faults_before faults_after text result
 
--- these entries were read; the file is refused at a place; the disk failed; or memory was refused
--- before all was read
+-- These entries were read; the file is refused at a place; the disk failed; or memory was refused
+-- before all was read. Or, while the file was read again for their lines, behind those of these
+-- entries the disk failed, memory was refused or the output failed, or the file was at this place
+-- no longer of its form.
 pub data Listed : Type 0 where
   listed : List Entry → Listed
   refused : ℕ → Listed
   failed : Listed
   unread : Listed
+  failed_behind : List Entry → Listed
+  stopped_behind : List Entry → Listed
+  changed_behind : List Entry → ℕ → Listed
 
--- what a reading of the file that is refused tells
+-- what a reading of the whole file that is refused tells
 abbrev pub listed_by : JournalFault → Listed
 listed_by (refusals.NotJournal place) = refused place
 listed_by (refusals.Damaged place) = refused place
@@ -105,20 +116,35 @@ IsOfReading (refusals.Full need free) = ⊥
 IsOfReading refusals.Stale = ⊥
 IsOfReading fault = Unit {0}
 
+abbrev pub fault_line : List ℕ
+fault_line = codes "disk fault" ++ 10 ∷ []
+
 abbrev pub listed_text : Listed → List ℕ
 listed_text (listed entries) = entries_text entries
 listed_text (refused place) = refused_line place
-listed_text failed = codes "disk fault" ++ 10 ∷ []
+listed_text failed = fault_line
 listed_text unread = []
+listed_text (failed_behind entries) = entries_text entries ++ fault_line
+listed_text (stopped_behind entries) = entries_text entries
+listed_text (changed_behind entries place) = entries_text entries ++ refused_line place
 
 abbrev pub listed_status : Listed → Status
 listed_status (listed entries) = ends.Done
 listed_status (refused place) = ends.ArchiveRefused
 listed_status failed = ends.DiskFault
 listed_status unread = ends.Memory
+listed_status (failed_behind entries) = ends.DiskFault
+listed_status (stopped_behind entries) = ends.Memory
+listed_status (changed_behind entries place) = ends.ArchiveRefused
+
+-- where the disk tells, these entries are a front of those that its file stands for
+abbrev pub IsFrontOf : Option Pending → List Entry → Type 0
+IsFrontOf pending front = IfSome pending (λ told. (rest : List Entry)
+    × StandsFor (front ++ rest) told.content)
 
 -- The entries are those that the file stands for, and its one image stands for them then; a place
--- is that of the file's first fault; and a disk failed only where its count of faults rose.
+-- is that of the file's first fault; a disk failed only where its count of faults rose; and a file
+-- that tells its octets isn't another one when it is read again.
 abbrev pub LeavesListed : {D : Type 0} → (D → Option Pending) → (D → ℕ) → D → D → Listed → Type 0
 LeavesListed pending faults old new (listed entries) =
     IfSome (pending old) (λ told. StandsFor entries told.content × Keeps (pending new) entries)
@@ -126,6 +152,16 @@ LeavesListed pending faults old new (refused place) =
     IfSome (pending old) (λ told. IsNoJournal place told.content ⊎ IsDamagedAt place told.content)
 LeavesListed pending faults old new failed = Rose (faults old) (faults new)
 LeavesListed pending faults old new unread = Unit {0}
+LeavesListed pending faults old new (failed_behind entries) = Rose (faults old) (faults new)
+    × IsFrontOf (pending old) entries
+LeavesListed pending faults old new (stopped_behind entries) = IsFrontOf (pending old) entries
+LeavesListed pending faults old new (changed_behind entries place) = pending old ≡ None
+
+-- the lines ended for the disk, the output or memory, and not for what the file holds
+abbrev pub IsCutShort : Listed → Type 0
+IsCutShort (failed_behind entries) = Unit {0}
+IsCutShort (stopped_behind entries) = Unit {0}
+IsCutShort how = ⊥
 
 -- What `list` promises of a disk and an output, by its exit code. Where the file stands for entries
 -- it is not refused; and at each moment what a crash may leave is what it might have left before.
@@ -136,7 +172,41 @@ pub record IsList {D : Type 0} (pending : D → Option Pending) (moment : D → 
   pub leaves : LeavesListed pending faults old new how
   pub complete : (entries : List Entry)
       → IsSomeAnd (pending old) (λ told. StandsFor entries told.content)
-      → (how ≡ listed entries) ⊎ (how ≡ failed) ⊎ (how ≡ unread)
+      → (how ≡ listed entries) ⊎ (how ≡ unread) ⊎ (how ≡ failed) ⊎ IsCutShort how
   pub any_moment : HoldsThroughout moment images_since old new (IsImageOf (pending old))
   pub closes : Closes before after faults_before faults_after (listed_text how)
       (listed_status how) exit
+
+-- ---- the lines of a file, batch by batch
+
+-- how a reading ended at a gate at this place
+abbrev pub ending_of : BatchFault → ℕ → Result Ending Stop
+ending_of batches.Unfit place = Ok (endings.Changed place)
+ending_of batches.DiskFault place = Ok endings.DiskFault
+ending_of batches.Memory place = Err stops.Memory
+
+-- A reading of the file of a disk that gave these entries and ended so.
+abbrev pub ReadTo : Option Pending → List Entry → Ending → Type 0
+ReadTo pending entries endings.Whole = IfSome pending (λ told. StandsFor entries told.content)
+ReadTo pending entries (endings.Changed place) = pending ≡ None
+ReadTo pending entries endings.DiskFault = IsFrontOf pending entries
+
+-- The lines of entries that were read were put together: a block holds those of them that aren't
+-- written yet, or the writing stopped.
+pub record Gathers (pending : Option Pending) (before after : Option (List ℕ))
+    (faults_before faults_after : ℕ) (block : List ℕ) (result : Result Ending Stop) : Type 0 where
+  pub entries : List Entry
+  pub read : IfOk result (ReadTo pending entries)
+  pub front : OnErr result (IsFrontOf pending entries)
+  pub held : OnOk result (Behind before after faults_before faults_after (entries_text entries)
+      block)
+  pub stopped : OnErr result (Wrote before after faults_before faults_after (entries_text entries)
+      result)
+
+-- The lines of entries that were read were written, or the writing stopped.
+pub record Puts (pending : Option Pending) (before after : Option (List ℕ))
+    (faults_before faults_after : ℕ) (result : Result Ending Stop) : Type 0 where
+  pub entries : List Entry
+  pub read : IfOk result (ReadTo pending entries)
+  pub front : OnErr result (IsFrontOf pending entries)
+  pub wrote : Wrote before after faults_before faults_after (entries_text entries) result

@@ -1,6 +1,7 @@
 -- What a command line asks for, and the number that a status is. This product's own rules.
 use Rattle.std.specs.Prelude.{◌≡◌, ◌⊎◌, ℕ, Bool, if◌then◌else◌, Option, Some, None, List, [], ◌∷◌}
-use Rattle.std.specs.Prelude.{◌++◌, ◌≤◌, Result, Ok, Err, codes}
+use Rattle.std.specs.Prelude.{◌≤◌, Result, Ok, Err, map, codes}
+use denote.Ref.{Bor}
 use Rattle.std.specs.Option.{option_map}
 use Rattle.std.specs.Str.{bytes_eq}
 use Rattle.station_law.specs.declared.stop.Stop.{Stop}
@@ -38,6 +39,10 @@ plan_of (word ∷ []) = if is_word word (codes "drill") then Some Drill else Non
 plan_of (word ∷ value ∷ []) = of_two word value
 plan_of words = None
 
+-- what words that are texts ask for
+abbrev pub asked : List (Bor (List ℕ)) → Option Plan
+asked words = plan_of (map (λ word. word.now) words)
+
 -- a command with an archive file asks for a disk
 abbrev pub NeedsDisk : Option Plan → Type 0
 NeedsDisk (Some (Init path)) = Unit {0}
@@ -63,12 +68,6 @@ code Full = 9
 code InputTooLong = 11
 code Memory = 70
 
--- An exit code is that of a status which is so. No two statuses have the same.
-pub record EndsAs (exit : ℕ) (IsSo : Status → Type 0) : Type 0 where
-  pub status : Status
-  pub exit_is : exit ≡ code status
-  pub is_so : IsSo status
-
 -- A command that writes a text, and then ends with a status of its own: all of the text was
 -- written; the output failed, once; or memory was refused.
 abbrev pub Closes : Option (List ℕ) → Option (List ℕ) → ℕ → ℕ → List ℕ → Status → ℕ → Type 0
@@ -84,14 +83,18 @@ closed (Ok _) own = own
 closed (Err stops.WriteFault) own = WriteFault
 closed (Err stops.Memory) own = Memory
 
--- Words that are no command are told so, or the one write failed: of an output that held `before`
--- with so many faults.
-abbrev pub IsUsage : Option (List ℕ) → Option (List ℕ) → ℕ → ℕ → Status → Type 0
-IsUsage before after faults_before faults_after Usage =
-    Gains before after (codes "usage" ++ 10 ∷ []) × (faults_after ≡ faults_before)
-IsUsage before after faults_before faults_after WriteFault =
-    GainsFront before after (codes "usage" ++ 10 ∷ []) × (faults_after ≡ count_up faults_before)
-IsUsage before after faults_before faults_after status = ⊥
+-- A command that has the whole of its text before it writes: all of it was written, or the output
+-- failed, once.
+abbrev pub Tells : Option (List ℕ) → Option (List ℕ) → ℕ → ℕ → List ℕ → Status → ℕ → Type 0
+Tells before after faults_before faults_after text own exit =
+    ((exit ≡ code own) × Gains before after text × (faults_after ≡ faults_before))
+    ⊎ ((exit ≡ code WriteFault) × GainsFront before after text
+    × (faults_after ≡ count_up faults_before))
+
+-- memory was refused before the first write
+abbrev pub IsUntold : Option (List ℕ) → Option (List ℕ) → ℕ → ℕ → ℕ → Type 0
+IsUntold before after faults_before faults_after exit =
+    (exit ≡ code Memory) × (after ≡ before) × (faults_after ≡ faults_before)
 
 -- no read was made
 pub record IsUnread (before after : Outside) : Type 0 where

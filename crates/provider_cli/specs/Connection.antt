@@ -4,7 +4,10 @@ use Rattle.std.specs.Prelude.{take}
 use Rattle.drill_text.specs.Reading.{reading}
 use Rattle.drill_text.specs.declared.script_line.ScriptLine.TheVariants.{Open}
 use Rattle.station_config.specs.declared.site.Site.{Site}
-use Rattle.station_law.specs.Connections.{GoesOn, Life, life, IsOfSession}
+use Rattle.session_core.specs.Session.{at_first}
+use Rattle.station_links.specs.Connected.{draw, opened}
+use Rattle.station_links.specs.Run.{rounds_by, IsSession}
+use Rattle.station_law.specs.Connections.{GoesOn, Life, life}
 use Rattle.station_law.specs.Lines.{step, step_text}
 use Rattle.station_law.specs.Runs.{after, in_order}
 use Rattle.station_law.specs.Standing.{is_free}
@@ -44,10 +47,17 @@ EachConnection input IsSo =
 abbrev pub life_of : Connection → ℕ → Life
 life_of o some = life reading o.c (world_behind o) (take some o.later)
 
--- It is *Session* of exactly these pieces, closes, breaks, stalls and rounds, at the clock's
+-- A life is *Session* of exactly its pieces, closes, breaks, stalls and rounds, at the clock's
 -- readings, over the answers of the world's one book.
+abbrev pub IsSessionAt : Connection → Life → Type 0
+IsSessionAt o v =
+    let opening = (world_before o).clock in
+    IsSession o.site o.c (at_first o.c draw opening) v.said v.events
+    (rounds_by o.site o.c (opened o.c opening) v.deeds)
+
+-- so is its life over any first few lines
 abbrev pub IsSessionOf : Connection → Type 0
-IsSessionOf o = (some : ℕ) → IsOfSession o.site o.c (world_before o).clock (life_of o some)
+IsSessionOf o = (some : ℕ) → IsSessionAt o (life_of o some)
 
 -- That book has one legal history: at each line that runs, it goes on where the line before left
 -- it, and a recovery begins a new one.

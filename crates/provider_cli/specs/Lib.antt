@@ -12,3 +12,4 @@ pub mod Laws
 pub mod Promise
 pub mod Archives
 pub mod Rehearsals
+pub mod Provided

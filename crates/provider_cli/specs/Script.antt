@@ -1,10 +1,13 @@
 -- What a script says: its text and the status that it ends with, where its output takes all and
 -- memory suffices. This product's own rules.
-use Rattle.std.specs.Prelude.{ℕ, ◌+◌, Bool, true, false, Option, Some, None, Result, Ok, Err, List}
-use Rattle.std.specs.Prelude.{[], ◌∷◌, ◌++◌, length, codes}
+use Rattle.std.specs.Prelude.{◌≡◌, ℕ, ◌+◌, Bool, true, false, Option, Some, None, Result, Ok, Err}
+use Rattle.std.specs.Prelude.{IfOk, OnOk, List, [], ◌∷◌, ◌++◌, length, codes}
 use Rattle.std.specs.Fmt.{decimal}
 use Rattle.station_config.specs.Drafts.{Refusal}
 use Rattle.station_config.specs.declared.site.Site.{Site}
+use Rattle.station_law.specs.declared.step_done.StepDone.{StepDone}
+use Rattle.station_law.specs.declared.stop.Stop.{Stop}
+use Rattle.station_law.specs.Standing.{Seen, Stands}
 use Rattle.station_law.specs.State.{State, start}
 use Rattle.station_law.specs.Said.{texts}
 use Rattle.station_law.specs.Answer.{Answer}
@@ -62,3 +65,16 @@ status_of (bad_site refusal) = BadSite
 status_of (no_end number) = BadLine
 status_of (runs site lines) =
     status_by (in_order step_text (start site) lines) (all_fine step_text (start site) lines)
+
+-- ---- a line that a world runs
+
+-- the world stands for the state behind the line, whatever state it stood for
+abbrev pub StepsTo : Seen → Seen → List ℕ → Result StepDone Stop → Type 0
+StepsTo old new line result =
+    OnOk result ((state : State) → Stands old state → Stands new (step_text state line).next)
+
+-- how the line ended
+abbrev pub EndsSo : Seen → List ℕ → Result StepDone Stop → Type 0
+EndsSo old line result =
+    IfOk result (λ done. (state : State) → Stands old state
+    → done ≡ (step_text state line).done)

@@ -1,6 +1,6 @@
 // The words of the command line.
-ghost use Rattle.std.specs.Prelude.{◌≡◌, IfOk, OnErr, map};
-ghost use Rattle.provider_cli.specs.Command.{plan_of, of_two, rehearsal_of, NeedsDisk};
+ghost use Rattle.std.specs.Prelude.{◌≡◌, IfOk, OnErr};
+ghost use Rattle.provider_cli.specs.Command.{asked, of_two, rehearsal_of, NeedsDisk};
 ghost use Rattle.provider_cli.specs.Command.{IsInRange};
 
 use crate::number::frames_of;
@@ -11,9 +11,9 @@ use std::alloc::Global;
 /// Reads the words of the command line, and answers none where they are no command. It takes memory
 /// for a path alone.
 pub fn plan(alloc: Global, words: &[&str]) -> Result<Option<Plan>, Memory>
-    ensures plan { IfOk result (λ plan. plan ≡ plan_of (map (λ word. word.now) words.now)) }
+    ensures plan { IfOk result (λ plan. plan ≡ asked words.now) }
     ensures range { IfOk result IsInRange }
-    ensures memory { OnErr result (NeedsDisk (plan_of (map (λ word. word.now) words.now))) }
+    ensures memory { OnErr result (NeedsDisk (asked words.now)) }
 {
     match words {
         [word] => Ok(if *word == "drill" {

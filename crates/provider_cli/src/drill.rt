@@ -54,7 +54,6 @@ fn laws()
 }
 
 // Reads the script, and runs it.
-#[tactic(auto, using(crate::proofs::Outcomes::ran_whole, crate::proofs::Outcomes::output_failed, crate::proofs::Outcomes::memory_refused, crate::proofs::Outcomes::not_run,))]
 fn read_and_run<I: Source, O: Sink>(alloc: Global, input: &mut I, output: &mut O) -> Status
     ensures { Drilled
         (showing (I.left input.old) (I.faults input.old)

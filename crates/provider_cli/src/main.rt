@@ -8,16 +8,25 @@
 // the disk over the file of a path.
 #![tactic(auto)]
 
-ghost use Rattle.std.specs.Prelude.{IfOk, IsSome, map};
-ghost use Rattle.provider_cli.specs.Command.{plan_of, NeedsDisk};
+ghost use Rattle.std.specs.Prelude.{◌≡◌, ◌↔◌, IfOk, IfErr, IfSome, OnErr, IsErr, IsSome};
+ghost use Rattle.std.specs.Prelude.{[], drop, map, string_bytes};
+ghost use Rattle.std.specs.IoError.{error_kind};
+ghost use Rattle.std.specs.Str.{IsUtf8};
+ghost use Rattle.std.specs.Vec.Iter.{into_iter_items};
+ghost use Rattle.provider_cli.specs.Command.{plan_of, asked, NeedsDisk};
+ghost use Rattle.provider_cli.specs.Outside.{showing};
+ghost use Rattle.provider_cli.specs.Provided.{IsAnswered};
 
 mod archive_file;
 mod command;
 mod digits;
 mod drill;
+mod ending;
 mod entry_line;
 mod head;
 mod lines;
+#[cfg(test)]
+mod list_tests;
 mod listing;
 mod number;
 #[cfg(test)]
@@ -27,66 +36,118 @@ mod provide;
 mod put;
 mod rehearse;
 mod run;
+#[cfg(test)]
+mod slipping_disk;
 mod status;
 #[cfg(test)]
 mod tests;
 
-use crate::archive_file::tell;
 use crate::command::plan;
 use crate::plan::Plan;
-use crate::provide::{Equipment, provide};
+use crate::provide::{Equipment, provide_on};
 use crate::status::Status;
 use disk_model::FileDisk;
-use octet_core::{Octets, ReaderSource, WriterSink};
-use std::alloc::AllocError;
+use octet_core::{Octets, ReaderSource, Sink, Source, WriterSink};
+use std::alloc::{AllocError, Global};
+use std::env::Args;
 use std::io::ErrorKind;
 use std::process::ExitCode;
 use std::{env, io, str};
 
 fn main(rt: HostRuntime) -> ExitCode {
-    ExitCode::from(answer(&rt))
+    let mut kit = Equipment {
+        input: ReaderSource::new(rt.reader()),
+        output: WriterSink::new(io::writer(&rt)),
+        disk: None,
+    };
+    let exit = match words_of(rt.alloc(), env::args(&rt)) {
+        Ok(words) => answer(&rt, words.as_slice(), &mut kit),
+        Err(_) => Status::Memory.code(),
+    };
+    ExitCode::from(exit)
 }
 
-// The exit code of the command line's command.
-fn answer(rt: &HostRuntime) -> u8 {
-    let words = match command_words(rt) {
-        Ok(words) => words,
-        Err(error) if error.kind() == ErrorKind::OutOfMemory => return Status::Memory.code(),
-        // A word that is no text is outside every command, as no word at all is.
-        Err(_) => Vec::new(rt.alloc()),
-    };
-    let texts: Result<Vec<&str>, AllocError> = words
-        .iter()
-        .map(|word| word.as_str())
-        .collect(rt.alloc());
-    match texts {
-        Ok(texts) => provide_by(rt, texts.as_slice()),
+// The words behind the program's name. A word that is no text is outside every command, as no word
+// at all is.
+fn words_of(alloc: Global, arguments: io::Result<Args>) -> Result<Vec<String>, AllocError>
+    ensures words { IfOk arguments (λ arguments. IfOk result
+        (λ words. words.items ≡ drop 1 (into_iter_items arguments))) }
+    ensures no_text { IfErr arguments (λ _. IfOk result (λ words. words.items ≡ [])) }
+    ensures memory { IfErr arguments
+        (λ error. IsErr result ↔ (error_kind error ≡ ErrorKind.OutOfMemory)) }
+{
+    match arguments {
+        Ok(arguments) => behind_name(alloc, arguments),
+        Err(error) if error.kind() == ErrorKind::OutOfMemory => Err(AllocError),
+        Err(_) => Ok(Vec::new(alloc)),
+    }
+}
+
+// The arguments behind the first, which is the program's name.
+fn behind_name(alloc: Global, arguments: Args) -> Result<Vec<String>, AllocError>
+    ensures { IfOk result (λ words. words.items ≡ drop 1 (into_iter_items arguments)) }
+{
+    let mut arguments = arguments;
+    match arguments.next() {
+        Some(_) => gathered(alloc, arguments),
+        None => Ok(Vec::new(alloc)),
+    }
+}
+
+// All of these arguments.
+fn gathered(alloc: Global, arguments: Args) -> Result<Vec<String>, AllocError>
+    ensures { IfOk result (λ words. words.items ≡ into_iter_items arguments) }
+{
+    let mut words = Vec::new(alloc);
+    let mut arguments = arguments;
+    while let Some(word) = arguments.next() {
+        words.push(word)?;
+    }
+    Ok(words)
+}
+
+// Runs the command of these words on the kit, and on the file that they name, and answers its exit
+// code.
+fn answer<I: Source, O: Sink>(
+    rt: &HostRuntime,
+    words: &[String],
+    kit: &mut Equipment<I, O, FileDisk>,
+) -> u8
+    ensures { IsAnswered (plan_of (map string_bytes words.now))
+        (showing (I.left kit.old.input) (I.faults kit.old.input)
+        (O.written kit.old.output) (O.faults kit.old.output))
+        (showing (I.left kit.new.input) (I.faults kit.new.input)
+        (O.written kit.new.output) (O.faults kit.new.output))
+        result }
+{
+    match texts_of(rt.alloc(), words) {
+        Ok(texts) => {
+            let found = disk_of(rt, texts.as_slice());
+            provide_on(rt.alloc(), texts.as_slice(), found, kit)
+        }
         Err(_) => Status::Memory.code(),
     }
 }
 
-// Runs the command of these words on the standard streams, and on the file that they name.
-fn provide_by(rt: &HostRuntime, words: &[&str]) -> u8 {
-    let mut output = WriterSink::new(io::writer(rt));
-    let disk = match disk_of(rt, words) {
-        Ok(disk) => disk,
-        Err(error) if error.kind() == ErrorKind::OutOfMemory => return Status::Memory.code(),
-        // The file isn't there, can't be made or opened, or is another's.
-        Err(_) => return tell(b"disk fault\n", Status::DiskFault, &mut output),
-    };
-    let mut kit = Equipment {
-        input: ReaderSource::new(rt.reader()),
-        output,
-        disk,
-    };
-    provide(rt.alloc(), words, &mut kit)
+// The words, lent as texts.
+fn texts_of(alloc: Global, words: &[String]) -> Result<Vec<&str>, AllocError>
+    ensures { IfOk result
+        (λ texts. map (λ text. text.now) texts.items ≡ map string_bytes words.now) }
+{
+    let mut texts = Vec::new(alloc);
+    for word in words {
+        texts.push(word.as_str())?;
+    }
+    Ok(texts)
 }
 
-// The disk over the file that a command names: `init` makes the file where there is none, `list`
-// doesn't.
+// The disk over the file that a command names, and none for another command: `init` makes the file
+// where there is none, `list` doesn't.
 fn disk_of(rt: &HostRuntime, words: &[&str]) -> io::Result<Option<FileDisk>>
-    ensures { IfOk result (λ disk. NeedsDisk (plan_of (map (λ word. word.now) words.now))
-        → IsSome disk) }
+    ensures given { IfOk result (λ disk. NeedsDisk (asked words.now) → IsSome disk) }
+    ensures none { IfOk result (λ disk. ¬ NeedsDisk (asked words.now) → disk ≡ None) }
+    ensures needed { OnErr result (NeedsDisk (asked words.now)) }
+    ensures faults { IfOk result (λ disk. IfSome disk (λ disk. disk.faults ≡ 0)) }
 {
     match plan(rt.alloc(), words) {
         Ok(Some(Plan::Init { path })) => Ok(Some(FileDisk::create(rt, text_of(&path)?)?)),
@@ -96,16 +157,14 @@ fn disk_of(rt: &HostRuntime, words: &[&str]) -> io::Result<Option<FileDisk>>
     }
 }
 
-// The words behind the program's name.
-fn command_words(rt: &HostRuntime) -> io::Result<Vec<String>> {
-    let mut words = Vec::new(rt.alloc());
-    for word in env::args(rt)?.skip(1) {
-        words.push(word)?;
-    }
-    Ok(words)
-}
-
 // A path as a text, which it was on the command line.
-fn text_of(path: &Octets) -> io::Result<&str> {
-    str::from_utf8(path.as_slice()).map_err(|_| ErrorKind::InvalidInput.into())
+fn text_of(path: &Octets) -> io::Result<&str>
+    ensures text { IfOk result (λ text. text.now ≡ path.now) }
+    ensures no_text { OnErr result (¬ IsUtf8 path.now) }
+    ensures kind { IfErr result (λ error. error_kind error ≡ ErrorKind.InvalidInput) }
+{
+    match str::from_utf8(path.as_slice()) {
+        Ok(text) => Ok(text),
+        Err(_) => Err(ErrorKind::InvalidInput.into()),
+    }
 }

@@ -2,12 +2,26 @@
 ghost use Rattle.std.specs.Prelude.{◌≡◌, IfErr};
 ghost use Rattle.station_law.specs.Output.{Wrote};
 ghost use Rattle.station_law.specs.Runs.{bad_line};
+ghost use Rattle.provider_cli.specs.Command.{Tells};
 ghost use Rattle.provider_cli.specs.Archives.{refused_line};
 ghost use Rattle.provider_cli.specs.Script.{bad_site_line};
 
+use crate::status::Status;
 use octet_core::Sink;
 use station_law::Stop;
 use std::alloc::Global;
+
+/// Writes a text as the whole of a command's, and answers the exit code. It takes no memory.
+pub fn tell<O: Sink>(text: &[u8], own: Status, output: &mut O) -> u8
+    ensures { Tells (O.written output.old) (O.written output.new)
+        (O.faults output.old) (O.faults output.new)
+        text.now own result }
+{
+    match output.put_all(text) {
+        Ok(()) => own.code(),
+        Err(_) => Status::WriteFault.code(),
+    }
+}
 
 /// Writes a line, its line end with it.
 pub fn put_line<O: Sink>(line: &[u8], output: &mut O) -> Result<(), Stop>

@@ -2,7 +2,7 @@
 ghost use Rattle.std.specs.Prelude.{◌≤◌};
 ghost use Rattle.provider_cli.specs.Rehearsals.{IsRehearsal};
 
-use crate::archive_file::tell;
+use crate::put::tell;
 use crate::status::Status;
 use octet_core::Sink;
 use std::alloc::Global;

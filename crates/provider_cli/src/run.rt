@@ -1,5 +1,5 @@
 // A script is run line by line.
-ghost use Rattle.std.specs.Prelude.{◌≡◌, ◌+◌, ◌≤◌, [], IfOk, OnOk, length};
+ghost use Rattle.std.specs.Prelude.{◌≡◌, ◌+◌, ◌≤◌, [], IfOk, OnErr, length};
 ghost use Rattle.station_law.specs.Lines.{step_text};
 ghost use Rattle.station_law.specs.Output.{Wrote};
 ghost use Rattle.station_law.specs.Runs.{transcript_from, text_behind, in_order, all_fine};
@@ -8,7 +8,7 @@ ghost use Rattle.station_law.specs.Standing.{Stands};
 ghost use Rattle.station_law.specs.State.{State};
 ghost use Rattle.provider_cli.specs.Lines.{lines_of};
 ghost use Rattle.provider_cli.specs.Script.{most_octets, script_of, script_text, status_of};
-ghost use Rattle.provider_cli.specs.Script.{status_by, text_at};
+ghost use Rattle.provider_cli.specs.Script.{status_by, text_at, StepsTo, EndsSo};
 
 use crate::head::split_head;
 use crate::lines::split_line;
@@ -108,26 +108,25 @@ fn run_line<O: Sink>(
         → Wrote (O.written output.old) (O.written output.new)
         (O.faults output.old) (O.faults output.new)
         (text_at number (step_text state line.now)) result }
-    ensures next { OnOk result ((state : State) → Stands world.old state
-        → Stands world.new (step_text state line.now).next) }
-    ensures done { IfOk result (λ done. (state : State) → Stands world.old state
-        → done ≡ (step_text state line.now).done) }
+    ensures next { StepsTo world.old world.new line.now result }
+    ensures done { EndsSo world.old line.now result }
 {
     let done = do_line(alloc, world, line, output)?;
     tell_bad_line(alloc, number, done, output)?;
     Ok(done)
 }
 
-// Says that the line of this number is a bad one, where it ended as one.
+// Says that the line of this number is a bad one, where it ended as one. Else it takes no memory.
 fn tell_bad_line<O: Sink>(
     alloc: Global,
     number: u32,
     done: StepDone,
     output: &mut O,
 ) -> Result<(), Stop>
-    ensures { Wrote (O.written output.old) (O.written output.new)
+    ensures written { Wrote (O.written output.old) (O.written output.new)
         (O.faults output.old) (O.faults output.new)
         (text_behind done number []) result }
+    ensures quiet { OnErr result (done ≡ StepDone.WrongState) }
 {
     match done {
         StepDone::WrongState => put_bad_line(alloc, number, output),
@@ -146,10 +145,8 @@ fn do_line<O: Sink>(
         → Wrote (O.written output.old) (O.written output.new)
         (O.faults output.old) (O.faults output.new)
         (texts (step_text state line.now).said) result }
-    ensures next { OnOk result ((state : State) → Stands world.old state
-        → Stands world.new (step_text state line.now).next) }
-    ensures done { IfOk result (λ done. (state : State) → Stands world.old state
-        → done ≡ (step_text state line.now).done) }
+    ensures next { StepsTo world.old world.new line.now result }
+    ensures done { EndsSo world.old line.now result }
 {
     match parse_line(alloc, line) {
         Ok(says) => world.step(&says, output),

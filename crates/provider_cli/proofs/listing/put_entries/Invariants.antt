@@ -1,7 +1,7 @@
 use Rattle.std.proofs.Common.{◌++◌, drop}
 use Rattle.record_form.specs.Entry.{entries_of}
-use Rattle.provider_cli.proofs.Lists.{lines_of_storable}
 use Rattle.station_law.specs.Steps.{Behind}
+use Rattle.provider_cli.specs.Archives.{entries_text}
 use Rattle.provider_cli.proofs.listing.put_entries.Given as goal
 
 -- what the block holds and the lines of the entries to come are what is still to be written
@@ -9,6 +9,6 @@ abbrev pub invariant-loop-entry : goal.invariant-loop-entry
 invariant-loop-entry g l = record {
   behind : Behind (g.O.Sink.written l.initial.output) (g.O.Sink.written l.output)
       (g.O.Sink.faults l.initial.output) (g.O.Sink.faults l.output)
-      (lines_of_storable (entries_of l.entries))
-      (l.block.items ++ lines_of_storable (entries_of (drop l.entry-index l.entries)));
+      (l.initial.block.items ++ entries_text (entries_of l.entries))
+      (l.block.items ++ entries_text (entries_of (drop l.entry-index l.entries)));
 }

@@ -23,7 +23,7 @@ returns-in_err-tell_bad_line-clause-written g c = λ state stands.
     (behind_as _ _ _ _ _ _ _
     (by_end _ _ c.args.number (c.in_ok-done.ensures.done state stands))
     (step_on _ _ _ _ _ _ _ _ _ _ (at_start _ _ _) (c.in_ok-done.ensures.written state stands)))
-    c.in_err-tell_bad_line.ensures
+    c.in_err-tell_bad_line.ensures.written
 
 pub returns-clause-written : goal.returns-clause-written
 returns-clause-written g c = λ state stands.
@@ -32,4 +32,4 @@ returns-clause-written g c = λ state stands.
     (behind_as _ _ _ _ _ _ _
     (by_end _ _ c.args.number (c.in_ok-done.ensures.done state stands))
     (step_on _ _ _ _ _ _ _ _ _ _ (at_start _ _ _) (c.in_ok-done.ensures.written state stands)))
-    c.in_ok-tell_bad_line.ensures)
+    c.in_ok-tell_bad_line.ensures.written)

@@ -1,11 +1,14 @@
-use Rattle.std.proofs.Common.{◌≡◌, ◌∙◌, ◌<◌, Bool, length, refl, sym, ap, length-drop, arith}
+use Rattle.std.proofs.Common.{◌≡◌, ◌∙◌, ◌+◌, ◌<◌, ℕ, Bool, List, length, refl, sym, ap}
+use Rattle.std.proofs.Common.{length-drop, arith}
 use Rattle.std.proofs.lemmas.Grind.{common_steps}
+use Rattle.station_law.specs.declared.step_done.StepDone.{StepDone}
 use Rattle.station_law.specs.declared.step_done.StepDone.TheVariants.{Fine, Full, WrongState}
 use Rattle.station_law.specs.State.{State}
+use Rattle.station_law.specs.Standing.{Stands}
 use Rattle.station_law.specs.Lines.{step_text}
 use Rattle.station_law.specs.Steps.{at_start, behind_as, at_end, stopped_by}
-use Rattle.provider_cli.proofs.Running.{on_line, on_status, line_run, status_from}
-use Rattle.provider_cli.proofs.Running.{text_end, status_end}
+use Rattle.provider_cli.proofs.Running.{on_line, on_status, line_run, status_from, status_later}
+use Rattle.provider_cli.proofs.Running.{text_later, text_end, status_end, goes_on}
 use Rattle.provider_cli.proofs.run.run_lines.Goals.{in-Fine, in-Full}
 use Rattle.provider_cli.proofs.run.run_lines.Goals as goal
 
@@ -58,53 +61,34 @@ returns-in-WrongState-clause-status g c = λ first stands.
 pub loop-rest-preserved : goal.loop-rest-preserved
 loop-rest-preserved g c =
     let some : 0 < length c.loop-rest.rest.now = grind (arith, common_steps) in
-    let next = λ (state : State). (step_text state c.split_line.result.0.now).next in
-    let status = λ (state : State) (fine : Bool).
-    status_from fine (next state) c.split_line.result.1.now in
+    let line = c.split_line.result.0.now in
+    let behind = c.split_line.result.1.now in
+    let next = λ (state : State). (step_text state line).next in
+    let goes = λ (first : State) (stands : Stands c.args.world first) (fine : Bool)
+    (done : StepDone)
+    (ends : (state : State) → Stands c.loop-rest.world state → done ≡ (step_text state line).done)
+    (on : (rest : List ℕ) → text_later done rest ≡ rest)
+    (by : (state : State) → status_later done c.loop-rest.fine (next state) behind
+    ≡ status_from fine (next state) behind).
+    let so = c.loop-rest.invariant.goes first stands in
+    goes_on first so.state (next so.state) _ _ _ _ _ _ _ (c.args.before + 1) c.loop-rest.number
+    c.args.text.now c.loop-rest.rest.now line behind c.loop-rest.fine fine done _ some
+    c.split_line.ensures.line c.split_line.ensures.rest refl (ends so.state so.stands) on
+    (by so.state) so.behind so.ends
+    (c.in_ok-run_line.ensures.written so.state so.stands)
+    (c.in_ok-run_line.ensures.next so.state so.stands) in
     elim c.match-branch-2.branch [
       | in-Fine w ↦ record {
-        goes = λ first stands.
-            let so = c.loop-rest.invariant.goes first stands in
-            record {
-              state = next so.state;
-              stands = c.in_ok-run_line.ensures.next so.state so.stands;
-              behind = line_run so.state (next so.state) c.loop-rest.rest.now
-                  c.split_line.result.0.now c.split_line.result.1.now Fine some
-                  c.split_line.ensures.line c.split_line.ensures.rest refl
-                  (sym w.in-Fine.is ∙ c.in_ok-run_line.ensures.done so.state so.stands)
-                  c.loop-rest.number _ _ _ _ _ _ _ _ so.behind
-                  (c.in_ok-run_line.ensures.written so.state so.stands);
-              ends = so.ends
-                  ∙ on_status so.state (next so.state) c.loop-rest.rest.now
-                  c.split_line.result.0.now c.split_line.result.1.now Fine some
-                  c.split_line.ensures.line c.split_line.ensures.rest refl
-                  (sym w.in-Fine.is ∙ c.in_ok-run_line.ensures.done so.state so.stands)
-                  c.loop-rest.fine
-                  ∙ ap (status so.state) (sym w.fine-is);
-            };
+        goes = λ first stands. goes first stands _ Fine
+            (λ state so. sym w.in-Fine.is ∙ c.in_ok-run_line.ensures.done state so) (λ rest. refl)
+            (λ state. ap (λ fine. status_from fine (next state) behind) (sym w.fine-is));
         numbers = rw c.split_line.ensures.rest (simp length-drop
             (omega (arith, c.loop-rest.invariant.numbers, some)));
       }
       | in-Full w ↦ record {
-        goes = λ first stands.
-            let so = c.loop-rest.invariant.goes first stands in
-            record {
-              state = next so.state;
-              stands = c.in_ok-run_line.ensures.next so.state so.stands;
-              behind = line_run so.state (next so.state) c.loop-rest.rest.now
-                  c.split_line.result.0.now c.split_line.result.1.now Full some
-                  c.split_line.ensures.line c.split_line.ensures.rest refl
-                  (sym w.in-Full.is ∙ c.in_ok-run_line.ensures.done so.state so.stands)
-                  c.loop-rest.number _ _ _ _ _ _ _ _ so.behind
-                  (c.in_ok-run_line.ensures.written so.state so.stands);
-              ends = so.ends
-                  ∙ on_status so.state (next so.state) c.loop-rest.rest.now
-                  c.split_line.result.0.now c.split_line.result.1.now Full some
-                  c.split_line.ensures.line c.split_line.ensures.rest refl
-                  (sym w.in-Full.is ∙ c.in_ok-run_line.ensures.done so.state so.stands)
-                  c.loop-rest.fine
-                  ∙ ap (status so.state) (sym w.fine-is);
-            };
+        goes = λ first stands. goes first stands _ Full
+            (λ state so. sym w.in-Full.is ∙ c.in_ok-run_line.ensures.done state so) (λ rest. refl)
+            (λ state. ap (λ fine. status_from fine (next state) behind) (sym w.fine-is));
         numbers = rw c.split_line.ensures.rest (simp length-drop
             (omega (arith, c.loop-rest.invariant.numbers, some)));
       }

@@ -1,0 +1,199 @@
+-- A message that a script asks for is octets: the canonical spelling of a well-formed tree is, and
+-- the trees of a BIND and an UNBIND that are asked are well formed.
+use Rattle.std.proofs.Common.{◌≡◌, ℕ, zero, suc, ◌<◌, Bool, true, false, nat_lt, if◌then◌else◌}
+use Rattle.std.proofs.Common.{IsTrue, List, [], ◌∷◌, ◌++◌, length, pos, refl, sym, subst, arith}
+use Rattle.std.proofs.Common.{rules}
+use Rattle.std.proofs.lemmas.Bool.{ltb-true}
+use Rattle.std.proofs.lemmas.Nat.{mod_below}
+use Rattle.std.specs.Int.{w64, to_be_bytes}
+use Rattle.std.specs.List.{AllByRecursion}
+use Rattle.ber_core.specs.Facts.Twos.{IsKept-integer_octets}
+use Rattle.ber_core.specs.Integer.{integer_octets}
+use Rattle.ber_core.specs.Length.{IsOctets, long_form, without_zeros, shortest_length}
+use Rattle.ber_core.specs.Parts.{length-without_zeros}
+use Rattle.ber_core.specs.Spelling.{element, canonical, canonical_all}
+use Rattle.ber_core.specs.Tree.{Tree, Trees, primitive, constructed, no_trees, tree_and}
+use Rattle.ber_core.specs.Tree.{IsWellFormed, AreWellFormed}
+use Rattle.ber_shape.specs.Identifier.{identifier_so}
+use Rattle.ber_shape.specs.List.{each_tree}
+use Rattle.sle_common.specs.Attribute.{arc_of}
+use Rattle.sle_common.specs.Identifier.{is_value, is_value_octet}
+use Rattle.sle_common.specs.IdentifierOctets.{attribute_octets, part, parts_trees}
+use Rattle.sle_common.specs.declared.attribute.Attribute.{Attribute}
+use Rattle.sle_common.specs.declared.attribute.Attribute.TheVariants.{Sagr, Spack, RslFg, FslFg}
+use Rattle.sle_common.specs.declared.attribute.Attribute.TheVariants.{Raf, Rcf, Rocf, Cltu}
+use Rattle.sle_common.specs.declared.instance_id.InstancePart.{InstancePart}
+use Rattle.bind_pdu.specs.Binding.{bind}
+use Rattle.bind_pdu.specs.Unbinding.{unbind}
+use Rattle.isp1_tml.specs.Message.{header, spelling, pdu, context}
+use Rattle.session_core.specs.Session.{AreOctets}
+use Rattle.words.specs.Alphabet.{Of}
+use Rattle.words.specs.Identifiers.{fits_identifier, value_octets}
+use Rattle.words.specs.Names.{is_graphic, name_octets}
+use Rattle.drill_text.specs.Asks.{ask}
+use Rattle.drill_text.specs.declared.ask_line.AskLine.TheVariants.{Bind}
+use Rattle.station_links.specs.Asked.{port, bind_asked, unbind_asked}
+
+-- ---- lists of octets
+
+joined : (a b : List ℕ) → IsOctets a → IsOctets b → IsOctets (a ++ b)
+joined [] b x y = y
+joined (octet ∷ a) b x y = (x.0, joined a b x.1 y)
+
+each_octet : (octets : List ℕ) → IsOctets octets → AreOctets octets
+each_octet [] all i = omega arith
+each_octet (octet ∷ octets) all zero = all.0
+each_octet (octet ∷ octets) all (suc i) = each_octet octets all.1 i
+
+-- characters of an alphabet of octets
+module _ (test : ℕ → Bool) (small : (c : ℕ) → test c ≡ true → c < 256) where
+  characters : (w : List ℕ) → Of test w → IsOctets w
+  characters [] of = tt
+  characters (c ∷ w) of = (small c of.0, characters w of.1)
+
+-- ---- the canonical spelling of a well-formed tree
+
+significant : (octets : List ℕ) → IsOctets octets → IsOctets (without_zeros octets)
+significant [] all = tt
+significant (zero ∷ octets) all = significant octets all.1
+significant (suc n ∷ octets) all = all
+
+size_octets : (n : ℕ) → IsOctets (shortest_length n)
+unfolding shortest_length
+size_octets n =
+    elim (nat_lt n 128) as (λ b. nat_lt n 128 ≡ b
+    → IsOctets (if b then n ∷ [] else long_form (without_zeros (to_be_bytes w64 n)))) [
+      | true ↦ λ e. (omega (arith, ltb-true n 128 e), tt)
+      | false ↦ λ e. (
+        omega (arith, length-without_zeros (to_be_bytes w64 n)),
+        significant (to_be_bytes w64 n) (search (rules, mod_below)),
+      )
+    ] refl
+
+element_octets : (tag content : List ℕ) → IsOctets tag → IsOctets content
+    → IsOctets (element tag content)
+unfolding element
+element_octets tag content tags contents =
+    let size = shortest_length (length content) in
+    joined tag (size ++ content) tags
+    (joined size content (size_octets (length content)) contents)
+
+mutual
+  unfolding canonical
+
+  tree_octets : (t : Tree) → IsWellFormed t → IsOctets (canonical t)
+  tree_octets (primitive tag content) is = element_octets tag content is.0.octets_all is.1
+  tree_octets (constructed tag members) is =
+      element_octets tag (canonical_all members) is.0.octets_all (trees_octets members is.1)
+
+  trees_octets : (ts : Trees) → AreWellFormed ts → IsOctets (canonical_all ts)
+  trees_octets no_trees are = tt
+  trees_octets (tree_and t ts) are =
+      joined (canonical t) (canonical_all ts) (tree_octets t are.0) (trees_octets ts are.1)
+
+-- ---- the trees of what is asked
+
+no_credentials : IsWellFormed (primitive (0x80 ∷ []) [])
+no_credentials = (identifier_so false (0x80 ∷ []) refl, tt)
+
+number_formed : (n : ℕ) → IsWellFormed (primitive (0x02 ∷ []) (integer_octets (pos n)))
+number_formed n =
+    (identifier_so false (0x02 ∷ []) refl, (IsKept-integer_octets (pos n)).octets_all)
+
+text_formed : (w : List ℕ) → IsOctets w → IsWellFormed (primitive (0x1a ∷ []) w)
+text_formed w all = (identifier_so false (0x1a ∷ []) refl, all)
+
+arc_small : (attribute : Attribute) → arc_of attribute < 256
+arc_small Sagr = omega arith
+arc_small Spack = omega arith
+arc_small RslFg = omega arith
+arc_small FslFg = omega arith
+arc_small Raf = omega arith
+arc_small Rcf = omega arith
+arc_small Rocf = omega arith
+arc_small Cltu = omega arith
+
+attribute_small : (attribute : Attribute) → IsOctets (attribute_octets attribute)
+attribute_small attribute =
+    joined (0x2b ∷ 0x70 ∷ 0x04 ∷ 0x03 ∷ 0x01 ∷ 0x02 ∷ []) (arc_of attribute ∷ [])
+    (search rules) (arc_small attribute, tt)
+
+value_small : (c : ℕ) → is_value_octet c ≡ true → c < 256
+value_small c is = grind arith
+
+graphic_small : (c : ℕ) → is_graphic c ≡ true → c < 256
+graphic_small c is = grind arith
+
+part_formed : (p : InstancePart) → IsTrue (is_value p.value) → IsWellFormed (part.tree p)
+part_formed p is = (
+  identifier_so true (0x31 ∷ []) refl,
+  (
+    (
+      identifier_so true (0x30 ∷ []) refl,
+      (
+        (
+          identifier_so false (0x06 ∷ []) refl,
+          attribute_small p.attribute,
+        ),
+        (
+          text_formed p.value (characters is_value_octet value_small p.value
+              (value_octets p.value is)),
+          tt,
+        ),
+      ),
+    ),
+    tt,
+  ),
+)
+
+parts_formed : (id : List InstancePart) → AllByRecursion (λ p. IsTrue (is_value p.value)) id
+    → AreWellFormed (each_tree part.tree id)
+parts_formed [] values = tt
+parts_formed (p ∷ id) values = (part_formed p values.0, parts_formed id values.1)
+
+pub bind_formed : (name : List ℕ) (service version : ℕ) (id : List InstancePart)
+    → ask.Fits (Bind name service version id)
+    → IsWellFormed (bind.tree (bind_asked name service version id))
+bind_formed name service version id fits =
+    let is = fits_identifier id fits.1.1.1 in (
+      identifier_so true (0xbf ∷ 0x64 ∷ []) refl,
+      (
+        no_credentials,
+        (
+          text_formed name (characters is_graphic graphic_small name
+              (name_octets 3 16 name fits.0)),
+          (
+            text_formed port (search rules),
+            (
+              number_formed service,
+              (
+                number_formed version,
+                (
+                  (
+                    identifier_so true (0x30 ∷ []) refl,
+                    subst AreWellFormed (sym (parts_trees id is)) (parts_formed id is.values),
+                  ),
+                  tt,
+                ),
+              ),
+            ),
+          ),
+        ),
+      ),
+    )
+
+pub unbind_formed : IsWellFormed (unbind.tree unbind_asked)
+unbind_formed =
+    (identifier_so true (0xbf ∷ 0x66 ∷ []) refl, (no_credentials, (number_formed 0, tt)))
+
+-- ---- messages of the transport
+
+pub context_piece : (interval factor : ℕ) → AreOctets (spelling (context interval factor))
+context_piece interval factor =
+    each_octet (spelling (context interval factor)) (search (rules, mod_below))
+
+pub pdu_piece : (t : Tree) → IsWellFormed t → AreOctets (spelling (pdu (canonical t)))
+pdu_piece t is =
+    let head = header 1 (length (canonical t)) in
+    each_octet (head ++ canonical t)
+    (joined head (canonical t) (search (rules, mod_below)) (tree_octets t is))

@@ -1,0 +1,12 @@
+// How a reading of a file ended.
+
+/// How a reading of a file ended whose entries were listed.
+#[derive(Clone, Copy, Debug, PartialEq, Eq)]
+pub enum Ending {
+    /// All of it was read.
+    Whole,
+    /// At the gate at this place it isn't of its form, as it was when it was checked.
+    Changed { place: u64 },
+    /// The disk failed.
+    DiskFault,
+}
