@@ -71,7 +71,8 @@ def killed(path, lines, pause):
     """Starts a store, and kills it so many seconds after so many lines.
 
     Answers how it ended, and what it wrote."""
-    running = subprocess.Popen([STORE, path, MOST_ENTRIES], stdout=subprocess.PIPE,
+    # (without a buffer: what one would hold is lost to communicate)
+    running = subprocess.Popen([STORE, path, MOST_ENTRIES], bufsize=0, stdout=subprocess.PIPE,
                                stderr=subprocess.PIPE)
     watch = threading.Timer(PATIENCE, running.terminate)
     watch.start()
