@@ -2,25 +2,24 @@
 -- list.
 use Rattle.std.proofs.Common.{◌≡◌, ℕ, ◌+◌, ◌<◌, ◌≤◌, Bool, true, false, cond, not, ◌&&◌, ◌||◌}
 use Rattle.std.proofs.Common.{nat_eq, nat_lt, List, [], ◌∷◌, ◌++◌, length, map, take, drop, Option}
-use Rattle.std.proofs.Common.{Some, None, refl, ap, sym, subst, ◌∙◌, arith, inl, inr, add-zero}
+use Rattle.std.proofs.Common.{Some, None, refl, ap, sym, subst, ◌∙◌, arith, add-zero}
 use Rattle.std.specs.Prelude.{is_none}
 use Rattle.std.specs.List.{filter, list_any, filter_map, cons_option}
 use Rattle.std.specs.Option.{option_to_list, option_map_or}
 use Rattle.std.proofs.lemmas.List.{length-drop, length-append, length-take-le, take-append-drop}
-use Rattle.std.proofs.lemmas.Bool.{and_parts, and_left, or_from, or_right, eqb-true, eq-eqb, lt-ltb}
-use Rattle.std.proofs.lemmas.Bool.{le-ltb, cases_lt, false≢true, true≢false}
+use Rattle.std.proofs.lemmas.Bool.{or_right, false≢true, true≢false}
 use Rattle.archive_terms.specs.Archive.{Entry, is_archive}
 use Rattle.archive_terms.specs.Selection.{Selection, picked, is_stop_closed}
 use Rattle.archive_terms.specs.Delivery.{Item, backlog, end_of_data, archived_items, is_complete}
 use Rattle.archive_terms.specs.Delivery.{is_archived, is_backlog, is_end_of_data, is_timely, Terms}
-use Rattle.archive_terms.specs.Delivery.{limit_of, is_due_of, contents, Delivery, started, buffer}
-use Rattle.archive_terms.specs.Delivery.{has_head, is_discardable, released, stepped, with_end}
+use Rattle.archive_terms.specs.Delivery.{limit_of, Delivery, started, buffer, has_head}
+use Rattle.archive_terms.specs.Delivery.{is_discardable, released, stepped, with_end}
 use Rattle.archive_terms.specs.Delivery.{with_due_fixed}
 use Rattle.archive_terms.specs.Rounds.{Answer, whole, stall, fail, Round, Outcome, nothing, handed}
-use Rattle.archive_terms.specs.Rounds.{kept, discarded, failed, takes_step, at_round, answer_on}
-use Rattle.archive_terms.specs.Rounds.{answer_at, answered, fate, after_round, outcome, outcomes}
-use Rattle.archive_terms.specs.Rounds.{is_failed, handed_buffer, handed_buffers, FrontsRise}
-use Rattle.archive_terms.specs.Continuity.{last_frame, told_items, told_buffers}
+use Rattle.archive_terms.specs.Rounds.{kept, discarded, failed, takes_step, at_round, answer_at}
+use Rattle.archive_terms.specs.Rounds.{answered, fate, after_round, outcome, outcomes, is_failed}
+use Rattle.archive_terms.specs.Rounds.{handed_buffer, handed_buffers, FrontsRise}
+use Rattle.archive_terms.specs.Continuity.{told_items, told_buffers}
 use Rattle.archive_terms.specs.Glimpse.{glimpse}
 use Rattle.archive_terms.specs.Placed.{Told, items_of, Placed, placed_at_start, with_head, want_of}
 use Rattle.archive_terms.specs.Placed.{with_items, is_all_put, with_end_alone, fixed_where_due}
@@ -82,11 +81,7 @@ module _ (t : Terms) (a : List Entry) (now : ℕ) (p : Placed) where
     waits = f.waits;
     within = f.within;
     owed = owes;
-    fixed =
-        ap (λ b. is_due_of t.size (limit_of t) now b (contents put.since (items_of held))) f.last
-        ∙ ap (λ s. is_due_of t.size (limit_of t) now ends (contents s (items_of held))) moment
-        ∙ ap (λ xs. is_due_of t.size (limit_of t) now ends (contents since xs)) (ap items_of is
-        ∙ items_of-told a p.last items);
+    fixed = rw (f.last, moment, is, items_of-told);
     since = moment;
     ended = goes;
     still = λ waits. not_complete t.size (limit_of t) now since ends items some waits;
@@ -116,26 +111,21 @@ module _ (t : Terms) (a : List Entry) (now : ℕ) (p : Placed) where
       test : Bool
       test = (true && empty) && stops && nat_eq n (length chosen)
 
-      no_room : (front : Option Item) (r : ℕ) → (is_none front && nat_eq r 0) ≡ true → r ≡ 0
-      no_room front r is = eqb-true r 0 (and_parts (is_none front) (nat_eq r 0) is).1
-
       tests : (nat_eq (length put.held) 0 && last) ≡ test
       tests =
           ap (λ b. b && last) (ap (λ xs. nat_eq (length xs) 0) f.held
           ∙ held_is_empty a p.last front r (drop n chosen) (room-le t.size front (drop n chosen)))
           ∙ ap (λ b. empty && b) f.last ∙ sym (end_same empty stops n r (length chosen)
-          (no_room front r))
+          (λ is. grind (arith, is)))
 
       by_end : (c : Bool) → test ≡ c → Agrees t a (fixed_where_due t last now
           (record put { held = cond c ((end_of_data, None) ∷ []) put.held }))
           (with_due_fixed t chosen stops now
           (unfixed front (cond c (Some end_of_data) front) n since owed))
       by_end true is =
-          let none : r ≡ 0 = no_room front r (and_parts (true && empty) stops
-          (and_parts ((true && empty) && stops) (nat_eq n (length chosen)) is).0).0 in
+          let none : r ≡ 0 = grind (arith, is) in
           agrees_held front (Some end_of_data) n since owed ((end_of_data, None) ∷ []) some f owes
-          goes moment (sym (ap (λ k. told_items a p.last (end_of_data ∷ archived_items
-          (take k (drop n chosen)))) none))
+          goes moment (rw none)
       by_end false is = agrees_held front front n since owed put.held some f owes goes moment f.held
 
   -- a delivery that is fixed or ended stays as it is, and another is filled
@@ -184,9 +174,6 @@ module _ (t : Terms) (a : List Entry) (now : ℕ) (p : Placed) where
           ∙ held_is_empty a p.last front r (drop n chosen) (room-le t.size front (drop n chosen)))
           ∙ ap (λ s. cond (is_bare first k && not (is_bare front r)) now s) moment
 
-goes_on : (p : Placed) → p.fixed ≡ false → p.ended ≡ false → (p.fixed || p.ended) ≡ false
-goes_on p fixed unended = or_from p.fixed p.ended fixed unended
-
 pub Agrees-stepped : (t : Terms) (a : List Entry) (now : ℕ) (p : Placed) (d : Delivery) → 0 < t.size
     → State t (picked a t.selection) (is_stop_closed t.selection a) d → Agrees t a p d
     → Agrees t a (placed_step t (glimpse a (want_of t p)) now p)
@@ -194,26 +181,22 @@ pub Agrees-stepped : (t : Terms) (a : List Entry) (now : ℕ) (p : Placed) (d : 
 Agrees-stepped t a now p d some (going n k true since fits limits) g =
     steps_by t a now p d true (ap (λ b. b || p.ended) g.fixed) g
 Agrees-stepped t a now p d some (going n k false since fits limits) g =
-    steps t a now p None None n k since false some (goes_on p g.fixed g.ended) g.ended g.owed
-    g.since fits limits g.held
-    (ap (λ b. cond (b && nat_eq (length p.held) 0) ((backlog, None) ∷ []) p.held) g.owed
-    ∙ g.held) g.waits g.within
+    steps t a now p None None n k since false some (rw (g.fixed, g.ended)) g.ended g.owed g.since
+    fits limits g.held (rw g.owed g.held) g.waits g.within
 Agrees-stepped t a now p d some (owing n since fits timely) g =
-    steps t a now p None (Some backlog) n 0 since true some (goes_on p g.fixed g.ended) g.ended
+    steps t a now p None (Some backlog) n 0 since true some (rw (g.fixed, g.ended)) g.ended
     g.owed g.since (omega arith)
-    (one_in_limits t.size some) g.held
-    (ap (λ b. cond (b && nat_eq (length p.held) 0) ((backlog, None) ∷ []) p.held) g.owed
-    ∙ ap (λ xs. cond (nat_eq (length xs) 0) ((backlog, None) ∷ []) xs) g.held) g.waits g.within
+    (one_in_limits t.size some) g.held (rw (g.owed, g.held)) g.waits g.within
   where
     one_in_limits : (size : ℕ) → 0 < size → InLimits size (backlog ∷ [])
     one_in_limits size some = record {
       open_before = λ j below. let first : j ≡ 0 = omega arith in
-          ap (λ j. is_complete size (take j (backlog ∷ []))) first ∙ nothing_complete size some;
+          rw first (nothing_complete size some);
     }
 Agrees-stepped t a now p d some (telling n k true since fits limits timely) g =
     steps_by t a now p d true (ap (λ b. b || p.ended) g.fixed) g
 Agrees-stepped t a now p d some (telling n k false since fits limits timely) g =
-    steps t a now p (Some backlog) (Some backlog) n k since true some (goes_on p g.fixed g.ended)
+    steps t a now p (Some backlog) (Some backlog) n k since true some (rw (g.fixed, g.ended))
     g.ended g.owed g.since fits limits g.held
     (ap (λ b. cond (p.owed && b) ((backlog, None) ∷ []) p.held)
     (ap (λ xs. nat_eq (length xs) 0) g.held
@@ -226,21 +209,14 @@ Agrees-stepped t a now p d some (ending n k false since all none is shut) g = ab
 Agrees-stepped t a now p d some (over n k true since all none is shut) g = absurd (true≢false is)
 Agrees-stepped t a now p d some (over n k false since all none is shut) g =
     steps_by t a now p _ true (or_right p.fixed p.ended g.ended) (record {
-      held = g.held ∙ ap (λ m. told_items a p.last (archived_items (take m xs))) (none
-          ∙ sym none_more);
-      waits = g.waits ∙ ap (λ m. drop (n + m) (picked a t.selection)) (none ∙ sym none_more);
+      held = rw none_more (rw none at g.held);
+      waits = rw none_more (rw none at g.waits);
       within = g.within;
       owed = g.owed;
-      fixed = g.fixed ∙ sym (and_left (nat_lt 0 (length (archived_items (take more xs)))) _
-          (ap (λ m. nat_lt 0 (length (archived_items (take m xs)))) none_more));
-      since =
-          g.since
-          ∙ sym (ap (λ m. cond ((true && nat_eq k 0) && not (true && nat_eq m 0)) now since)
-          none_more
-          ∙ ap (λ b. cond ((true && b) && false) now since) (eq-eqb k 0 none));
+      fixed = rw none_more g.fixed;
+      since = rw (none_more, none) g.since;
       ended = g.ended;
-      still = λ _. ap (λ m. is_complete t.size (archived_items (take m xs))) none_more
-          ∙ nothing_complete t.size some;
+      still = λ _. rw none_more (nothing_complete t.size some);
     })
   where
     xs : List (ℕ × Entry)
@@ -259,11 +235,7 @@ entries_held : (t : Terms) (entries : List (ℕ × Entry)) (closed : Bool) (d : 
     → State t entries closed d
     → list_any is_archived (buffer entries d) ≡ nat_lt 0 d.held
 entries_held t entries closed d s =
-    elim (cases_lt 0 d.held) [
-      | inl more ↦ some_in t entries closed d s more ∙ sym (lt-ltb 0 d.held more)
-      | inr none ↦ none_archived t entries closed d s (omega arith)
-          ∙ sym (le-ltb 0 d.held (omega arith))
-    ]
+    grind (arith, some_in t entries closed d s, none_archived t entries closed d s)
   where
     some_in : (t : Terms) (entries : List (ℕ × Entry)) (closed : Bool) (d : Delivery)
         → State t entries closed d → 0 < d.held
@@ -273,10 +245,8 @@ entries_held t entries closed d s =
     some_in t entries closed d (telling n k fixed since fits limits timely) more =
         some_held n k entries fits more
     some_in t entries closed d (owing n since fits timely) more = absurd (omega arith)
-    some_in t entries closed d (ending n k fixed since all none is shut) more =
-        absurd (let h : 0 < k = more in omega arith)
-    some_in t entries closed d (over n k fixed since all none is shut) more =
-        absurd (let h : 0 < k = more in omega arith)
+    some_in t entries closed d (ending n k fixed since all none is shut) more = grind arith
+    some_in t entries closed d (over n k fixed since all none is shut) more = grind arith
 
 backlog_held : (t : Terms) (entries : List (ℕ × Entry)) (closed : Bool) (d : Delivery)
     → State t entries closed d
@@ -309,16 +279,16 @@ items_same t a p d g = ap items_of g.held ∙ items_of-told a p.last (buffer (pi
 none_waits : (t : Terms) (a : List Entry) (p : Placed) (d : Delivery) → Agrees t a p d
     → filter (from_place p.place) (picked a t.selection)
     ≡ drop ((d.settled + d.held) + 0) (picked a t.selection)
-none_waits t a p d g = g.waits
-    ∙ ap (λ n. drop n (picked a t.selection)) (sym (add-zero (d.settled + d.held)))
+none_waits t a p d g = rw add-zero g.waits
 
 discards_same : (t : Terms) (a : List Entry) (p : Placed) (d : Delivery)
     → State t (picked a t.selection) (is_stop_closed t.selection a) d → Agrees t a p d
     → (is_timely t.mode && list_any is_archived (items_of p.held)) ≡ is_discardable t.mode d
 discards_same t a p d s g =
-    ap (λ xs. is_timely t.mode && list_any is_archived xs) (items_same t a p d g)
-    ∙ ap (λ b. is_timely t.mode && b) (entries_held t (picked a t.selection)
-    (is_stop_closed t.selection a) d s)
+    rw (
+      items_same t a p d g,
+      entries_held t (picked a t.selection) (is_stop_closed t.selection a) d s,
+    )
 
 pub Agrees-answered : (t : Terms) (a : List Entry) (answer : Answer) (p : Placed) (d : Delivery)
     → 0 < t.size → d.fixed ≡ true
@@ -328,11 +298,11 @@ Agrees-answered t a whole p d some is s g = record {
   held = refl;
   waits = none_waits t a p d g;
   within = g.within;
-  owed =
-      ap (λ b. b && not (list_any is_backlog (items_of p.held))) g.owed
-      ∙ ap (λ xs. d.owed && not (list_any is_backlog xs)) (items_same t a p d g)
-      ∙ ap (λ b. d.owed && not b) (backlog_held t (picked a t.selection)
-      (is_stop_closed t.selection a) d s);
+  owed = rw (
+    g.owed,
+    items_same t a p d g,
+    backlog_held t (picked a t.selection) (is_stop_closed t.selection a) d s,
+  );
   fixed = refl;
   since = g.since;
   ended =
@@ -384,11 +354,7 @@ Agrees-grow t a b p d s g = record {
     fits = held_within t (picked a t.selection) (is_stop_closed t.selection a) d s
 
     same : buffer (picked (a ++ b) t.selection) d ≡ buffer (picked a t.selection) d
-    same =
-        ap (λ xs. buffer xs d) (picked-append a b t.selection)
-        ∙ ap (λ xs. option_to_list d.head ++ archived_items xs)
-        (held_of_more d.settled d.held (picked a t.selection) (picked_behind a b t.selection)
-        fits)
+    same = rw (picked-append, held_of_more d.settled d.held _ (picked_behind a b t.selection) fits)
 
 -- ---- rounds
 
@@ -409,9 +375,8 @@ Both-further t entries f g p d archive rise both =
     let longer : is_archive (a ++ b) ≡ true = ap is_archive to
     ∙ is_archive-take entries g archive in
     record {
-      state = subst (λ x. State t (picked x s) (is_stop_closed s x) d) to
-          (State-longer t a b d longer both.state);
-      agrees = subst (λ x. Agrees t x p d) to (Agrees-grow t a b p d both.state both.agrees);
+      state = rw to at (State-longer t a b d longer both.state);
+      agrees = rw to at (Agrees-grow t a b p d both.state both.agrees);
     }
 
 Both-at : (t : Terms) (entries : List Entry) (r : Round) (p : Placed) (d : Delivery) → 0 < t.size
@@ -435,13 +400,7 @@ Both-at t entries r p d some both = on_step (takes_step r.link)
 answers_same : (t : Terms) (entries : List Entry) (r : Round) (p : Placed) (d : Delivery)
     → Both t entries r.front p d
     → placed_answer_at r p ≡ answer_at r d
-answers_same t entries r p d both = let same : p.fixed ≡ d.fixed = both.agrees.fixed in
-    ap (λ b. cond b (answer_on r.link) None) same
-
-only_fixed : (fixed : Bool) (on : Option Answer) (x : Answer) → cond fixed on None ≡ Some x
-    → fixed ≡ true
-only_fixed true on x is = refl
-only_fixed false on x is = cc
+answers_same t entries r p d both = rw both.agrees.fixed
 
 Both-answered : (t : Terms) (entries : List Entry) (f : ℕ) (p : Placed) (d : Delivery)
     (answer : Option Answer) → 0 < t.size
@@ -464,10 +423,8 @@ Both-round t entries r p d some both =
     Both-at t entries r p d some both in
     let q : Placed = placed_at_round t entries r p in
     let e : Delivery = at_round t entries r d in
-    subst (λ x. Both t entries r.front (option_map_or (λ y. placed_answered t y q) x q)
-    (after_round t entries r d)) (sym (answers_same t entries r q e at))
-    (Both-answered t entries r.front q e (answer_at r e) some
-    (λ x is. only_fixed e.fixed (answer_on r.link) x is) at)
+    rw (answers_same t entries r q e at) (Both-answered t entries r.front q e (answer_at r e) some
+    (λ x is. grind (arith, is)) at)
 
 -- the same was done
 fates_same : (t : Terms) (a : List Entry) (p : Placed) (d : Delivery) (answer : Option Answer)
@@ -478,9 +435,7 @@ fates_same t a p d None s g = refl
 fates_same t a p d (Some whole) s g = ap handed (items_same t a p d g)
 fates_same t a p d (Some fail) s g = ap failed (items_same t a p d g)
 fates_same t a p d (Some stall) s g =
-    ap (λ b. cond b (discarded (items_of p.held)) (kept (items_of p.held)))
-    (discards_same t a p d s g)
-    ∙ ap (λ xs. cond (is_discardable t.mode d) (discarded xs) (kept xs)) (items_same t a p d g)
+    rw (discards_same t a p d s g, items_same t a p d g)
 
 -- what was handed over is told as the items that it is, and the last frame goes on
 told_same : (t : Terms) (entries : List Entry) (p : Placed) (d : Delivery) (f : ℕ)
@@ -516,9 +471,7 @@ told_same t entries p d f (Some whole) rest both =
     let told : told_items entries p.last b ≡ p.held =
     ap (λ xs. told_items xs p.last b) (sym (take-append-drop f entries))
     ∙ items_stay (take f entries) (drop f entries) p.last b stand ∙ sym g.held in
-    ap (λ x. x ∷ told_buffers entries (last_frame p.last b) rest) told
-    ∙ ap (λ xs. p.held ∷ told_buffers entries (last_frame p.last xs) rest)
-    (sym (items_same t (take f entries) p d g))
+    rw (told, items_same t (take f entries) p d g)
 
 -- a run that ends here, or goes on as another does
 ends_same : {A B C : Type 0} (f : List A → C) (g : List B → C) (c : Bool) (xs : List A)
@@ -585,19 +538,16 @@ same_rounds t entries f (r ∷ rounds) p d some archive rise both =
     one_more at later =
         let same : placed_answer_at r q ≡ answer = answers_same t entries r q e at in
         let further : Same t entries rounds (after answer) (after_round t entries r d) =
-        subst (λ x. Same t entries rounds (after x) (after_round t entries r d)) same later in
+        rw same at later in
         let failed_at : Bool = is_failed r.link answer in
         let kept_last : q.last ≡ p.last = last_kept (takes_step r.link) (p.fixed || p.ended) in
         record {
           steps =
-              ap (λ x. map (λ y. y.0) (does x)) same
-              ∙ ap (λ o. o ∷ map (λ y. y.0) (cond failed_at []
-              (placed_outcomes t entries rounds (after answer))))
-              (fates_same t (take r.front entries) q e answer at.state at.agrees)
-              ∙ ap (λ xs. outcome t entries r d ∷ xs)
+              rw (same, fates_same t (take r.front entries) q e answer at.state at.agrees)
+              (ap (λ xs. outcome t entries r d ∷ xs)
               (ends_same (map (λ y. y.0)) (λ ys. ys) failed_at
               (placed_outcomes t entries rounds (after answer))
-              (outcomes t entries rounds (after_round t entries r d)) refl further.steps);
+              (outcomes t entries rounds (after_round t entries r d)) refl further.steps));
           told =
               ap (λ x. filter_map (λ (y : Outcome × Option (List Told)). y.1) (does x)) same
               ∙ ap (cons_option (did answer).1) (ends_same

@@ -1,25 +1,23 @@
 -- A delivery that remembers a place steps as the one that counts in the picked list.
 use Rattle.std.proofs.Common.{◌≡◌, ℕ, zero, suc, ◌+◌, ◌-◌, ◌<◌, ◌≤◌, Bool, true, false, cond, not}
 use Rattle.std.proofs.Common.{◌&&◌, ◌||◌, nat_eq, nat_lt, List, [], ◌∷◌, ◌++◌, length, take, drop}
-use Rattle.std.proofs.Common.{Option, Some, None, refl, ap, sym, subst, ◌∙◌, arith, inl, inr}
-use Rattle.std.proofs.Common.{append_assoc}
+use Rattle.std.proofs.Common.{Option, Some, None, refl, ap, sym, subst, ◌∙◌, arith, append_assoc}
 use Rattle.std.specs.Prelude.{is_none}
 use Rattle.std.specs.List.{filter, list_any, sum_by}
 use Rattle.std.specs.Option.{option_to_list, option_or}
 use Rattle.std.proofs.lemmas.List.{length-drop, length-take-le, length-map, take-map, take-take}
 use Rattle.std.proofs.lemmas.List.{drop-drop, map-append, take-append-drop}
-use Rattle.std.proofs.lemmas.Bool.{cases_lt, or_cases, or_left, or_right, lt-ltb, le-ltb, and_from}
-use Rattle.std.proofs.lemmas.Bool.{eq-eqb, ne_eqb, both_ways}
+use Rattle.std.proofs.lemmas.Bool.{ne_eqb}
 use Rattle.std.proofs.Math.Seq.{take-add}
 use Rattle.archive_terms.specs.Archive.{Entry}
 use Rattle.archive_terms.specs.Selection.{picked, is_stop_closed}
-use Rattle.archive_terms.specs.Delivery.{Item, archived, backlog, end_of_data, archived_items}
-use Rattle.archive_terms.specs.Delivery.{entries_of, frame_octets, is_late, is_notice_item}
-use Rattle.archive_terms.specs.Delivery.{is_notification, is_full, is_complete, buffer_length}
-use Rattle.archive_terms.specs.Delivery.{Terms, is_due_of, contents, Delivery, buffer}
+use Rattle.archive_terms.specs.Delivery.{Item, archived, archived_items, entries_of, frame_octets}
+use Rattle.archive_terms.specs.Delivery.{is_notice_item, is_notification, is_complete}
+use Rattle.archive_terms.specs.Delivery.{buffer_length, Terms, is_due_of, contents, Delivery}
+use Rattle.archive_terms.specs.Delivery.{buffer}
 use Rattle.archive_terms.specs.Continuity.{frame_place, last_frame, told_items}
-use Rattle.archive_terms.specs.Glimpse.{Wanted, wants_nothing, wants_items, given, lengths_of}
-use Rattle.archive_terms.specs.Glimpse.{given_of, picked_from, place_behind, Glimpse, glimpse}
+use Rattle.archive_terms.specs.Glimpse.{Wanted, wants_nothing, wants_items, given_of, picked_from}
+use Rattle.archive_terms.specs.Glimpse.{place_behind, Glimpse, glimpse}
 use Rattle.archive_terms.specs.Placed.{items_of, Placed, with_head, want_of, taken_of, with_items}
 use Rattle.archive_terms.specs.Placed.{is_all_put}
 use Rattle.archive_terms.proofs.Buffers.{InLimits, room, entries_of-archived, nothing_complete}
@@ -45,8 +43,7 @@ pub record Agrees (t : Terms) (a : List Entry) (p : Placed) (d : Delivery) : Typ
 pub items_of-told : (a : List Entry) (before : Option ℕ) (xs : List Item)
     → items_of (told_items a before xs) ≡ xs
 items_of-told a before [] = refl
-items_of-told a before (x ∷ xs) = ap (λ ys. x ∷ ys)
-    (items_of-told a (option_or (frame_place x) before) xs)
+items_of-told a before (x ∷ xs) = cc (items_of-told a (option_or (frame_place x) before) xs)
 
 pub length-told : (a : List Entry) (before : Option ℕ) (xs : List Item)
     → length (told_items a before xs) ≡ length xs
@@ -57,31 +54,17 @@ take-told : (a : List Entry) (before : Option ℕ) (n : ℕ) (xs : List Item)
     → take n (told_items a before xs) ≡ told_items a before (take n xs)
 take-told a before zero xs = refl
 take-told a before (suc n) [] = refl
-take-told a before (suc n) (x ∷ xs) =
-    ap (λ ys. (told_items a before (x ∷ [])) ++ ys)
-    (take-told a (option_or (frame_place x) before) n xs)
+take-told a before (suc n) (x ∷ xs) = cc (take-told a (option_or (frame_place x) before) n xs)
 
 -- ---- small facts
 
 last_same : (m g w taken : ℕ) → taken ≤ g → g ≤ w
     → (not (nat_lt g w) && nat_eq taken g) ≡ nat_eq (m + taken) (m + w)
-last_same m g w taken few fits =
-    elim (cases_lt g w) [
-      | inl less ↦ ap (λ b. not b && nat_eq taken g) (lt-ltb g w less)
-          ∙ sym (ne_eqb (m + taken) (m + w) (λ e. omega arith))
-      | inr all ↦ ap (λ b. not b && nat_eq taken g) (le-ltb g w all)
-          ∙ elim (cases_lt taken g) [
-            | inl less ↦ ne_eqb taken g (λ e. omega arith)
-                ∙ sym (ne_eqb (m + taken) (m + w) (λ e. omega arith))
-            | inr same ↦ eq-eqb taken g (omega arith)
-                ∙ sym (eq-eqb (m + taken) (m + w) (omega arith))
-          ]
-    ]
+last_same m g w taken few fits = grind arith
 
 pub end_same : (e c : Bool) (n r m : ℕ) → (e ≡ true → r ≡ 0)
     → ((true && e) && c && nat_eq n m) ≡ (e && (c && nat_eq (n + r) m))
-end_same false c n r m none = refl
-end_same true c n r m none = ap (λ k. c && nat_eq k m) (let h : r ≡ 0 = none refl in omega arith)
+end_same e c n r m none = grind arith
 
 pub held_is_empty : (a : List Entry) (before : Option ℕ) (front : Option Item) (k : ℕ)
     (xs : List (ℕ × Entry)) → k ≤ length xs
@@ -98,44 +81,21 @@ held_is_empty a before (Some x) k xs fits =
 noted : (items : List Item) → list_any is_notice_item items ≡ true
     → list_any is_notification items ≡ true
 noted [] is = is
-noted (x ∷ items) is =
-    elim (or_cases (is_notice_item x) (list_any is_notice_item items) is) [
-      | inl here ↦ or_left (is_notification x) (list_any is_notification items) (of_item x here)
-      | inr later ↦ or_right (is_notification x) (list_any is_notification items)
-          (noted items later)
-    ]
-  where
-    of_item : (x : Item) → is_notice_item x ≡ true → is_notification x ≡ true
-    of_item (archived place entry) is = is
-    of_item backlog is = cc
-    of_item end_of_data is = cc
+noted (x ∷ items) is = grind (arith, noted items)
 
 complete_is_due : (size : ℕ) (limit : Option ℕ) (now since : ℕ) (last : Bool) (items : List Item)
     → 0 < size
     → is_complete size items ≡ true → is_due_of size limit now last (contents since items) ≡ true
 complete_is_due size limit now since last [] some complete =
-    absurd (both_ways (is_complete size []) (nothing_complete size some) complete)
+    absurd (cc (nothing_complete size some))
 complete_is_due size limit now since last (x ∷ items) some complete =
-    let all : List Item = x ∷ items in
-    and_from (nat_lt 0 (length all)) (list_any is_notification all || is_full size all
-    || is_late limit since now || last)
-    (lt-ltb 0 (length all) (omega arith))
-    (or_left (list_any is_notification all || is_full size all || is_late limit since now) last
-    (or_left (list_any is_notification all || is_full size all) (is_late limit since now)
-    (elim (or_cases (is_full size all) (list_any is_notice_item all) complete) [
-      | inl full ↦ or_right (list_any is_notification all) (is_full size all) full
-      | inr notice ↦ or_left (list_any is_notification all) (is_full size all) (noted all notice)
-    ])))
+    grind (arith, noted (x ∷ items))
 
 pub not_complete : (size : ℕ) (limit : Option ℕ) (now since : ℕ) (last : Bool) (items : List Item)
     → 0 < size
     → is_due_of size limit now last (contents since items) ≡ false → is_complete size items ≡ false
-not_complete size limit now since last items some waits = by_test (is_complete size items) refl
-  where
-    by_test : (b : Bool) → is_complete size items ≡ b → b ≡ false
-    by_test false is = refl
-    by_test true is = absurd (both_ways (is_due_of size limit now last (contents since items)) waits
-        (complete_is_due size limit now since last items some is))
+not_complete size limit now since last items some waits =
+    grind (arith, complete_is_due size limit now since last items some)
 
 -- ---- filling
 
@@ -211,21 +171,11 @@ fills t a now p front n k some goes fits limits head waits within = record {
 
     -- what is given
     given_is : given_of a want ≡ take (look t.size h w) w
-    given_is =
-        ap (λ ys. take (given (t.size - length (with_head p))
-        (524288 - sum_by frame_octets (items_of (with_head p))) (lengths_of ys)) ys) waits
-        ∙ ap (λ m. take (given (t.size - m) (524288 - sum_by frame_octets (items_of (with_head p)))
-        (lengths_of w)) w) length_is
-        ∙ ap (λ ys. take (given (t.size - length h) (524288 - sum_by frame_octets ys)
-        (lengths_of w)) w) items_are
+    given_is = rw (waits, length_is, items_are)
 
     given_items : g.items ≡ told_items a (last_frame p.last h)
         (archived_items (take (look t.size h w) w))
-    given_items =
-        ap (λ ys. told_items a (last_frame p.last (items_of (with_head p))) (archived_items ys))
-        given_is
-        ∙ ap (λ ys. told_items a (last_frame p.last ys) (archived_items (take (look t.size h w) w)))
-        items_are
+    given_items = rw (given_is, items_are)
 
     xs_long : k ≤ length xs
     xs_long = omega (arith, length-drop n all)
@@ -235,13 +185,7 @@ fills t a now p front n k some goes fits limits head waits within = record {
 
     -- how many are taken
     whole : h ++ archived_items w ≡ option_to_list front ++ archived_items xs
-    whole =
-        append_assoc (option_to_list front) (archived_items (take k xs)) (archived_items w)
-        ∙ ap (λ ys. option_to_list front ++ (archived_items (take k xs) ++ archived_items ys))
-        (sym w_is)
-        ∙ ap (λ ys. option_to_list front ++ ys)
-        (sym (map-append (λ x. archived x.0 x.1) (take k xs) (drop k xs)))
-        ∙ ap (λ ys. option_to_list front ++ archived_items ys) (take-append-drop k xs)
+    whole = rw (append_assoc, ← w_is, ← map-append, take-append-drop)
 
     r : ℕ
     r = room t.size front xs
@@ -250,16 +194,7 @@ fills t a now p front n k some goes fits limits head waits within = record {
     taken = taken_of t g p
 
     taken_is : taken ≡ buffer_length t.size (h ++ archived_items w) - length h
-    taken_is =
-        ap (λ ys. buffer_length t.size (items_of (with_head p) ++ items_of ys) - length
-        (with_head p)) given_items
-        ∙ ap (λ ys. buffer_length t.size (items_of (with_head p) ++ ys) - length (with_head p))
-        (items_of-told a (last_frame p.last h) (archived_items (take (look t.size h w) w)))
-        ∙ ap (λ ys. buffer_length t.size (ys ++ archived_items (take (look t.size h w) w)) - length
-        (with_head p)) items_are
-        ∙ ap (λ m. buffer_length t.size (h ++ archived_items (take (look t.size h w) w)) - m)
-        length_is
-        ∙ ap (λ m. m - length h) (given_fills t.size h w)
+    taken_is = rw (given_items, items_of-told, items_are, length_is, given_fills)
 
     r_is : r ≡ k + taken
     r_is =
@@ -279,11 +214,8 @@ fills t a now p front n k some goes fits limits head waits within = record {
 
     took : take taken g.items ≡ told_items a (last_frame p.last h) (archived_items (take taken w))
     took =
-        ap (take taken) given_items ∙ take-told a (last_frame p.last h) taken
-        (archived_items (take (look t.size h w) w))
-        ∙ ap (told_items a (last_frame p.last h))
-        (take-map (λ x. archived x.0 x.1) taken (take (look t.size h w) w)
-        ∙ ap archived_items (take-take taken (look t.size h w) w few))
+        ap (take taken) given_items
+        ∙ rw (take-told, take-map, take-take taken (look t.size h w) w few)
 
     held_is : (with_head p ++ take taken g.items)
         ≡ told_items a p.last (option_to_list front ++ archived_items (take r xs))
@@ -337,16 +269,7 @@ fills t a now p front n k some goes fits limits head waits within = record {
         ∙ length-map (take (look t.size h w) w) (λ x. archived x.0 x.1) ∙ some_left in
         let waiting_long : length (picked_from a t.selection p.place) ≡ length w =
         ap length waits in
-        ap (λ m. is_stop_closed t.selection a
-        && (not (nat_lt m (length (picked_from a t.selection p.place)))
-        && nat_eq taken (length g.items))) given_long
-        ∙ ap (λ m. is_stop_closed t.selection a
-        && (not (nat_lt (look t.size h w) m) && nat_eq taken (length g.items))) waiting_long
-        ∙ ap (λ m. is_stop_closed t.selection a
-        && (not (nat_lt (look t.size h w) (length w)) && nat_eq taken m)) items_long
-        ∙ ap (λ b. is_stop_closed t.selection a && b)
-        (last_same (n + k) (look t.size h w) (length w) taken few (look-le t.size h w))
-        ∙ ap (λ m. is_stop_closed t.selection a && nat_eq m (n + k + length w))
-        (omega (arith, r_is))
-        ∙ ap (λ m. is_stop_closed t.selection a && nat_eq (n + r) m)
-        (omega (arith, length-drop (n + k) all))
+        let put_all : n + k + taken ≡ n + r = omega (arith, r_is) in
+        let long : n + k + length w ≡ length all = omega (arith, length-drop (n + k) all) in
+        let same = last_same (n + k) (look t.size h w) (length w) taken few (look-le t.size h w) in
+        rw (given_long, waiting_long, items_long, same, put_all, long)

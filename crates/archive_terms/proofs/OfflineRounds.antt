@@ -1,20 +1,19 @@
 -- An offline delivery whose front stands still and whose offers are taken hands over the cut
 -- buffers.
-use Rattle.std.proofs.Common.{◌≡◌, ℕ, suc, ◌+◌, ◌<◌, ◌≤◌, Bool, true, false, cond, ◌&&◌, ◌||◌}
-use Rattle.std.proofs.Common.{nat_eq, nat_lt, List, [], ◌∷◌, map, length, take, drop, Some}
-use Rattle.std.proofs.Common.{None, refl, ap, sym, ◌∙◌, arith, inl, inr}
-use Rattle.std.specs.List.{list_any, filter, cons_option}
+use Rattle.std.proofs.Common.{◌≡◌, ℕ, suc, ◌+◌, ◌<◌, ◌≤◌, Bool, true, false, cond, ◌&&◌, nat_eq}
+use Rattle.std.proofs.Common.{List, [], ◌∷◌, map, length, take, drop, Some, None, refl, arith, inl}
+use Rattle.std.proofs.Common.{inr}
+use Rattle.std.specs.List.{list_any, cons_option}
 use Rattle.std.specs.Option.{option_map_or}
 use Rattle.std.proofs.lemmas.List.{length-drop, length-take, length-map, take_all, drop_all}
 use Rattle.std.proofs.lemmas.List.{drop-drop, drop-map, take-map, nil_from_length}
-use Rattle.std.proofs.lemmas.Bool.{and_parts, cases_lt, both_ways, true≢false, false≢true, eq-eqb}
-use Rattle.std.proofs.lemmas.Bool.{ltb-true, lt-ltb, and_left}
+use Rattle.std.proofs.lemmas.Bool.{cases_lt, lt-ltb}
 use Rattle.archive_terms.specs.Archive.{Entry}
 use Rattle.archive_terms.specs.Selection.{is_stop_closed}
 use Rattle.archive_terms.specs.Delivery.{is_online, Item, archived, end_of_data, archived_items}
-use Rattle.archive_terms.specs.Delivery.{is_notification, is_notice_item, is_late, limit_of}
-use Rattle.archive_terms.specs.Delivery.{is_full, is_complete, buffer_length, cut, offline_buffers}
-use Rattle.archive_terms.specs.Delivery.{Terms, Delivery, buffer, is_due, with_due_fixed, started}
+use Rattle.archive_terms.specs.Delivery.{is_notification, is_notice_item, is_complete}
+use Rattle.archive_terms.specs.Delivery.{buffer_length, cut, offline_buffers, Terms, Delivery}
+use Rattle.archive_terms.specs.Delivery.{buffer, is_due, with_due_fixed, started}
 use Rattle.archive_terms.specs.Rounds.{whole, free, answered, fate, nothing, is_failed, picked_at}
 use Rattle.archive_terms.specs.Rounds.{outcomes, handed_buffer, handed_buffers, free_round}
 use Rattle.archive_terms.proofs.Buffers.{room, room-le, takes_one, buffer_length-stops}
@@ -40,8 +39,7 @@ same_notices : (entries : List (ℕ × Entry))
     → list_any is_notification (archived_items entries)
     ≡ list_any is_notice_item (archived_items entries)
 same_notices [] = refl
-same_notices (x ∷ entries) = ap (λ b. is_notification (archived x.0 x.1) || b)
-    (same_notices entries)
+same_notices (x ∷ entries) = cc (same_notices entries)
 
 -- with entries left the first cut buffer has as many as are held
 first_cut : (size : ℕ) (waiting : List (ℕ × Entry)) → 0 < size → 0 < length waiting
@@ -49,35 +47,19 @@ first_cut : (size : ℕ) (waiting : List (ℕ × Entry)) → 0 < size → 0 < le
     ≡ archived_items (take (room size None waiting) waiting)
     ∷ cut size (archived_items (drop (room size None waiting) waiting))
 first_cut size waiting some left =
-    let m : ℕ = buffer_length size (archived_items waiting) in
-    let k : ℕ = room size None waiting in
-    let all : m ≡ k = omega arith in
-    cut-step size (archived_items waiting) some
-    (omega (arith, length-map waiting (λ x. archived x.0 x.1)))
-    ∙ ap (λ xs. xs ∷ cut size (drop m (archived_items waiting)))
-    (take-map (λ x. archived x.0 x.1) m waiting)
-    ∙ ap (λ xs. archived_items (take m waiting) ∷ cut size xs)
-    (drop-map (λ x. archived x.0 x.1) m waiting)
-    ∙ ap (λ n. archived_items (take n waiting) ∷ cut size (archived_items (drop n waiting))) all
+    let items : List Item = archived_items waiting in
+    let all : room size None waiting ≡ buffer_length size items = omega arith in
+    rw (all, ← take-map, ← drop-map)
+    (cut-step size items some (omega (arith, length-map waiting (λ x. archived x.0 x.1))))
 
 -- where entries are left behind the held ones, these are complete
 complete_or_last : (size : ℕ) (waiting : List (ℕ × Entry)) → room size None waiting < length waiting
     → is_complete size (archived_items (take (room size None waiting) waiting)) ≡ true
 complete_or_last size waiting left =
-    let m : ℕ = buffer_length size (archived_items waiting) in
-    let all : m ≡ room size None waiting = omega arith in
-    ap (λ n. is_complete size (archived_items (take n waiting))) (sym all)
-    ∙ ap (is_complete size) (sym (take-map (λ x. archived x.0 x.1) m waiting))
-    ∙ buffer_length-stops size (archived_items waiting)
-    (omega (arith, length-map waiting (λ x. archived x.0 x.1)))
-
-full_or_noted : (noted full late : Bool) → (noted || full || late || false) ≡ true → late ≡ false
-    → (full || noted) ≡ true
-full_or_noted noted full late due in_time = grind arith
-
-neither : (noted full late last : Bool) → (noted || full || late || last) ≡ false
-    → ((full || noted) ≡ false) × (last ≡ false)
-neither noted full late last due = grind arith
+    let items : List Item = archived_items waiting in
+    let all : room size None waiting ≡ buffer_length size items = omega arith in
+    rw (all, ← take-map)
+    (buffer_length-stops size items (omega (arith, length-map waiting (λ x. archived x.0 x.1))))
 
 -- a due buffer is complete, where the stop isn't closed and no latency limit counts
 due_is_complete : (t : Terms) (entries : List (ℕ × Entry)) (now n k since : ℕ)
@@ -85,23 +67,13 @@ due_is_complete : (t : Terms) (entries : List (ℕ × Entry)) (now n k since : �
     → is_due t entries false now (resting n k since false false) ≡ true
     → is_complete t.size (archived_items (take k (drop n entries))) ≡ true
 due_is_complete t entries now n k since off due =
-    let held : List (ℕ × Entry) = take k (drop n entries) in
-    let b : List Item = archived_items held in
-    let late : Bool = is_late (limit_of t) since now in
-    let any : (list_any is_notification b || is_full t.size b || late || false) ≡ true =
-    (and_parts (nat_lt 0 (length b)) _ due).1 in
-    ap (λ noted. is_full t.size b || noted) (sym (same_notices held))
-    ∙ full_or_noted (list_any is_notification b) (is_full t.size b) late any
-    (ap (λ on. is_late (cond on (Some t.latency) None) since now) off)
+    grind (arith, same_notices (take k (drop n entries)))
 
 due_holds : (t : Terms) (entries : List (ℕ × Entry)) (closed : Bool) (now n k since : ℕ)
     → is_due t entries closed now (resting n k since false false) ≡ true → 0 < k
 due_holds t entries closed now n k since due =
     let held : List (ℕ × Entry) = take k (drop n entries) in
-    let some : 0 < length (archived_items held) =
-    ltb-true 0 (length (archived_items held))
-    (and_parts (nat_lt 0 (length (archived_items held))) _ due).0 in
-    omega (arith, length-map held (λ x. archived x.0 x.1), length-take k (drop n entries))
+    grind (arith, length-map held (λ x. archived x.0 x.1), length-take k (drop n entries))
 
 -- a held buffer that isn't due is neither complete nor the last before a closed stop
 not_due : (t : Terms) (entries : List (ℕ × Entry)) (closed : Bool) (now n k since : ℕ)
@@ -111,16 +83,7 @@ not_due : (t : Terms) (entries : List (ℕ × Entry)) (closed : Bool) (now n k s
     × ((closed && nat_eq (n + k) (length entries)) ≡ false)
 not_due t entries closed now n k since some due =
     let held : List (ℕ × Entry) = take k (drop n entries) in
-    let b : List Item = archived_items held in
-    let late : Bool = is_late (limit_of t) since now in
-    let last : Bool = closed && nat_eq (n + k) (length entries) in
-    let full : nat_lt 0 (length b) ≡ true = lt-ltb 0 (length b)
-    (omega (arith, length-map held (λ x. archived x.0 x.1))) in
-    let none : (list_any is_notification b || is_full t.size b || late || last) ≡ false =
-    sym (ap (λ x. x && (list_any is_notification b || is_full t.size b || late || last)) full)
-    ∙ due in
-    let parts = neither (list_any is_notification b) (is_full t.size b) late last none in
-    (ap (λ noted. is_full t.size b || noted) (sym (same_notices held)) ∙ parts.0, parts.1)
+    grind (arith, length-map held (λ x. archived x.0 x.1), same_notices held)
 
 -- what is left to hand over after n picked entries
 abbrev left : Terms → List (ℕ × Entry) → Bool → ℕ → List (List Item)
@@ -178,33 +141,23 @@ nothing_left t entries closed now n since some within no_end due =
     empty : k ≡ 0 → waiting ≡ []
     empty none =
         nil_from_length waiting
-        (elim (cases_lt 0 (length waiting)) [
-          | inl more ↦
-              absurd (let one : 0 < buffer_length t.size (archived_items waiting) =
-              takes_one t.size (archived_items waiting) some
-              (omega (arith, length-map waiting (λ x. archived x.0 x.1))) in omega arith)
-          | inr none_left ↦ omega arith
-        ])
+        (grind (
+          arith,
+          takes_one t.size (archived_items waiting) some,
+          length-map waiting (λ x. archived x.0 x.1),
+        ))
 
     with_none : (closed : Bool) → k ≡ 0
         → ((true && nat_eq k 0) && closed && nat_eq n (length entries)) ≡ false
         → left t entries closed n ≡ []
-    with_none true none no_end =
-        let all : n ≡ length entries = omega (
-          arith,
-          length-drop n entries,
-          ap length (empty none),
-        ) in
-        absurd (true≢false (rw (eq-eqb k 0 none, eq-eqb n (length entries) all) at no_end))
-    with_none false none no_end =
-        ap (λ xs. filter (is_complete t.size) (cut t.size (archived_items xs))) (empty none)
+    with_none true none no_end = absurd (grind (arith, length-drop n entries, empty none))
+    with_none false none no_end = rw (empty none)
 
     by_stop : (closed : Bool) → 0 < k → length waiting ≤ k
         → is_complete t.size (archived_items (take k waiting)) ≡ false
         → (closed && nat_eq (n + k) (length entries)) ≡ false → left t entries closed n ≡ []
     by_stop true held all still last =
-        absurd (false≢true (sym last ∙ eq-eqb (n + k) (length entries)
-        (omega (arith, length-drop n entries, room-le t.size None waiting))))
+        absurd (grind (arith, length-drop n entries, room-le t.size None waiting))
     by_stop false held all still last =
         rw (
           first_cut t.size waiting some (omega (arith, room-le t.size None waiting)),
@@ -218,11 +171,7 @@ nothing_left t entries closed now n since some within no_end due =
     with_some closed held due =
         let parts = not_due t entries closed now n k since
         (omega (arith, length-take k waiting, room-le t.size None waiting)) due in
-        let all : length waiting ≤ k = elim (cases_lt k (length waiting)) [
-          | inl less ↦ absurd (both_ways (is_complete t.size (archived_items (take k waiting)))
-              parts.0 (complete_or_last t.size waiting less))
-          | inr all ↦ all
-        ] in
+        let all : length waiting ≤ k = grind (arith, complete_or_last t.size waiting, parts.0) in
         by_stop closed held all parts.0 parts.1
 
 take_none : {X : Type 0} → (n : ℕ) → take n (let none : List X = [] in none) ≡ []
@@ -254,27 +203,12 @@ module _ (t : Terms) (a : List Entry) (front : ℕ) where
       (outcomes t a (map (free_round front) moments)
       (option_map_or (λ x. answered t x d) answer d))))
 
-  over_at : (moments : List ℕ) (n k since : ℕ) (due : Bool) → due ≡ false
-      → handed_from moments (resting n k since false true) ≡ []
-      → handed_at moments (resting n k since due true) ≡ []
-  over_at moments n k since true not_due rest = absurd (true≢false not_due)
-  over_at moments n k since false not_due rest = rest
-
   -- after end of data nothing is handed over
   over_hands_nothing : (moments : List ℕ) (n k since : ℕ) → length entries ≤ n
       → handed_from moments (resting n k since false true) ≡ []
   over_hands_nothing [] n k since all = refl
   over_hands_nothing (now ∷ moments) n k since all =
-      let more : ℕ = held_from t entries n in
-      let none : more ≡ 0 = omega (
-        arith,
-        room-le t.size None (drop n entries),
-        length-drop n entries,
-      ) in
-      over_at moments n more _ _
-      (and_left (nat_lt 0 (length (archived_items (take more (drop n entries))))) _
-      (ap (λ k. nat_lt 0 (length (archived_items (take k (drop n entries))))) none))
-      (over_hands_nothing moments n more _ all)
+      rw (drop_all n entries all) (over_hands_nothing moments n 0 _ all)
 
   -- a round at which end of data isn't due
   due_at : (moments : List ℕ) (n k since : ℕ) (due : Bool)
@@ -302,9 +236,7 @@ module _ (t : Terms) (a : List Entry) (front : ℕ) where
   end_at now moments n k since true why else =
       let w : (k ≡ 0) × (closed ≡ true) × (n ≡ length entries) = why refl in
       let last : n ≡ length entries = w.2 in
-      let all : behind n ≡ (end_of_data ∷ []) ∷ [] =
-      ap (offline_buffers t.size (drop n entries)) w.1
-      ∙ ap (λ xs. offline_buffers t.size xs true) (drop_all n entries (omega arith)) in
+      let all : behind n ≡ (end_of_data ∷ []) ∷ [] = rw (w.1, drop_all n entries (omega arith)) in
       rw (
         lt-ltb 0 (length (end_of_data ∷ archived_items (take k (drop n entries)))) (omega arith),
         over_hands_nothing moments (n + k) 0 since (omega arith),

@@ -10,12 +10,12 @@ use Rattle.archive_terms.specs.Archive.{Entry, is_archive}
 use Rattle.archive_terms.specs.Selection.{Selection, picked, is_stop_closed}
 use Rattle.std.specs.List.Sorted.{IsStrictlyIncreasing}
 use Rattle.archive_terms.specs.Continuity.{frame_places}
-use Rattle.archive_terms.specs.Delivery.{is_timely, Item, archived, end_of_data, archived_items}
-use Rattle.archive_terms.specs.Delivery.{all_items, IsBuffer, Terms, Delivery, started, buffer}
-use Rattle.archive_terms.specs.Delivery.{stepped, filled, with_end, with_due_fixed}
+use Rattle.archive_terms.specs.Delivery.{is_timely, Item, end_of_data, archived_items, all_items}
+use Rattle.archive_terms.specs.Delivery.{IsBuffer, Terms, Delivery, started, buffer, stepped}
+use Rattle.archive_terms.specs.Delivery.{filled, with_end, with_due_fixed}
 use Rattle.archive_terms.specs.Rounds.{Answer, answered, fate, Round, Outcome, nothing, picked_at}
-use Rattle.archive_terms.specs.Rounds.{takes_step, at_round, answer_on, answer_at, after_round}
-use Rattle.archive_terms.specs.Rounds.{outcome, ends_run, after_rounds, outcomes, handed_items}
+use Rattle.archive_terms.specs.Rounds.{takes_step, at_round, answer_at, after_round, outcome}
+use Rattle.archive_terms.specs.Rounds.{ends_run, after_rounds, outcomes, handed_items}
 use Rattle.archive_terms.specs.Rounds.{handed_buffers, settled_items, TimelyShape, without_backlog}
 use Rattle.archive_terms.specs.Rounds.{FrontsRise, last_front, to_hand_over}
 use Rattle.archive_terms.proofs.Picks.{picked_behind, picked-append, nothing_behind, stop_known}
@@ -48,15 +48,12 @@ History-same : (t : Terms) (entries entries' : List (ℕ × Entry)) (done : List
     (d d' : Delivery)
     → reached entries d.settled d.ended ≡ reached entries' d'.settled d'.ended → d.owed ≡ d'.owed
     → History t entries done d → History t entries' done d'
-History-same t entries entries' done d d' same owes h = record {
-  settled = h.settled ∙ same;
-  all_handed = λ mode. h.all_handed mode ∙ same;
-  limits = h.limits;
-  rightly = h.rightly;
-  owed = h.owed ∙ owes;
-  told = h.told;
-  told_once = h.told_once;
-}
+History-same t entries entries' done d d' same owes h = assumption (
+  h.settled ∙ same,
+  λ (mode : is_timely t.mode ≡ false). h.all_handed mode ∙ same,
+  h.owed ∙ owes,
+  h,
+)
 
 -- the same state with a longer archive
 pub State-longer : (t : Terms) (a b : List Entry) (d : Delivery) → is_archive (a ++ b) ≡ true
@@ -78,13 +75,10 @@ Run-grow t a b done d archive run =
     let within : d.settled ≤ length (picked a s) =
     omega (arith, held_within t (picked a s) (is_stop_closed s a) d run.state) in
     let same : take d.settled (picked a s) ≡ take d.settled (picked (a ++ b) s) =
-    sym (ap (take d.settled) all_is
-    ∙ take-append-le d.settled (picked a s) (picked_behind a b s) within) in
+    rw (all_is, take-append-le d.settled (picked a s) (picked_behind a b s) within) in
     record {
       state = State-longer t a b d archive run.state;
-      history = History-same t (picked a s) (picked (a ++ b) s) done d d
-          (ap (λ xs. archived_items xs ++ cond d.ended (end_of_data ∷ []) []) same) refl
-          run.history;
+      history = History-same t (picked a s) (picked (a ++ b) s) done d d (rw same) refl run.history;
       rising = rw all_is (Rising-grow a b s (picked a s) done d.settled within run.rising);
     }
 
@@ -142,12 +136,6 @@ Run-offered t a done d (Some answer) some fix run = record {
       d run.state run.rising;
 }
 
--- only a fixed buffer is offered
-offered_fixed : (fixed : Bool) (on : Option Answer) (x : Answer) → cond fixed on None ≡ Some x
-    → fixed ≡ true
-offered_fixed true on x is = refl
-offered_fixed false on x is = cc
-
 -- a longer front is a longer archive
 pub front_grows : (a : List Entry) (f g : ℕ) → f ≤ g → take f a ++ drop f (take g a) ≡ take g a
 front_grows a f g rise =
@@ -177,7 +165,7 @@ Run-round t entries f r done d some archive rise run =
     Run-further t entries f r.front done d archive rise run in
     let next : Delivery = at_round t entries r d in
     Run-offered t (take r.front entries) done next (answer_at r next) some
-    (λ x is. offered_fixed next.fixed (answer_on r.link) x is)
+    (λ x is. grind (arith, is))
     (on_step (takes_step r.link) grown)
   where
     on_step : (b : Bool) → Run t (take r.front entries) done d
@@ -250,12 +238,8 @@ first_items n entries behind =
     let front : List Item = archived_items (take n entries) in
     let rest : List Item = archived_items (drop n entries) in
     let split : archived_items entries ++ behind ≡ front ++ (rest ++ behind) =
-    ap (λ xs. archived_items xs ++ behind) (sym (take-append-drop n entries))
-    ∙ ap (λ xs. xs ++ behind) (map-append (λ x. archived x.0 x.1) (take n entries) (drop n entries))
-    ∙ append_assoc front rest behind in
-    ap (λ xs. take (length xs) (archived_items entries ++ behind)) (append-nil front)
-    ∙ ap (take (length front)) split ∙ take_at front (rest ++ behind) (length front) refl
-    ∙ sym (append-nil front)
+    rw (← append_assoc, ← map-append, take-append-drop) in
+    rw (append-nil front, split, take_at front (rest ++ behind) (length front) refl)
 
 -- what was reached is a prefix of all that is to be handed over
 reached-prefix : (t : Terms) (entries : List (ℕ × Entry)) (closed : Bool) (d : Delivery)
@@ -272,11 +256,9 @@ reached-prefix t entries closed d (ending n k fixed since all none fix shut) =
     first_items n entries (cond closed (end_of_data ∷ []) [])
 reached-prefix t entries closed d (over n k fixed since all none fix shut) =
     let whole : reached entries n true ≡ all_items entries closed =
-    ap (λ xs. archived_items xs ++ end_of_data ∷ []) (take_all n entries (omega arith))
-    ∙ ap (λ b. archived_items entries ++ cond b (end_of_data ∷ []) []) (sym shut) in
-    ap (λ xs. take (length xs) (all_items entries closed)) whole
-    ∙ take_all (length (all_items entries closed)) (all_items entries closed) (omega arith)
-    ∙ sym whole
+    rw (take_all n entries (omega arith), shut) in
+    let items : List Item = all_items entries closed in
+    rw (whole, take_all (length items) items (omega arith))
 
 -- the same for a longer archive, of a run over rounds
 Run-prefix : (t : Terms) (a : List Entry) (done : List Outcome) (d : Delivery) (items : List Item)
@@ -284,8 +266,7 @@ Run-prefix : (t : Terms) (a : List Entry) (done : List Outcome) (d : Delivery) (
     → items ≡ reached (picked a t.selection) d.settled d.ended
     → take (length items) (to_hand_over t a) ≡ items
 Run-prefix t a done d items run is =
-    ap (λ xs. take (length xs) (to_hand_over t a)) is
-    ∙ reached-prefix t (picked a t.selection) (is_stop_closed t.selection a) d run.state ∙ sym is
+    rw is (reached-prefix t (picked a t.selection) (is_stop_closed t.selection a) d run.state)
 
 Run-later : (t : Terms) (entries later : List Entry) (rounds : List Round) → 0 < t.size
     → is_archive entries ≡ true → FrontsRise 0 rounds
