@@ -1,8 +1,8 @@
 -- Each step keeps the rule of the table.
-use Rattle.std.proofs.Common.{◌≡◌, ◌≢◌, ◌⊎◌, ◌==◌, ℕ, zero, suc, ◌+◌, ◌-◌, ◌%◌, ◌^◌, ◌<◌, ◌≤◌, Bool}
-use Rattle.std.proofs.Common.{true, false, List, [], ◌∷◌, ◌++◌, set, get_or, length, length-append}
-use Rattle.std.proofs.Common.{slice_get, Option, Some, None, IsSome, MatchBool, if◌then◌else◌, inl}
-use Rattle.std.proofs.Common.{inr, ⊎_elim, refl, sym, ap, ◌∙◌, subst, arith, eq-eqb, ne_eqb}
+use Rattle.std.proofs.Common.{◌≡◌, ◌≢◌, ◌⊎◌, ◌==◌, ℕ, zero, suc, ◌+◌, ◌-◌, ◌%◌, ◌^◌, ◌<◌, ◌≤◌, List}
+use Rattle.std.proofs.Common.{[], ◌∷◌, ◌++◌, set, get_or, length, length-append, slice_get, Option}
+use Rattle.std.proofs.Common.{Some, None, IsSome, inl, inr, ⊎_elim, refl, sym, ap, ◌∙◌, subst}
+use Rattle.std.proofs.Common.{arith, eq-eqb, ne_eqb}
 use Rattle.std.specs.List.{sum_by}
 use Rattle.std.proofs.lemmas.List.Sums.{sum_by-cons, sum_by-append}
 use mathlib.Core.List.{IsPrefix}
@@ -12,8 +12,8 @@ use mathlib.Core.Option as maybe
 use native.Mathlib.Decide.{ℕ_discrete}
 use lib.ListN.{get_elem?}
 use prog.Atomic.{either}
-use Rattle.atomic_table.specs.Table.{State, Me, opening, step, keeps, takes, gives, rest}
-use Rattle.atomic_table.specs.Table.{Allows, Splits, Joins}
+use Rattle.atomic_table.specs.Table.{State, Me, opening, step, keeps, takes, gives, rest, Allows}
+use Rattle.atomic_table.specs.Table.{Splits, Joins}
 use Rattle.atomic_table.proofs.Lists.{at_set, at_snoc, at_longer, set_else}
 use Rattle.turn_lock.specs.declared.view.View.{View}
 use Rattle.turn_lock.specs.Own.{counts, mark, times, total, AllStand, MakeUp}
@@ -25,54 +25,16 @@ use Rattle.turn_lock.proofs.Prefixes.{prefix_self, prefix_trans}
 use Rattle.turn_lock.proofs.Owned.{one_more, all_on, stand_last, times_last, times_few}
 use Rattle.turn_lock.proofs.Sums.{sum_set, one_of, two_of, sum_none, sum_only, here_set}
 
-is_ticket-small : (n : ℕ) (t : Option ℕ) → is_ticket n t ≤ 1
-is_ticket-small n None = omega arith
-is_ticket-small n (Some t) = elim (t == n) as (λ (b : Bool). (if b then 1 else 0) ≤ 1)
-    [ true ↦ omega arith | false ↦ omega arith ]
-
-is_ticket-same : (n : ℕ) (t : Option ℕ) → t ≡ Some n → is_ticket n t ≡ 1
-is_ticket-same n t e = ap (is_ticket n) e ∙ ap (λ (b : Bool). if b then 1 else 0) (eq-eqb n n refl)
-
-is_ticket-other : (n t : ℕ) → t ≢ n → is_ticket n (Some t) ≡ 0
-is_ticket-other n t other = ap (λ (b : Bool). if b then 1 else 0) (ne_eqb t n other)
-
-counts-some : {A : Type 0} (a : A) (o : Option A) → o ≡ Some a → counts o ≡ 1
-counts-some a o e = ap counts e
-
-not_both : {A : Type 0} (o : Option A) (a : A) → o ≡ None → ¬ (o ≡ Some a)
-not_both o a e d = let k : None ≡ Some a = sym e ∙ d in absurd (cc k)
-
-none_not_some : {A : Type 0} (o : Option A) → o ≡ None → ¬ IsSome o
-none_not_some {A = A} o e k = let h : IsSome {T = A} None =
-    subst (λ (x : Option A). IsSome x) e k in absurd (cc h)
-
-some_same : {A : Type 0} (o : Option A) (a b : A) → o ≡ Some a → o ≡ Some b → a ≡ b
-some_same o a b e d = cc
-
 pub some_is : {A : Type 0} (o : Option A) → IsSome o → (a : A) × (o ≡ Some a)
 some_is (Some a) k = (a, refl)
-some_is {A = A} None k = absurd (none_not_some {A = A} None refl k)
-
-match_true : (b : Bool) (P Q : Type 0) → b ≡ true → P → MatchBool b P Q
-match_true b P Q e p = subst (λ (z : Bool). MatchBool z P Q) (sym e) p
-
-match_false : (b : Bool) (P Q : Type 0) → b ≡ false → Q → MatchBool b P Q
-match_false b P Q e q = subst (λ (z : Bool). MatchBool z P Q) (sym e) q
-
-pub on_hit : (found n : ℕ) (P Q : Type 0) → found ≡ n → MatchBool (found == n) P Q → P
-on_hit found n P Q e m = subst (λ (z : Bool). MatchBool z P Q) (eq-eqb found n e) m
-
-pub on_miss : (found n : ℕ) (P Q : Type 0) → found ≢ n → MatchBool (found == n) P Q → Q
-on_miss found n P Q other m = subst (λ (z : Bool). MatchBool z P Q) (ne_eqb found n other) m
+some_is None k = absurd (cc k)
 
 -- a seat that took the value holds it first
 pub held_first : {T E O : Type 0} (origin : T → O) (stands : T → List E
     → Type 0) (v : View E O) (m t : Me (Option T) (View E O)) → Takes origin stands v m t
     → (y : Option T) × (t.1 ≡ (0, y) ∷ rest t.1) × IsSome y
 held_first {T = T} {E = E} {O = O} origin stands v m t takes_it =
-    let slots : t.1 ≡ (0, Some takes_it.0) ∷ m.1 =
-    ap (λ (z : Me (Option T) (View E O)). z.1) takes_it.2 in
-    (Some takes_it.0, slots ∙ (λ i. (0, Some takes_it.0) ∷ rest (sym slots i)), refl)
+    (Some takes_it.0, cc (takes_it.2), refl)
 
 module _ {T E O : Type 0} (origin : T → O) (stands : T → List E
     → Type 0) (first : O) (turns : ℕ) where
@@ -90,20 +52,17 @@ module _ {T E O : Type 0} (origin : T → O) (stands : T → List E
 
   of_same : (v w : V) → w.turns ≡ v.turns → v ≢ spent_view → (o : Option O) → IsOf first turns v o
       → IsOf first turns w o
-  of_same v w t some_view (Some o) k = (k.0, t ∙ k.1)
-  of_same v w t some_view None k = absurd (some_view k)
+  of_same v w t some_view o k = grind arith
 
   is_view : (v : V) (o : O) → v.origin ≡ Some o → v ≢ spent_view
-  is_view v o is e =
-      let d : Some o ≡ None = sym is ∙ ap (λ (u : V). u.origin) e in absurd (cc d)
+  is_view v o is e = absurd (cc)
 
   -- what holds of the new view and of the others holds of each
   each_set : (P : V → Type 0) (views : List V) (id : ℕ) (w : V) → P w
       → ((j : ℕ) (u : V) → j ≢ id → get_elem? views j ≡ some u → P u)
       → (j : ℕ) (u : V) → get_elem? (set views id w) j ≡ some u → P u
-  each_set P views id w here others j u e = ⊎_elim (λ (t : (j ≡ id) × (w ≡ u)). subst P t.1 here)
-      (λ (t : (j ≢ id) × (get_elem? views j ≡ some u)). others j u t.0 t.1)
-      (at_set views id j w u e)
+  each_set P views id w here others j u e = elim (at_set views id j w u e)
+      [ inl t ↦ subst P t.1 here | inr t ↦ others j u t.0 t.1 ]
 
   abbrev Homes : Type 0
   Homes = List (maybe.Option (Option T))
@@ -135,14 +94,7 @@ module _ {T E O : Type 0} (origin : T → O) (stands : T → List E
         log = log;
         words = refl;
         waiting = omega (arith, sums (λ u. counts u.ticket), r.waiting);
-        once = λ n. grind (
-          arith,
-          tickets n,
-          r.once n,
-          r.undrawn n,
-          counted.1 n,
-          is_ticket-small n w.ticket,
-        );
+        once = λ n. grind (arith, tickets n, r.once n, r.undrawn n, counted.1 n);
         undrawn = λ n l. grind (arith, tickets n, r.undrawn n, counted.1 n);
         entered = omega (arith, sums (λ u. u.entered), r.entered);
         heard = each_set (λ x. x.found ≤ ticket) s.views id w counted.6
@@ -160,72 +112,48 @@ module _ {T E O : Type 0} (origin : T → O) (stands : T → List E
       × (total (own_lists w) + pending w ≤ w.entered) → IsPrefix w.seen log
       → IsPrefix w.beginning w.seen → AllStand log (own_lists w)
       → Fits first turns serving log homes w
-  fits_free serving log homes w no_value of counted prefix begins own = record {
-    of = of;
-    counted = counted.0;
-    holding = λ h k. absurd (not_both w.kept h no_value k);
-    early = omega arith;
-    prefix = prefix;
-    begins = begins;
-    own = own;
-    some_own = counted.2;
-  }
+  fits_free serving log homes w no_value of counted prefix begins own = grind arith
 
   abbrev HomeOrOut : List E → Homes → List V → Type 0
   HomeOrOut log homes views = IsHome origin stands first log homes ⊎ IsOut homes views
 
   same_view : (views : List V) (i j : ℕ) (v u : V) → j ≡ i → get_elem? views i ≡ some v
       → get_elem? views j ≡ some u → u ≡ v
-  same_view views i j v u e at there = some-injective u v (sym there ∙ ap (get_elem? views) e ∙ at)
+  same_view views i j v u e at there = cc
 
   -- the value is where it was
   out_stays : (homes : Homes) (views : List V) (id : ℕ) (v w : V) → get_elem? views id ≡ some v
       → w.kept ≡ v.kept → IsOut homes views → IsOut homes (set views id w)
   out_stays homes views id v w at still out = let j = out.0 in let u = out.1 in
       dite (ℕ_discrete j id)
-      (λ (e : j ≡ id). (
-        id,
-        w,
-        out.2,
-        out.3,
-        here_set views id v w at,
-        still
-            ∙ (ap (λ (x : V). x.kept) (sym (same_view views id j v u e at out.4)) ∙ out.5),
-      ))
+      (λ (e : j ≡ id). let same : u ≡ v = same_view views id j v u e at out.4 in
+      (id, w, out.2, out.3, here_set views id v w at, cc (still, out.5)))
       (λ (other : j ≢ id). (j, u, out.2, out.3, set_else views id j w other ∙ out.4, out.5))
 
   slot_stays : (log : List E) (homes : Homes) (views : List V) (id : ℕ) (v w : V)
       → get_elem? views id ≡ some v → w.kept ≡ v.kept → HomeOrOut log homes views
       → HomeOrOut log homes (set views id w)
-  slot_stays log homes views id v w at still (inl home) = inl home
-  slot_stays log homes views id v w at still (inr out) =
-      inr (out_stays homes views id v w at still out)
+  slot_stays log homes views id v w at still = ⊎_elim inl
+      (λ out. inr (out_stays homes views id v w at still out))
 
   -- the history goes on while a seat has the value
   slot_goes_on : (log more : List E) (homes : Homes) (views : List V) (id : ℕ) (v w : V)
       → get_elem? views id ≡ some v → w.kept ≡ v.kept → homes ≡ none ∷ []
       → HomeOrOut log homes views → HomeOrOut more homes (set views id w)
   slot_goes_on log more homes views id v w at still empty (inl home) =
-      absurd (some-ne-none (Some home.0) (ap (λ (hs : Homes). get_or hs 0 none) (sym home.1
-      ∙ empty)))
+      absurd (cc (home.1))
   slot_goes_on log more homes views id v w at still empty (inr out) =
       inr (out_stays homes views id v w at still out)
 
   longer_views : (log : List E) (homes : Homes) (views : List V) (w : V) → HomeOrOut log homes views
       → HomeOrOut log homes (views ++ w ∷ [])
   longer_views log homes views w (inl home) = inl home
-  longer_views log homes views w (inr out) = inr (
-    out.0,
-    out.1,
-    out.2,
-    out.3,
-    at_longer views (w ∷ []) out.0 out.1 out.4,
-    out.5,
-  )
+  longer_views log homes views w (inr out) =
+      inr (out.0, out.1, out.2, out.3, at_longer views (w ∷ []) out.0 out.1 out.4, out.5)
 
   one_view : (P : V → Type 0) (v : V) → P v → (j : ℕ) (u : V) → get_elem? (v ∷ []) j ≡ some u → P u
-  one_view P v p zero u e = subst P (some-injective v u e) p
-  one_view P v p (suc j) u e = absurd (some-ne-none u (sym e))
+  one_view P v p zero u e = subst P (cc e) p
+  one_view P v p (suc j) u e = absurd (cc e)
 
   -- a new table, whose value stands for no events
   pub starts : (slots : List (Option T)) (x : T) → slots ≡ Some x ∷ [] → origin x ≡ first
@@ -254,14 +182,8 @@ module _ {T E O : Type 0} (origin : T → O) (stands : T → List E
   -- another seat with this ticket is no other seat
   one_seat : (s : S) (r : Rule s) (i j : ℕ) (v u : V) (n : ℕ) → get_elem? s.views i ≡ some v
       → get_elem? s.views j ≡ some u → v.ticket ≡ Some n → u.ticket ≡ Some n → j ≡ i
-  one_seat s r i j v u n at there e d = dite (ℕ_discrete j i) (λ (same : j ≡ i). same)
-      (λ (other : j ≢ i). absurd (omega (
-        arith,
-        two_of (λ (x : V). is_ticket n x.ticket) s.views j i u v other there at,
-        is_ticket-same n v.ticket e,
-        is_ticket-same n u.ticket d,
-        r.once n,
-      )))
+  one_seat s r i j v u n at there e d =
+      grind (arith, two_of (λ (x : V). is_ticket n x.ticket) s.views j i u v, r.once n)
 
   -- the seat read a word, and has seen so much of the history
   reads : (s : S) (r : Rule s) (id : ℕ) (v : V) (found : ℕ) (seen : List E)
@@ -302,22 +224,29 @@ module _ {T E O : Type 0} (origin : T → O) (stands : T → List E
       let v : V = me.0 in
       let w : V = entering v r.ticket in
       let fit : Fits first turns r.serving r.log s.homes v = r.each_view id v at in
-      let none_drawn : counts v.ticket ≡ 0 = ap counts no_ticket in
-      let none_held : counts v.kept ≡ 0 = ap counts no_value in
       let some_view : v ≢ spent_view = λ e. absurd (omega (arith, ap (λ (u : V). u.left) e)) in
       let up : (r.ticket + 1) % 2 ^ 64 ≡ r.ticket + 1 = omega (arith, r.bounded) in (
         entering v (get_or s.words 0 0),
         keeps,
         tt,
         rw (r.words, up) (moved s r id v w (r.ticket + 1) r.serving r.log s.homes at
-            (grind (arith, r.heard id v at, is_ticket-other)) (λ k. refl)
+            (grind (arith, r.heard id v at)) (λ k. refl)
             (fits_free r.serving r.log s.homes w no_value
-            (of_same v w refl some_view v.origin fit.of) (omega (arith, fit.early, fit.some_own))
+            (of_same v w refl some_view v.origin fit.of) (grind (arith, fit.early, fit.some_own))
             fit.prefix fit.begins fit.own)
             (λ j u _ e. r.each_view j u e)
             (slot_stays r.log s.homes s.views id v w at refl r.slot)),
         refl,
       )
+
+  -- the turn has the value, and with it so many turns, entered and left, and this ticket
+  abbrev turning : V → List E → ℕ → ℕ → ℕ → Option ℕ → V
+  turning v h left entered found ticket = record (holding v h) {
+    left = left;
+    entered = entered;
+    found = found;
+    ticket = ticket;
+  }
 
   -- the seat takes the value that is at home, as its ticket is served
   taken : (s : S) (r : Rule s) (id : ℕ) (v : V) (word left entered found : ℕ) (ticket : Option ℕ)
@@ -329,33 +258,13 @@ module _ {T E O : Type 0} (origin : T → O) (stands : T → List E
       × (found ≤ word) → Rule record {
         words = word ∷ r.serving ∷ length r.log ∷ [];
         homes = none ∷ [];
-        views = set s.views id (record (holding v r.log) {
-          left = left;
-          entered = entered;
-          found = found;
-          ticket = ticket;
-        });
+        views = set s.views id (turning v r.log left entered found ticket);
       }
   taken s r id v word left entered found ticket at some_view no_value served counted =
-      let w : V = record (holding v r.log) {
-        left = left;
-        entered = entered;
-        found = found;
-        ticket = ticket;
-      } in
+      let w : V = turning v r.log left entered found ticket in
       let fit : Fits first turns r.serving r.log s.homes v = r.each_view id v at in
-      let none_added : counts v.added ≡ 0 = omega (arith, fit.early, ap counts no_value) in
       moved s r id v w word r.serving r.log (none ∷ []) at (grind arith) (λ k. refl)
-      (record {
-        of = of_same v w refl some_view v.origin fit.of;
-        counted = omega (arith, fit.counted);
-        holding = λ h k. (served, refl, some_same w.kept r.log h refl k);
-        early = omega arith;
-        prefix = fit.prefix;
-        begins = fit.begins;
-        own = fit.own;
-        some_own = omega (arith, fit.some_own);
-      })
+      (grind (arith, of_same v w refl some_view v.origin fit.of, fit))
       (λ j u _ e.
       let f : Fits first turns r.serving r.log s.homes u = r.each_view j u e in
       let empty : Homes = none ∷ [] in
@@ -373,12 +282,7 @@ module _ {T E O : Type 0} (origin : T → O) (stands : T → List E
       let same : u ≡ v = same_view s.views id j v u
       (one_seat s r id j v u r.serving at out.4 served
       ((r.each_view j u out.4).holding out.2 out.5).0) at out.4 in
-      absurd (not_both v.kept out.2 no_value (ap (λ (x : V). x.kept) (sym same) ∙ out.5))
-
-  has_origin : (v : V) (x : O) (o : Option O) → v ≢ spent_view → IsOf first turns v o → x ≡ first
-      → o ≡ Some x
-  has_origin v x (Some o) some_view k e = ap Some (k.0 ∙ sym e)
-  has_origin v x None some_view k e = absurd (some_view k)
+      absurd (cc (out.5))
 
   pub looks : (slots id : ℕ) (me : M) (n : ℕ) → me.0.ticket ≡ Some n → me.0.kept ≡ None
       → Allows Rule slots id me 1 (λ k. k) (Looks origin stands (step slots 1 0 0 none) me)
@@ -387,21 +291,18 @@ module _ {T E O : Type 0} (origin : T → O) (stands : T → List E
       let here : found ≡ r.serving = ap (λ (ws : List ℕ). get_or ws 1 0) r.words in
       let v : V = me.0 in
       let fit : Fits first turns r.serving r.log s.homes v = r.each_view id v at in
-      let some_view : v ≢ spent_view = λ e. let d : Some n ≡ None = sym ticket
-      ∙ ap (λ (u : V). u.ticket) e in absurd (cc d) in
+      let some_view : v ≢ spent_view = λ e. absurd (cc) in
       dite (ℕ_discrete found n)
       (λ (hit : found ≡ n).
       let served : v.ticket ≡ Some r.serving = ticket ∙ ap Some (sym hit ∙ here) in
       let home = at_home s r id v at served no_value r.slot in
-      let mine : v.origin ≡ Some (origin home.0) =
-      has_origin v (origin home.0) v.origin some_view fit.of home.2 in (
+      let mine : v.origin ≡ Some (origin home.0) = grind (arith, fit.of, home.2) in (
         holding v r.log,
         takes 0 (Some home.0),
         ap (λ (hs : Homes). get_elem? hs 0) home.1,
         rw (r.words, home.1) (taken s r id v r.ticket v.left v.entered v.found v.ticket at some_view
             no_value served (omega (arith, r.heard id v at))),
-        λ k e. match_true (found == k) _ _ (eq-eqb found k (hit ∙ some_same v.ticket n k ticket e))
-            (home.0, r.log, refl, mine, home.3, fit.prefix),
+        λ k e. rw (eq-eqb found k (cc)) (home.0, r.log, refl, mine, home.3, fit.prefix),
       ))
       (λ (miss : found ≢ n). (
         v,
@@ -409,8 +310,7 @@ module _ {T E O : Type 0} (origin : T → O) (stands : T → List E
         tt,
         rw r.words (reads s r id v v.found v.seen at some_view (r.heard id v at) fit.prefix
             fit.begins),
-        λ k e. match_false (found == k) _ _ (ne_eqb found k
-            (λ same. miss (same ∙ sym (some_same v.ticket n k ticket e)))) refl,
+        λ k e. rw (ne_eqb found k (λ same. miss (cc))) refl,
       ))
 
   -- the slot is one place
@@ -427,7 +327,6 @@ module _ {T E O : Type 0} (origin : T → O) (stands : T → List E
       let w : V = resting v in
       let fit : Fits first turns r.serving r.log s.homes v = r.each_view id v at in
       let hold = fit.holding h value in
-      let one : counts v.ticket ≡ 1 = counts-some r.serving v.ticket hold.0 in
       let mine : origin x ≡ first = (rw o at fit.of).0 in
       let place = one_place r.log s.homes s.views r.slot in
       let up : (r.serving + 1) % 2 ^ 64 ≡ r.serving + 1 = omega (arith, r.bounded, r.waiting) in (
@@ -435,9 +334,9 @@ module _ {T E O : Type 0} (origin : T → O) (stands : T → List E
         gives,
         tt,
         rw (r.words, carries, place.1, up) (moved s r id v w r.ticket (r.serving + 1) r.log
-            (some (Some x) ∷ []) at (omega (arith, r.heard id v at)) (λ k. refl)
+            (some (Some x) ∷ []) at (grind (arith, r.heard id v at, hold.0)) (λ k. refl)
             (fits_free _ r.log _ w refl (of_same v w refl (is_view v (origin x) o) v.origin fit.of)
-            (omega (arith, fit.some_own)) fit.prefix fit.begins fit.own)
+            (grind (arith, fit.some_own)) fit.prefix fit.begins fit.own)
             (others_fit s r id v (r.serving + 1) r.log (some (Some x) ∷ []) at hold.0
             (prefix_self r.log))
             (inl (x, refl, mine, subst (stands x) (sym hold.2) st))),
@@ -454,10 +353,7 @@ module _ {T E O : Type 0} (origin : T → O) (stands : T → List E
       let hold = fit.holding h value in
       let log_is : r.log ≡ h = hold.2 ∙ ap (with_added h) nothing in
       let log : List E = r.log ++ e ∷ [] in
-      let one : counts v.ticket ≡ 1 = counts-some r.serving v.ticket hold.0 in
-      let none_added : counts v.added ≡ 0 = ap counts nothing in
-      let some_kept : counts v.kept ≡ 1 = counts-some h v.kept value in
-      let some_view : v ≢ spent_view = λ d. not_both v.kept h (ap (λ (u : V). u.kept) d) value in
+      let some_view : v ≢ spent_view = λ d. absurd (cc) in
       let here : get_or s.words 2 0 ≡ length r.log = ap (λ (ws : List ℕ). get_or ws 2 0) r.words in
       let own_one_more : total (own_lists w) ≡ total (own_lists v) + 1 =
       omega (arith, length-append v.own (mark r.log e ∷ [])) in
@@ -467,31 +363,24 @@ module _ {T E O : Type 0} (origin : T → O) (stands : T → List E
       ) in
       let longer : length log ≡ length r.log + 1 = length-append r.log (e ∷ []) in
       let up : (length r.log + 1) % 2 ^ 64 ≡ length log =
-      omega (arith, r.bounded, r.few, one_of pending s.views id v at) in (
+      grind (arith, r.bounded, r.few, one_of pending s.views id v at, hold.0) in (
         w,
         keeps,
         tt,
         rw (r.words, up) (moved s r id v w r.ticket r.serving log s.homes at
-            (omega (arith, r.heard id v at))
+            (grind (arith, r.heard id v at, hold.0))
             (λ k. omega (arith, one_more r.log e k, times_last k v.own (mark r.log e)))
-            (record {
-              of = of_same v w refl some_view v.origin fit.of;
-              counted = fit.counted;
-              holding = λ k d. (
-                hold.0,
-                hold.1,
-                ap (λ (l : List E). l ++ e ∷ []) (log_is ∙ some_same v.kept h k value d),
-              );
-              early = omega arith;
-              prefix = prefix_self log;
-              begins = prefix_trans v.beginning v.seen log fit.begins
-                  (prefix_trans v.seen r.log log fit.prefix (e ∷ [], refl));
-              own = own;
-              some_own = omega (arith, fit.some_own);
-            })
+            (grind (
+              arith,
+              of_same v w refl some_view v.origin fit.of,
+              prefix_self log,
+              prefix_trans v.beginning v.seen log fit.begins
+                  (prefix_trans v.seen r.log log fit.prefix (e ∷ [], refl)),
+              fit,
+            ))
             (others_fit s r id v r.serving log s.homes at hold.0 (e ∷ [], refl))
             (slot_goes_on r.log log s.homes s.views id v w at refl hold.1 r.slot)),
-        λ k d. let same : r.log ≡ k = log_is ∙ some_same v.kept h k value d in (
+        λ k d. let same : r.log ≡ k = cc in (
           ap (λ (l : List E). (adding v l (Some e), me.1)) same,
           sym (here ∙ ap length same),
           subst (λ (l : List E). AllStand (with_added l (Some e))
@@ -511,8 +400,7 @@ module _ {T E O : Type 0} (origin : T → O) (stands : T → List E
   sees slots id me o is s r long at fits =
       let v : V = me.0 in
       let fit : Fits first turns r.serving r.log s.homes v = r.each_view id v at in
-      let here : get_or s.words 2 0 ≡ length r.log =
-      ap (λ (ws : List ℕ). get_or ws 2 0) r.words in (
+      let here : get_or s.words 2 0 ≡ length r.log = rw r.words in (
         seeing v r.log,
         keeps,
         tt,
@@ -525,11 +413,6 @@ module _ {T E O : Type 0} (origin : T → O) (stands : T → List E
   few_turns : (s : S) (r : Rule s) (id : ℕ) (v : V) → get_elem? s.views id ≡ some v
       → v.left + r.ticket ≤ turns + 1
   few_turns s r id v at = omega (arith, one_of (λ (u : V). u.left) s.views id v at, r.bounded)
-
-  all_turns : (v : V) (n : ℕ) → v ≢ spent_view → (o : Option O) → IsOf first turns v o
-      → n ≤ turns + 1 → n ≤ v.turns + 1
-  all_turns v n some_view (Some o) k l = omega (arith, k.1)
-  all_turns v n some_view None k l = absurd (some_view k)
 
   pub learns : (slots id : ℕ) (me : M) (o : O) → me.0.origin ≡ Some o
       → Allows Rule slots id me 0 (λ k. k) (Learns (step slots 0 0 0 none) me)
@@ -544,13 +427,13 @@ module _ {T E O : Type 0} (origin : T → O) (stands : T → List E
             fit.begins),
         (
           refl,
-          all_turns v (v.left + v.entered) some_view v.origin fit.of
-              (omega (
-                arith,
-                few_turns s r id v at,
-                one_of (λ (u : V). u.entered) s.views id v at,
-                r.entered,
-              )),
+          grind (
+            arith,
+            fit.of,
+            few_turns s r id v at,
+            one_of (λ (u : V). u.entered) s.views id v at,
+            r.entered,
+          ),
           fit.begins,
         ),
       )
@@ -604,8 +487,7 @@ module _ {T E O : Type 0} (origin : T → O) (stands : T → List E
   pub stubs : (id : ℕ) (v : V) (o : O) → v.origin ≡ Some o → Splits Rule id v v (given v 0)
   stubs id v o is =
       let e : v.left - 0 ≡ v.left = omega arith in
-      subst (λ (u : V). Splits Rule id v u (given v 0)) (λ i. record v { left = e i })
-      (splits id v 0 o (omega arith) is)
+      rw e at (splits id v 0 o (omega arith) is)
 
   -- the sum over the views where one seat takes in another
   join_sum : (f : V → ℕ) (views : List V) (id other : ℕ) (v w both_views : V)
@@ -635,21 +517,12 @@ module _ {T E O : Type 0} (origin : T → O) (stands : T → List E
   joins id other v w u o is v_ticket w_ticket v_value w_value u_origin u_turns u_ticket u_value
       u_added u_left u_entered u_found u_seen u_begins u_own u_times u_total s r at apart there =
       let fit : Fits first turns r.serving r.log s.homes v = r.each_view id v at in
-      let no_v : counts v.ticket ≡ 0 = ap counts v_ticket in
-      let no_w : counts w.ticket ≡ 0 = ap counts w_ticket in
-      let no_u : counts u.ticket ≡ 0 = ap counts u_ticket in
-      let no_kept : counts v.kept ≡ 0 = ap counts v_value in
-      let same_added : counts u.added ≡ counts v.added = ap counts u_added in
-      let other_there = ⊎_elim (λ (t : (other ≡ id) × (u ≡ w)). absurd (apart t.0))
-      (λ (t : (other ≢ id) × (get_elem? s.views other ≡ some w)). t.1)
-      (at_set s.views id other u w there) in
+      let other_there : get_elem? s.views other ≡ some w =
+      grind (arith, at_set s.views id other u w there) in
       let other_fit : Fits first turns r.serving r.log s.homes w =
       r.each_view other w other_there in
       let sums = λ (f : V → ℕ). join_sum f s.views id other v w u at there in
       let tickets = λ (k : ℕ). sums (λ x. is_ticket k x.ticket) in
-      let none_v = λ (k : ℕ). ap (is_ticket k) v_ticket in
-      let none_w = λ (k : ℕ). ap (is_ticket k) w_ticket in
-      let none_u = λ (k : ℕ). ap (is_ticket k) u_ticket in
       let each = λ (P : V → Type 0) (spent : P spent_view) (mine : P u) (others : (j : ℕ) (x : V)
       → get_elem? s.views j ≡ some x → P x).
       each_set P (set s.views id u) other spent_view spent
@@ -659,22 +532,21 @@ module _ {T E O : Type 0} (origin : T → O) (stands : T → List E
         serving = r.serving;
         log = r.log;
         words = r.words;
-        waiting = omega (arith, sums (λ x. counts x.ticket), r.waiting);
-        once = λ k. omega (arith, tickets k, r.once k, none_v k, none_w k, none_u k);
-        undrawn = λ k l. omega (arith, tickets k, r.undrawn k l, none_v k, none_w k, none_u k);
+        waiting = grind (arith, sums (λ x. counts x.ticket), r.waiting);
+        once = λ k. grind (arith, tickets k, r.once k);
+        undrawn = λ k l. grind (arith, tickets k, r.undrawn k l);
         entered = omega (arith, sums (λ x. x.entered), r.entered);
         heard = each (λ x. x.found ≤ r.ticket) (omega arith) (omega (arith, r.heard id v at))
             r.heard;
         once_each = λ k. omega (arith, sums (λ x. times k (own_lists x)), r.once_each k, u_times k);
-        few = omega (arith, sums pending, r.few);
+        few = grind (arith, sums pending, r.few);
         bounded = omega (arith, sums (λ x. x.left), r.bounded);
         each_view = each (Fits first turns r.serving r.log s.homes)
             (fits_free _ r.log _ spent_view refl refl (omega arith) (r.log, refl) ([], refl)
             (tt, tt))
             (fits_free r.serving r.log s.homes u u_value
-            (of_same v u u_turns (is_view v o is) u.origin
-            (subst (IsOf first turns v) (sym u_origin) fit.of))
-            (omega (arith, fit.early, fit.some_own, other_fit.some_own))
+            (of_same v u u_turns (is_view v o is) u.origin (rw u_origin fit.of))
+            (grind (arith, fit.early, fit.some_own, other_fit.some_own))
             (u_seen r.log fit.prefix other_fit.prefix)
             (u_begins r.log fit.prefix other_fit.prefix fit.begins)
             (u_own r.log fit.own other_fit.own))
@@ -687,15 +559,13 @@ module _ {T E O : Type 0} (origin : T → O) (stands : T → List E
   none_drawn : (s : S) (r : Rule s) (id : ℕ) (v : V) → get_elem? s.views id ≡ some v
       → v.ticket ≡ None → v.entered ≡ r.ticket → (j : ℕ) (u : V) → get_elem? s.views j ≡ some u
       → counts u.ticket ≡ 0
-  none_drawn s r id v at no_ticket all j u there = dite (ℕ_discrete j id)
-      (λ (e : j ≡ id). ap (λ (x : V). counts x.ticket) (same_view s.views id j v u e at there)
-      ∙ ap counts no_ticket)
-      (λ (other : j ≢ id). omega (
-        arith,
-        two_of (λ (x : V). x.entered) s.views j id u v other there at,
-        r.entered,
-        (r.each_view j u there).counted,
-      ))
+  none_drawn s r id v at no_ticket all j u there = grind (
+    arith,
+    same_view s.views id j v u,
+    two_of (λ (x : V). x.entered) s.views j id u v,
+    r.entered,
+    (r.each_view j u there).counted,
+  )
 
   -- then the value is at home
   home_at_end : (s : S) (r : Rule s) → ((j : ℕ) (u : V) → get_elem? s.views j ≡ some u
@@ -703,11 +573,8 @@ module _ {T E O : Type 0} (origin : T → O) (stands : T → List E
       → IsHome origin stands first r.log s.homes
   home_at_end s r none_of (inl home) = home
   home_at_end s r none_of (inr out) =
-      absurd (omega (
-        arith,
-        none_of out.0 out.1 out.4,
-        counts-some r.serving out.1.ticket ((r.each_view out.0 out.1 out.4).holding out.2 out.5).0,
-      ))
+      let held = (r.each_view out.0 out.1 out.4).holding out.2 out.5 in
+      absurd (cc (none_of out.0 out.1 out.4, held.0))
 
   -- and its own lists make up the history
   all_mine : (s : S) (r : Rule s) (id : ℕ) (v : V) → get_elem? s.views id ≡ some v
@@ -734,7 +601,6 @@ module _ {T E O : Type 0} (origin : T → O) (stands : T → List E
       let v : V = me.0 in
       let fit : Fits first turns r.serving r.log s.homes v = r.each_view id v at in
       let some_view : v ≢ spent_view = is_view v o is in
-      let no_drawn : counts v.ticket ≡ 0 = ap counts no_ticket in
       dite (ℕ_discrete found old)
       (λ (hit : found ≡ old).
       let none_of = none_drawn s r id v at no_ticket (all ∙ sym hit ∙ here) in
@@ -744,39 +610,32 @@ module _ {T E O : Type 0} (origin : T → O) (stands : T → List E
         sum_none (λ (x : V). counts x.ticket) s.views none_of,
       ) in
       let home = home_at_end s r none_of r.slot in
-      let mine : v.origin ≡ Some (origin home.0) =
-      has_origin v (origin home.0) v.origin some_view fit.of home.2 in
+      let mine : v.origin ≡ Some (origin home.0) = grind (arith, fit.of, home.2) in
       let next : either (r.ticket == old) new r.ticket ≡ r.ticket + 1 =
-      ap (λ (b : Bool). either b new r.ticket) (eq-eqb r.ticket old (sym here ∙ hit))
-      ∙ (up ∙ ap (λ (k : ℕ). k + 1) (sym hit ∙ here)) in (
+      rw (eq-eqb r.ticket old (sym here ∙ hit)) (omega arith) in (
         holding (entering (finding v found) found) r.log,
         takes 0 (Some home.0),
         ap (λ (hs : Homes). get_elem? hs 0) home.1,
         rw (r.words, home.1, next) (taken s r id v (r.ticket + 1) (v.left - 1) (v.entered + 1)
             r.ticket (Some r.ticket) at some_view no_value (ap Some (sym still))
-            (grind (arith, is_ticket-other))),
-        match_true (found == old) _ _ (eq-eqb found old hit) (
+            (grind arith)),
+        rw (eq-eqb found old hit) (
           (home.0, r.log, refl, mine, home.3, fit.prefix),
           all_mine s r id v at (all ∙ sym hit ∙ here),
         ),
       ))
       (λ (miss : found ≢ old).
       let next : either (r.ticket == old) new r.ticket ≡ r.ticket =
-      ap (λ (b : Bool). either b new r.ticket) (ne_eqb r.ticket old (λ e. miss (here ∙ e))) in
-      let few : v.entered ≤ found = omega (
-        arith,
-        one_of (λ (u : V). u.entered) s.views id v at,
-        r.entered,
-      ) in (
+      rw (ne_eqb r.ticket old (λ e. miss (here ∙ e))) in
+      let few = one_of (λ (u : V). u.entered) s.views id v at in (
         finding v found,
         keeps,
         tt,
         rw (r.words, next) (reads s r id v r.ticket v.seen at some_view (omega arith) fit.prefix
             fit.begins),
-        match_false (found == old) _ _ (ne_eqb found old miss) (
+        rw (ne_eqb found old miss) (
           refl,
           omega arith,
-          all_turns v (v.left + found) some_view v.origin fit.of
-              (omega (arith, few_turns s r id v at)),
+          grind (arith, fit.of, few_turns s r id v at),
         ),
       ))

@@ -17,7 +17,8 @@ fetch_add-served-requires g c =
     ap (λ m. m.0.origin) now ∙ c.requires.value.0 in
     let before = subst (λ k. g.T.StandsFor.stands x
     (with_added (list_of k) c.args.seat.now.me.0.added)) h.1 c.requires.value.1 in
-    let stands = subst (λ m. g.T.StandsFor.stands x (with_added h.0 m.0.added)) (sym now) before in (
+    let stands = subst (λ m. g.T.StandsFor.stands x (with_added h.0 m.0.added))
+    (sym now) before in (
       search rules,
       search rules,
       ends _ _ _ _ _ _ _ x h.0 c.requires.table.2 carries value origin

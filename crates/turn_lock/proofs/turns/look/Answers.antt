@@ -1,5 +1,5 @@
-use Rattle.std.proofs.Common.{rules}
-use Rattle.turn_lock.proofs.Keeping.{looks, on_hit, on_miss}
+use Rattle.std.proofs.Common.{rules, eq-eqb, ne_eqb}
+use Rattle.turn_lock.proofs.Keeping.{looks}
 use Rattle.turn_lock.proofs.turns.look.Goals as goal
 
 pub load-requires : goal.load-requires
@@ -10,9 +10,9 @@ load-requires g c = (
 )
 
 pub returns-clause-takes : goal.returns-clause-takes
-returns-clause-takes g c e = on_hit c.load.result c.args.ticket _ _ e
+returns-clause-takes g c e = rw (eq-eqb c.load.result c.args.ticket e) at
     (c.load.ensures.2 c.args.ticket c.requires.waits.0)
 
 pub returns-clause-stays : goal.returns-clause-stays
-returns-clause-stays g c other = on_miss c.load.result c.args.ticket _ _ other
+returns-clause-stays g c other = rw (ne_eqb c.load.result c.args.ticket other) at
     (c.load.ensures.2 c.args.ticket c.requires.waits.0)

@@ -1,5 +1,5 @@
-use Rattle.std.proofs.Common.{rules, refl, arith}
-use Rattle.turn_lock.proofs.Keeping.{closes, some_is, on_hit, on_miss}
+use Rattle.std.proofs.Common.{rules, refl, arith, eq-eqb, ne_eqb}
+use Rattle.turn_lock.proofs.Keeping.{closes, some_is}
 use Rattle.turn_lock.proofs.turns.take_last.Goals as goal
 
 pub compare_exchange-requires : goal.compare_exchange-requires
@@ -12,11 +12,11 @@ compare_exchange-requires g c =
     )
 
 pub returns-clause-takes : goal.returns-clause-takes
-returns-clause-takes g c e = on_hit c.compare_exchange.result c.args.entered _ _ e
+returns-clause-takes g c e = rw (eq-eqb c.compare_exchange.result c.args.entered e) at
     c.compare_exchange.ensures.2
 
 pub returns-clause-stays : goal.returns-clause-stays
 returns-clause-stays g c other =
-    let h = on_miss c.compare_exchange.result c.args.entered _ _ other c.compare_exchange.ensures.2
-    in
+    let h = rw (ne_eqb c.compare_exchange.result c.args.entered other) at
+    c.compare_exchange.ensures.2 in
     (h.0, omega (arith, h.1, c.requires.turns.1), h.2)
