@@ -2,7 +2,9 @@
 ghost use Rattle.std.specs.Prelude.{◌≤◌, length};
 
 use octet_core::Octets;
-use record_form::{Entry, entry_length, read_entry, read_ert_at, write_entry};
+use record_form::{
+    Entry, entry_length, read_entry, read_entry_at, read_entry_ref_at, read_ert_at, write_entry,
+};
 use std::alloc::Global;
 use std::test::Fail;
 
@@ -63,4 +65,38 @@ pub fn time_text(alloc: Global, place: usize, octets: &[u8]) -> Result<String, F
         return Err(Fail::from("no such place"));
     }
     Ok(format!(in alloc; "{:?}", read_ert_at(octets, place))?)
+}
+
+// Whether the entry at a place is lent as it is read there, also once more by its copy, or refused
+// alike.
+fn is_lent_as_read(alloc: Global, place: usize, octets: &[u8]) -> Result<bool, Fail>
+    requires { place ≤ length octets.now }
+{
+    let lent = read_entry_ref_at(octets, place);
+    match (lent, read_entry_at(alloc, octets, place)) {
+        (Ok((lent, end)), Ok((entry, same_end))) => {
+            let copy = lent.to_entry(alloc)?;
+            let again = copy.lend().to_entry(alloc)?;
+            Ok(copy == entry && again == entry && end == same_end)
+        }
+        (Err(fault), Err(same_fault)) => Ok(fault == same_fault),
+        _ => Ok(false),
+    }
+}
+
+/// The entry that is lent at this place and where it ends, or why there is none. Where one is read
+/// there otherwise, it is said.
+pub fn lent_text(alloc: Global, place: usize, octets: &[u8]) -> Result<String, Fail> {
+    if place > octets.len() {
+        return Err(Fail::from("no such place"));
+    }
+    let otherwise = if is_lent_as_read(alloc, place, octets)? {
+        ""
+    } else {
+        "read otherwise"
+    };
+    Ok(match read_entry_ref_at(octets, place) {
+        Ok((entry, end)) => format!(in alloc; "{entry:?} up to {end} {otherwise}")?,
+        Err(fault) => format!(in alloc; "{fault} {otherwise}")?,
+    })
 }

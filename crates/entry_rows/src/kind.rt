@@ -1,5 +1,5 @@
 // What is told of the text of a row, as a text.
-use crate::entry_text::{entry_text, time_text};
+use crate::entry_text::{entry_text, lent_text, time_text};
 use crate::rows::octets_of;
 use crate::selection_text::selection_text;
 use frame_select::channel_of;
@@ -11,6 +11,8 @@ use std::test::Fail;
 pub enum Kind {
     /// The octets of an entry.
     Entry,
+    /// A place, and octets: the entry that is lent there.
+    Lent,
     /// A place, and octets: the time of a frame there.
     FrameTime,
     /// The octets of a frame: its channel.
@@ -23,6 +25,10 @@ pub enum Kind {
 pub fn told(alloc: Global, kind: Kind, text: &str) -> Result<String, Fail> {
     match kind {
         Kind::Entry => entry_text(alloc, &octets_of(alloc, text)?),
+        Kind::Lent => {
+            let (place, octets) = text.split_once(' ').unwrap_or((text, ""));
+            lent_text(alloc, place.trim().parse()?, &octets_of(alloc, octets)?)
+        }
         Kind::FrameTime => {
             let (place, octets) = text.split_once(' ').unwrap_or((text, ""));
             time_text(alloc, place.trim().parse()?, &octets_of(alloc, octets)?)

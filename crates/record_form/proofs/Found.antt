@@ -4,11 +4,11 @@ use Rattle.std.proofs.lemmas.List.{length-append, length-drop}
 use Rattle.archive_terms.specs.Archive.{Entry}
 use Rattle.record_form.specs.declared.fault.EntryFault.{EntryFault}
 use Rattle.record_form.specs.Spelling.{entry_octets}
-use Rattle.record_form.specs.Reading.{AreOctets, Gives, ReadWhereSpelled, StandsFrom, entry_from}
+use Rattle.record_form.specs.Reading.{AreOctets, GivesAll, ReadWhereSpelled, StandsFrom, entry_from}
 
 module _ {X : Type 0} (seen : X → Entry × ℕ) (place : ℕ) (octets : List ℕ) where
   pub found : (result : Result X EntryFault) → ReadWhereSpelled → AreOctets octets
-      → Gives seen result (entry_from place octets)
+      → GivesAll seen result (entry_from place octets)
       → IfOk result (λ x. StandsFrom place octets (seen x).0 (seen x).1)
   found (Ok x) law all gives = (law place octets (seen x).0 (seen x).1 all).0 gives
   found (Err fault) law all gives = tt

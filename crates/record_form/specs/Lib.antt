@@ -1,4 +1,5 @@
 pub mod Entry
+pub mod Lent
 pub mod Spelling
 pub mod Left
 pub mod Reading

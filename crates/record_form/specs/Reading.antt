@@ -161,16 +161,15 @@ abbrev pub Reads : {X Y : Type 0} → (X → Y) → Left → Result X EntryFault
 Reads seen left (Ok x) reading = reading ≡ Ok (seen x, left)
 Reads seen left (Err fault) reading = reading ≡ Err fault
 
--- The same for one that takes memory.
-abbrev pub ReadsInto : {X Y : Type 0} → (X → Y) → Left → Result X EntryFault
-    → Result (Y × Left) EntryFault → Type 0
-ReadsInto seen left (Ok x) reading = reading ≡ Ok (seen x, left)
-ReadsInto seen left (Err fault) reading = (fault ≡ Memory) ⊎ (reading ≡ Err fault)
-
 -- What a call returned, seen by seen, is what reading gives, unless memory ran out.
 abbrev pub Gives : {X Y : Type 0} → (X → Y) → Result X EntryFault → Result Y EntryFault → Type 0
 Gives seen (Ok x) reading = reading ≡ Ok (seen x)
 Gives seen (Err fault) reading = (fault ≡ Memory) ⊎ (reading ≡ Err fault)
+
+-- The same for one that takes no memory.
+abbrev pub GivesAll : {X Y : Type 0} → (X → Y) → Result X EntryFault → Result Y EntryFault → Type 0
+GivesAll seen (Ok x) reading = reading ≡ Ok (seen x)
+GivesAll seen (Err fault) reading = reading ≡ Err fault
 
 -- each is an octet
 abbrev pub AreOctets : List ℕ → Type 0

@@ -2,7 +2,7 @@
 ghost use Rattle.std.specs.Prelude.{◌≡◌};
 ghost use Rattle.record_form.specs.declared.fault.EntryFault.TheVariants.{Memory};
 
-use octet_core::Memory;
+use crate::Memory;
 use std::error::Error;
 use std::fmt;
 

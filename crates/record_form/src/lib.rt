@@ -5,13 +5,15 @@
 // of these. Each entry that an archive may hold has one spelling, and is read exactly where that
 // stands. `laws` says so, and that what is written is read back whatever follows it.
 //
-// Reading goes over an entry's octets once and copies an antenna's and a frame's octets once, into
-// the vector that keeps them. Writing copies each octet once. `entry_length` costs the same for
+// Reading takes the fields that stand before a frame's octets and lends those (`EntryRef`); an
+// `Entry` keeps its octets, so where one is read they are copied once, into the vector that keeps
+// them. Writing copies each octet once. `entry_length` costs the same for
 // each entry.
 #![tactic(auto)]
 
 mod entries;
 mod entry;
+mod entry_ref;
 mod fault;
 mod fields;
 mod kind;
@@ -22,7 +24,8 @@ mod writing;
 
 pub use entries::Entries;
 pub use entry::Entry;
+pub use entry_ref::EntryRef;
 pub use fault::EntryFault;
 pub use memory::Memory;
-pub use reading::{read_entry, read_entry_at, read_ert_at};
+pub use reading::{read_entry, read_entry_at, read_entry_ref_at, read_ert_at};
 pub use writing::{LONGEST_ENTRY, entry_length, write_entry};

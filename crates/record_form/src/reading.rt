@@ -1,16 +1,16 @@
 // Entries from their octets.
 ghost use Rattle.std.specs.Prelude.{◌≡◌, ◌≤◌, IfOk, length};
 ghost use Rattle.record_form.specs.Entry.{entry_of};
-ghost use Rattle.record_form.specs.Reading.{Reads, ReadsInto, Gives, StandsFrom, fields_at};
+ghost use Rattle.record_form.specs.Lent.{lent_entry};
+ghost use Rattle.record_form.specs.Reading.{Reads, Gives, GivesAll, StandsFrom, fields_at};
 ghost use Rattle.record_form.specs.Reading.{frame_at, loss_at, production_at, seal_at, entry_at};
 ghost use Rattle.record_form.specs.Reading.{entry_from, ert_at, ert_from};
 
 use crate::fields::Fields;
 use crate::kind::{FRAME, LOSS_OF_SYNC, PRODUCTION, SEAL};
-use crate::{Entry, EntryFault, laws};
+use crate::{Entry, EntryFault, EntryRef, laws};
 use archive_terms::GREATEST_LOST;
 use cds_time::Cds;
-use octet_core::Octets;
 use std::alloc::Global;
 
 /// Reads the entry at the front of these octets, and answers how many of them it has. It goes over
@@ -35,9 +35,22 @@ pub fn read_entry_at(
     ensures stands { IfOk result (λ read. StandsFrom place octets.now (entry_of read.0) read.1) }
     ensures within { IfOk result (λ read. read.1 ≤ length octets.now) }
 {
+    let (entry, end) = read_entry_ref_at(octets, place)?;
+    Ok((entry.to_entry(alloc)?, end))
+}
+
+/// The same of an entry whose octets are lent by these. It takes no memory, and doesn't go over a
+/// frame's octets.
+pub fn read_entry_ref_at(octets: &[u8], place: usize) -> Result<(EntryRef<'_>, usize), EntryFault>
+    requires { place ≤ length octets.now }
+    ensures exact { GivesAll (λ read. (lent_entry read.0, read.1)) result
+        (entry_from place octets.now) }
+    ensures stands { IfOk result (λ read. StandsFrom place octets.now (lent_entry read.0) read.1) }
+    ensures within { IfOk result (λ read. read.1 ≤ length octets.now) }
+{
     laws::slice(octets);
     laws::read_where_spelled();
-    entry_from(alloc, octets, place)
+    entry_from(octets, place)
 }
 
 /// The earth receive time of the frame that begins at a place of these octets, whatever its later
@@ -61,29 +74,30 @@ fn ert(fields: &mut Fields) -> Result<Cds, EntryFault>
 }
 
 #[tactic(auto, unfolding(crate::specs::Reading::entry_from))]
-fn entry_from(alloc: Global, octets: &[u8], place: usize) -> Result<(Entry, usize), EntryFault>
+fn entry_from(octets: &[u8], place: usize) -> Result<(EntryRef<'_>, usize), EntryFault>
     requires { place ≤ length octets.now }
-    ensures { Gives (λ read. (entry_of read.0, read.1)) result (entry_from place octets.now) }
+    ensures { GivesAll (λ read. (lent_entry read.0, read.1)) result
+        (entry_from place octets.now) }
 {
     let mut fields = Fields::new(octets, place);
-    let entry = entry(alloc, &mut fields)?;
+    let entry = entry(&mut fields)?;
     Ok((entry, fields.place()))
 }
 
 #[tactic(auto, unfolding(crate::specs::Reading::entry_at))]
-fn entry(alloc: Global, fields: &mut Fields) -> Result<Entry, EntryFault>
-    ensures { ReadsInto entry_of fields.new result (entry_at fields.old) }
+fn entry<'a>(fields: &mut Fields<'a>) -> Result<EntryRef<'a>, EntryFault>
+    ensures { Reads lent_entry fields.new result (entry_at fields.old) }
 {
     let kind = fields.octets(1)?[0];
-    entry_of_kind(alloc, kind, fields)
+    entry_of_kind(kind, fields)
 }
 
 #[tactic(auto, unfolding(crate::specs::Reading::fields_at))]
-fn entry_of_kind(alloc: Global, kind: u8, fields: &mut Fields) -> Result<Entry, EntryFault>
-    ensures { ReadsInto entry_of fields.new result (fields_at kind fields.old) }
+fn entry_of_kind<'a>(kind: u8, fields: &mut Fields<'a>) -> Result<EntryRef<'a>, EntryFault>
+    ensures { Reads lent_entry fields.new result (fields_at kind fields.old) }
 {
     match kind {
-        FRAME => frame(alloc, fields),
+        FRAME => frame(fields),
         LOSS_OF_SYNC => loss_of_sync(fields),
         PRODUCTION => production(fields),
         SEAL => seal(fields),
@@ -92,28 +106,23 @@ fn entry_of_kind(alloc: Global, kind: u8, fields: &mut Fields) -> Result<Entry, 
 }
 
 #[tactic(auto, unfolding(crate::specs::Reading::frame_at))]
-fn frame(alloc: Global, fields: &mut Fields) -> Result<Entry, EntryFault>
-    ensures { ReadsInto entry_of fields.new result (frame_at fields.old) }
+fn frame<'a>(fields: &mut Fields<'a>) -> Result<EntryRef<'a>, EntryFault>
+    ensures { Reads lent_entry fields.new result (frame_at fields.old) }
 {
-    let ert = fields.time()?;
-    let quality = fields.octet(0, 2)?;
-    let antenna = fields.antenna()?;
-    let lost = fields.number(0, GREATEST_LOST)?;
-    let octets = fields.content()?;
-    Ok(Entry::Frame {
-        ert,
-        quality,
-        antenna: Octets::copy_of(alloc, antenna)?,
-        lost,
-        octets: Octets::copy_of(alloc, octets)?,
+    Ok(EntryRef::Frame {
+        ert: fields.time()?,
+        quality: fields.octet(0, 2)?,
+        antenna: fields.antenna()?,
+        lost: fields.number(0, GREATEST_LOST)?,
+        octets: fields.content()?,
     })
 }
 
 #[tactic(auto, unfolding(crate::specs::Reading::loss_at))]
-fn loss_of_sync(fields: &mut Fields) -> Result<Entry, EntryFault>
-    ensures { Reads entry_of fields.new result (loss_at fields.old) }
+fn loss_of_sync<'a>(fields: &mut Fields<'a>) -> Result<EntryRef<'a>, EntryFault>
+    ensures { Reads lent_entry fields.new result (loss_at fields.old) }
 {
-    Ok(Entry::LossOfSync {
+    Ok(EntryRef::LossOfSync {
         at: fields.time()?,
         carrier: fields.octet(0, 3)?,
         subcarrier: fields.octet(0, 3)?,
@@ -122,17 +131,17 @@ fn loss_of_sync(fields: &mut Fields) -> Result<Entry, EntryFault>
 }
 
 #[tactic(auto, unfolding(crate::specs::Reading::production_at))]
-fn production(fields: &mut Fields) -> Result<Entry, EntryFault>
-    ensures { Reads entry_of fields.new result (production_at fields.old) }
+fn production<'a>(fields: &mut Fields<'a>) -> Result<EntryRef<'a>, EntryFault>
+    ensures { Reads lent_entry fields.new result (production_at fields.old) }
 {
-    Ok(Entry::Production {
+    Ok(EntryRef::Production {
         status: fields.octet(0, 2)?,
     })
 }
 
 #[tactic(auto, unfolding(crate::specs::Reading::seal_at))]
-fn seal(fields: &mut Fields) -> Result<Entry, EntryFault>
-    ensures { Reads entry_of fields.new result (seal_at fields.old) }
+fn seal<'a>(fields: &mut Fields<'a>) -> Result<EntryRef<'a>, EntryFault>
+    ensures { Reads lent_entry fields.new result (seal_at fields.old) }
 {
-    Ok(Entry::Seal { at: fields.time()? })
+    Ok(EntryRef::Seal { at: fields.time()? })
 }

@@ -65,6 +65,30 @@ const TIMES: &str = "
 13 02 00 4e20000007d00007 030200 01 00 4e20000003e80000 00 01 41 00000000 00000003 0010a1
     = Some(Cds { days: 20000, millis: 1000, rest: Micros(0) })|";
 
+#[test]
+fn an_entry_is_lent_as_it_is_read(rt: HostRuntime) -> Result<(), Fail> {
+    check(&rt, rt.alloc(), Kind::Lent, LENT)
+}
+
+// Each kind, and where it ends, also behind another entry; an entry that is cut, no kind of entry,
+// and a time that names no moment.
+const LENT: &str = "
+0 01 00 4e20000003e80000 00 01 41 00000000 00000003 0010a1
+    = Frame { ert: Cds { days: 20000, millis: 1000, rest: Micros(0) }, quality: 0, antenna: [65],
+    lost: 0, octets: [0, 16, 161] } up to 24|
+13 02 00 4e20000007d00007 030200 01 00 4e20000003e80000 00 01 41 00000000 00000003 0010a1
+    = Frame { ert: Cds { days: 20000, millis: 1000, rest: Micros(0) }, quality: 0, antenna: [65],
+    lost: 0, octets: [0, 16, 161] } up to 37|
+0 02 00 4e20000007d00007 030200
+    = LossOfSync { at: Cds { days: 20000, millis: 2000, rest: Micros(7) }, carrier: 3,
+    subcarrier: 2, symbol: 0 } up to 13|
+0 03 02 = Production { status: 2 } up to 2|
+2 03 02 04 01 ffff05265bff3b9ac9ff
+    = Seal { at: Cds { days: 65535, millis: 86399999, rest: Picos(999999999) } } up to 14|
+2 03 02 01 00 4e20000003e80000 00 01 41 00000000 00000004 0010a1 = the entry is cut|
+2 03 02 05 00 4e20000003e80000 = no kind of entry: 0x05|
+2 03 02 04 01 ffff05265bff3b9acaff = a field out of its range at octet 3|";
+
 const FRAME: &str = "01 00 4e20000003e80000 00 01 41 00000000 00000003 0010a1";
 
 #[test]

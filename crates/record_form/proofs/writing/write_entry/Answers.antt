@@ -1,7 +1,8 @@
 use Rattle.record_form.proofs.Fronts.{kept, where_bad}
 use Rattle.record_form.proofs.writing.write_entry.Goals as goal
 
-pub returns-in_err-write_antenna-in-Frame-clause-err : goal.returns-in_err-write_antenna-in-Frame-clause-err
+pub returns-in_err-write_antenna-in-Frame-clause-err
+    : goal.returns-in_err-write_antenna-in-Frame-clause-err
 returns-in_err-write_antenna-in-Frame-clause-err c =
     where_bad c.from_residual-in_err-write_antenna-in-Frame.result
     (kept c.args.into.now c.append.new.self c.write_antenna.new.into _
@@ -11,7 +12,8 @@ returns-in_err-write_antenna-in-Frame-clause-err c =
     (kept c.write_time.new.into c.append-in-Frame.new.self c.write_antenna.new.into _
     c.in_ok-append-in-Frame-2.ensures.ok c.in_err-write_antenna-in-Frame.ensures.err)))
 
-pub returns-in_err-write_content-in-Frame-clause-err : goal.returns-in_err-write_content-in-Frame-clause-err
+pub returns-in_err-write_content-in-Frame-clause-err
+    : goal.returns-in_err-write_content-in-Frame-clause-err
 returns-in_err-write_content-in-Frame-clause-err c =
     where_bad c.from_residual-in_err-write_content-in-Frame.result
     (kept c.args.into.now c.append.new.self c.write_content.new.into _
@@ -25,7 +27,8 @@ returns-in_err-write_content-in-Frame-clause-err c =
     (kept c.write_antenna.new.into c.append-in-Frame-2.new.self c.write_content.new.into _
     c.in_ok-append-in-Frame-3.ensures.ok c.in_err-write_content-in-Frame.ensures.err)))))
 
-pub returns-in_err-write_time-in-LossOfSync-clause-err : goal.returns-in_err-write_time-in-LossOfSync-clause-err
+pub returns-in_err-write_time-in-LossOfSync-clause-err
+    : goal.returns-in_err-write_time-in-LossOfSync-clause-err
 returns-in_err-write_time-in-LossOfSync-clause-err c =
     where_bad c.from_residual-in_err-write_time-in-LossOfSync.result
     (kept c.args.into.now c.append-in-LossOfSync.new.self c.write_time-in-LossOfSync.new.into _
