@@ -29,7 +29,7 @@ use Rattle.gate_journal.specs.Reading.{LedTo, IsNoJournal, IsDamagedAt}
 use Rattle.gate_journal.proofs.Growth.{Grows, joined-append}
 use Rattle.gate_journal.proofs.Unique.{same_batch, same_rest, tail_of, Follows, follows_led}
 
-both : (a b : Bool) → (a && b) ≡ true → (a ≡ true) × (b ≡ true)
+pub both : (a b : Bool) → (a && b) ≡ true → (a ≡ true) × (b ≡ true)
 both true b e = (refl, e)
 both false b e = absurd (cc)
 
@@ -42,7 +42,7 @@ archive_front grows a (e ∷ b) archive =
     (both (is_archive a) (may_follow a e) (sym (grows a e) ∙ longer)).0
 
 -- an entry behind others in an archive keeps their order
-in_order : Grows → (a : List Entry) (e : Entry) (b : List Entry) → IsArchive (a ++ e ∷ b)
+pub in_order : Grows → (a : List Entry) (e : Entry) (b : List Entry) → IsArchive (a ++ e ∷ b)
     → keeps_order a e ≡ true
 in_order grows a e b archive =
     let longer : IsArchive (a ++ e ∷ []) = archive_front grows (a ++ e ∷ []) b
@@ -50,7 +50,7 @@ in_order grows a e b archive =
     (both (is_storable e) (keeps_order a e) (both (is_archive a) (may_follow a e) (sym (grows a e)
     ∙ longer)).1).1
 
-next_again : (before : List Entry) (file : List ℕ) (place : ℕ) (entry : Entry) (end : ℕ)
+pub next_again : (before : List Entry) (file : List ℕ) (place : ℕ) (entry : Entry) (end : ℕ)
     → entry_from place file ≡ Ok (entry, end) → keeps_order before entry ≡ true
     → next_entry before file place ≡ Ok (before ++ entry ∷ [], end)
 unfolding next_entry
@@ -192,11 +192,11 @@ module _ (law : ReadWhereSpelled) (grows : Grows) (before batch : List Entry) (f
       ++ (entries_octets batch ++ drop end file)
   behind_size = sym (drop-drop 4 place file) ∙ ap (drop 4) parts_are
 
-  count_is : count_at file place ≡ length batch
+  pub count_is : count_at file place ≡ length batch
   count_is = ap (λ (l : List ℕ). from_be_bytes w16 (take 2 l)) behind_size
       ∙ from_be_bytes-to_be_bytes_2 (length batch) (omega (arith, is_batch.most))
 
-  behind_count : drop (place + 6) file ≡ entries_octets batch ++ drop end file
+  pub behind_count : drop (place + 6) file ≡ entries_octets batch ++ drop end file
   behind_count = ap (λ (n : ℕ). drop n file) (omega arith) ∙ sym (drop-drop 2 (place + 4) file)
       ∙ ap (drop 2) behind_size
 

@@ -1,7 +1,7 @@
 -- Reading a file finds no fault but damage, and says where.
-use Rattle.std.proofs.Common.{◌≡◌, ◌⊎◌, inl, inr, ℕ, zero, suc, ◌+◌, ◌==◌, ◌&&◌, Bool, true, false}
+use Rattle.std.proofs.Common.{◌≡◌, ℕ, zero, suc, ◌+◌, ◌==◌, ◌&&◌, Bool, true, false}
 use Rattle.std.proofs.Common.{List, [], ◌∷◌, ◌++◌, length, slice_index, nat_lt, nat_le, min}
-use Rattle.std.proofs.Common.{if◌then◌else◌, Option, Some, None, Result, Ok, Err, refl, sym, ap}
+use Rattle.std.proofs.Common.{if◌then◌else◌, Option, Some, None, Result, Ok, Err, refl, ap}
 use Rattle.std.proofs.Common.{subst}
 use Rattle.archive_terms.specs.Archive.{Entry, keeps_order}
 use Rattle.record_form.specs.declared.fault.EntryFault.{EntryFault}
@@ -134,9 +134,6 @@ refuses Stale entries file gate led e is = absurd is
 refuses Memory entries file gate led e is = absurd is
 
 pub refused_there : (fault : JournalFault) (entries : List Entry) (file : List ℕ) (gate : ℕ)
-    → LedTo gate entries file → ((fault ≡ Memory) ⊎ (gate_at entries file gate ≡ Err fault))
-    → Refuses fault file
-refused_there fault entries file gate led (inl memory) =
-    subst (λ (f : JournalFault). Refuses f file) (sym memory) tt
-refused_there fault entries file gate led (inr e) =
+    → LedTo gate entries file → gate_at entries file gate ≡ Err fault → Refuses fault file
+refused_there fault entries file gate led e =
     refuses fault entries file gate led e (of_gate entries file gate fault e)

@@ -2,7 +2,7 @@
 use Rattle.std.proofs.Common.{◌≡◌, ◌≢◌, inl, inr, ℕ, zero, suc, ◌+◌, ◌≤◌, ◌<◌, ◌==◌, Bool}
 use Rattle.std.proofs.Common.{true, false, ◌&&◌, List, [], ◌∷◌, ◌++◌, length, take, drop}
 use Rattle.std.proofs.Common.{slice_index, nat_lt, nat_le, min, IsTrue, if◌then◌else◌, Option, Some}
-use Rattle.std.proofs.Common.{None, option_map, IfNone, Result, Ok, Err, refl, sym, ap, subst, ◌∙◌}
+use Rattle.std.proofs.Common.{None, Result, Ok, Err, refl, sym, ap, subst, ◌∙◌}
 use Rattle.std.proofs.Common.{arith, append_assoc}
 use Rattle.std.specs.List.{AllByRecursion, list_all}
 use Rattle.std.specs.Int.{w16, w32, to_be_bytes}
@@ -429,19 +429,3 @@ pub no_gate : (entries : List Entry) (file : List ℕ) (gate : ℕ) → length f
     → gate_at entries file gate ≡ Err (Damaged (length file))
 unfolding gate_at
 no_gate entries file gate past = grind (arith, nat_tests)
-
--- ---- what a call found at a gate
-
-pub found_some : (r : Result (Option (List Entry × ℕ)) JournalFault) (new : List Entry)
-    (found : Option ℕ) (end : ℕ)
-    → r ≡ Ok (option_map (λ e. (new, e)) found) → found ≡ Some end → r ≡ Ok (Some (new, end))
-found_some r new found end e is = e ∙ ap (λ (f : Option ℕ). Ok (option_map (λ e. (new, e)) f)) is
-
-pub found_none : (r : Result (Option (List Entry × ℕ)) JournalFault) (new : List Entry)
-    (found : Option ℕ)
-    → r ≡ Ok (option_map (λ e. (new, e)) found) → found ≡ None → r ≡ Ok None
-found_none r new found e is = e ∙ ap (λ (f : Option ℕ). Ok (option_map (λ e. (new, e)) f)) is
-
-pub where_none : {P : Type 0} (found : Option ℕ) → found ≡ None → IfNone found P → P
-where_none None is fact = fact
-where_none (Some e) is fact = absurd (cc)

@@ -9,7 +9,7 @@ pub mod Adding
 pub mod Storable
 pub mod Journals
 pub mod Creating
-pub mod Passing
+pub mod Passed
 pub mod Following
 pub mod Again
 pub mod Stopping

@@ -279,7 +279,8 @@ module _ (now : StopsNow) (ordered : FailedAsOrdered) (disk after : DiskState) (
       ∙ ap (λ (m : Medium). all_synced (left_by stop.pick m)) same
 
   -- and once it is restarted it holds these entries
-  module _ (synced : SyncedIsAll) (law : ReadBack) (at_rest : IsAtRest (Some (pending_of disk)) gate)
+  module _ (synced : SyncedIsAll) (law : ReadBack)
+      (at_rest : IsAtRest (Some (pending_of disk)) gate)
       (is_batch : IsBatch batch) (entries : List Entry) (keeps : Keeps (Some (pending_of disk))
       entries) (archive : IsArchive (entries ++ batch)) where
     abbrev medium_left : Medium

@@ -1,33 +1,21 @@
 -- A part of a file, in which a batch is read by itself.
-use Rattle.std.proofs.Common.{◌≡◌, ◌≢◌, ◌⊎◌, inl, inr, ℕ, ◌+◌, ◌≤◌, ◌<◌, Bool, true, false, List, []}
-use Rattle.std.proofs.Common.{◌&&◌, ◌∷◌, ◌++◌, length, take, drop, slice_index, Option, Some, None, IfSome}
+use Rattle.std.proofs.Common.{◌≡◌, ◌≢◌, ◌⊎◌, inl, inr, ℕ, ◌+◌, ◌≤◌, ◌<◌, List}
+use Rattle.std.proofs.Common.{[]}
+use Rattle.std.proofs.Common.{◌∷◌, ◌++◌, length, take, drop, slice_index, Option, Some, None}
 use Rattle.std.proofs.Common.{Ok, refl, sym, ap, subst, ◌∙◌, arith, append_assoc}
-use Rattle.std.specs.List.{AllByRecursion, list_all}
+use Rattle.std.specs.List.{AllByRecursion}
 use Rattle.std.specs.Int.{w32, from_be_bytes}
 use Rattle.std.proofs.lemmas.List.{append-nil, take-append-drop, take-append-le, drop-append-le}
 use Rattle.std.proofs.lemmas.List.{drop-drop, drop_all, drop_more, length-append, length-drop}
 use Rattle.std.proofs.lemmas.List.{take_at}
-use Rattle.archive_terms.specs.Archive.{Entry, IsArchive, is_storable, is_ordered}
-use Rattle.archive_terms.specs.Archive.{may_precede}
+use Rattle.archive_terms.specs.Archive.{Entry, IsArchive}
 use Rattle.record_form.specs.Reading.{AreOctets, ReadWhereSpelled}
 use Rattle.gate_journal.specs.File.{batch_octets, entries_octets, IsBatch, gated, joined}
 use Rattle.gate_journal.specs.Reading.{gate_at, size_at}
 use Rattle.gate_journal.specs.Batches.{HoldsBatch}
 use Rattle.gate_journal.proofs.Growth.{Grows, Opened}
-use Rattle.gate_journal.proofs.Again.{archive_front, open_again, shut_again, not_past, size_of_batch}
-
-both : (a b : Bool) → (a && b) ≡ true → (a ≡ true) × (b ≡ true)
-both true b e = (refl, e)
-both false b e = absurd (cc)
-
--- a rest of an archive is one
-archive_rest : (a b : List Entry) → IsArchive (a ++ b) → IsArchive b
-archive_rest [] b archive = archive
-archive_rest (e ∷ a) b archive =
-    let parts = both (list_all is_storable (e ∷ (a ++ b))) (is_ordered (e ∷ (a ++ b))) archive in
-    let storable = both (is_storable e) (list_all is_storable (a ++ b)) parts.0 in
-    let ordered = both (list_all (may_precede e) (a ++ b)) (is_ordered (a ++ b)) parts.1 in
-    archive_rest a b (rw (storable.1, ordered.1) refl)
+use Rattle.gate_journal.proofs.Again.{archive_front, open_again, shut_again, not_past}
+use Rattle.gate_journal.proofs.Again.{size_of_batch}
 
 -- octets that begin with others
 begins : (x more front rest : List ℕ) → x ++ more ≡ front ++ rest → length front ≤ length x
@@ -121,7 +109,8 @@ module _ (file window : List ℕ) (start at : ℕ)
             | inr long ↦
                 let sized : size_at window (at + 1) ≡ length (entries_octets batch) =
                 ap (from_be_bytes w32) (sym (take-append-le 4 (drop (at + 1) window)
-                (drop (start + length window) file) (omega (arith, long, length-drop (at + 1) window)))
+                (drop (start + length window) file)
+                (omega (arith, long, length-drop (at + 1) window)))
                 ∙ ap (take 4) behind) ∙ size_of_batch batch rest is_batch in
                 omega (arith, long, sized, length-drop (at + 1) window)
           ]
@@ -150,15 +139,13 @@ module _ (file window : List ℕ) (start at : ℕ)
     pub read_shown : (entries : List Entry) (more : List (List Entry)) (rest : List ℕ) (shut : ℕ)
         → AllByRecursion IsBatch more → IsArchive (entries ++ joined more) → shut ≢ 165
         → drop (start + at) file ≡ gated more ++ shut ∷ rest
-        → (found : Option (List Entry × ℕ)) × (gate_at [] window at ≡ Ok found)
-        × IfSome found (λ read. IsArchive (entries ++ read.0))
+        → (found : Option (List Entry × ℕ)) × (gate_at entries window at ≡ Ok found)
     read_shown entries [] rest shut each archive closed is =
         let there = gate_there shut rest is in (
           None,
-          shut_again [] (drop (at + 1) window) window at shut closed
+          shut_again entries (drop (at + 1) window) window at shut closed
               (drop_more window at 0 there
               ∙ ap (λ (octet : ℕ). octet ∷ drop (at + 1) window) (gate_same shut rest is)) there,
-          tt,
         )
     read_shown entries (b ∷ bs) rest shut each archive closed is =
         let split : drop (start + at) file ≡ 165 ∷ (batch_octets b ++ (gated bs ++ shut ∷ rest)) =
@@ -167,9 +154,9 @@ module _ (file window : List ℕ) (start at : ℕ)
         let front : IsArchive (entries ++ b) = archive_front grows (entries ++ b) (joined bs)
         (subst IsArchive (sym (append_assoc entries b (joined bs))) archive) in
         let octets = batch_there b (gated bs ++ shut ∷ rest) each.0 split in (
-          Some (b, (at + 1) + length (batch_octets b)),
-          open_again law grows [] b (drop (length (batch_octets b)) (drop (at + 1) window)) window at
-              all each.0 (archive_rest entries b front) octets
+          Some (entries ++ b, (at + 1) + length (batch_octets b)),
+          open_again law grows entries b
+              (drop (length (batch_octets b)) (drop (at + 1) window)) window at
+              all each.0 front octets
               (gate_there 165 (batch_octets b ++ (gated bs ++ shut ∷ rest)) split),
-          front,
         )

@@ -74,8 +74,7 @@ lesser stated fault = fault
 
 -- the entries of a batch that ends at a stated place; where they end elsewhere, the lesser of the
 -- two ends is named
-abbrev pub ending_at : ℕ → Result (List Entry × ℕ) JournalFault
-    → Result (List Entry × ℕ) JournalFault
+abbrev pub ending_at : {S : Type 0} → ℕ → Result (S × ℕ) JournalFault → Result (S × ℕ) JournalFault
 ending_at stated (Ok read) = if read.1 == stated then Ok read else Err (Damaged (min read.1 stated))
 ending_at stated (Err fault) = Err (lesser stated fault)
 

@@ -1,23 +1,21 @@
 // The batches of a file, one after another.
-ghost use Rattle.std.specs.Prelude.{◌≡◌, ◌≢◌, ◌+◌, ◌-◌, ◌<◌, ◌≤◌, ◌^◌, ◌++◌, ◌⊎◌, ℕ, List, [], length};
-ghost use Rattle.std.specs.Prelude.{min, max, IsTrue, IfOk, OnOk, OnErr, IsErrOf, IfSome, IfNone};
-ghost use Rattle.std.specs.List.{list_all};
+ghost use Rattle.std.specs.Prelude.{◌≡◌, ◌≢◌, ◌+◌, ◌-◌, ◌<◌, ◌≤◌, ◌^◌, ◌++◌, ◌⊎◌, ℕ, List, []};
+ghost use Rattle.std.specs.Prelude.{length};
+ghost use Rattle.std.specs.Prelude.{min, max, IsTrue, IsFalse, IfOk, OnOk, OnErr, IsErrOf, IfSome};
 ghost use Rattle.octet_core.specs.Fault.{Rose};
-ghost use Rattle.archive_terms.specs.Archive.{Entry, is_storable};
+ghost use Rattle.archive_terms.specs.Archive.{Entry};
 ghost use Rattle.disk_model.specs.Moments.{Reads};
 ghost use Rattle.gate_journal.specs.File.{StandsAt};
 ghost use Rattle.gate_journal.specs.Kept.{OnlyReads};
 ghost use Rattle.gate_journal.specs.Batches.{Passed, StandsForSome, HoldsBatch};
 ghost use Rattle.gate_journal.specs.declared.batch_fault.BatchFault.TheVariants.{Unfit, DiskFault};
-ghost use Rattle.gate_journal.specs.declared.batch_fault.BatchFault.TheVariants.{Memory};
-ghost use Rattle.gate_journal.specs.declared.fault.JournalFault.TheVariants as JournalFault;
 
-use crate::growing::Growing;
-use crate::loading::{HEADER, OPEN, first_difference, gated_batch};
-use crate::order::{Times, pass};
-use crate::{BatchFault, JournalFault, laws};
+use crate::batch::Batch;
+use crate::loading::{HEADER, first_difference};
+use crate::order::Times;
+use crate::passing::{OPEN, pass_gate};
+use crate::{BatchFault, laws};
 use disk_model::Disk;
-use record_form::Entries;
 use std::alloc::Global;
 use std::marker::Model;
 
@@ -34,11 +32,13 @@ pub struct Batches {
     start: u64,
     room: Vec<u8>,
     at: usize,
+    // Where among them the gate of the batch stands that was read last, as long as they have it.
+    last: Option<usize>,
 }
 
 impl Model for Batches {
-    ghost use Rattle.std.specs.Prelude.{◌+◌, ◌^◌, ◌≤◌, ◌<◌, length};
-    ghost use Rattle.gate_journal.specs.Batches.{BatchesState};
+    ghost use Rattle.std.specs.Prelude.{◌+◌, ◌^◌, ◌≤◌, ◌<◌, length, IfSome};
+    ghost use Rattle.gate_journal.specs.Batches.{BatchesState, batch_in};
 
     ghost Value = { BatchesState };
 
@@ -47,10 +47,12 @@ impl Model for Batches {
       times = batches.times;
       start = batches.start;
       room = batches.room.items;
+      batch = batch_in batches.room.items batches.last;
     } };
 
     ghost invariant = { λ batches. (batches.at ≤ length batches.room.items)
-        × (batches.start + length batches.room.items < 2 ^ 64) };
+        × (batches.start + length batches.room.items < 2 ^ 64)
+        × IfSome batches.last (λ gate. gate + 7 ≤ length batches.room.items) };
 }
 
 impl Batches {
@@ -73,29 +75,24 @@ impl Batches {
             start: 0,
             room,
             at: HEADER.len(),
+            last: None,
         })
     }
 
-    /// The entries of the next batch, or none where the next gate isn't open. `Unfit` says that the
-    /// file isn't of its form there, and so for no list of entries: why, a recovery tells. After an
-    /// error no more is to be read.
+    /// Goes on to the next batch, and answers whether there is one: not so where the next gate
+    /// isn't open. `Unfit` says that the file isn't of its form there, and so for no list of
+    /// entries: why, a recovery tells. After an error no more is to be read.
     ///
-    /// It copies the octets of the batch's frames, and reads the file where the next batch isn't
-    /// yet in memory.
-    pub fn next<D: Disk>(
-        &mut self,
-        alloc: Global,
-        disk: &mut D,
-    ) -> Result<Option<Entries>, BatchFault>
-        ensures batch { IfOk result (λ next. IfSome next (λ batch. (entries : List Entry)
+    /// It goes over what stands before a frame's octets, and reads the file where the next batch
+    /// isn't yet in memory. It copies nothing.
+    pub fn next<D: Disk>(&mut self, disk: &mut D) -> Result<bool, BatchFault>
+        ensures batch { IfOk result (λ more. IsTrue more → (entries : List Entry)
             → Passed (D.pending disk.old) entries self.old
-            → Passed (D.pending disk.new) (entries ++ batch) self.new)) }
-        ensures storable { IfOk result (λ next. IfSome next (λ batch. IsTrue
-            (list_all is_storable batch))) }
-        ensures on { IfOk result (λ next. IfSome next (λ _. self.old.gate < self.new.gate)) }
-        ensures shut { IfOk result (λ next. IfNone next ((entries : List Entry)
+            → Passed (D.pending disk.new) (entries ++ self.new.batch) self.new) }
+        ensures on { IfOk result (λ more. IsTrue more → self.old.gate < self.new.gate) }
+        ensures shut { IfOk result (λ more. IsFalse more → (entries : List Entry)
             → Passed (D.pending disk.old) entries self.old → IfSome (D.pending disk.old)
-            (λ told. StandsAt entries self.old.gate told.content))) }
+            (λ told. StandsAt entries self.old.gate told.content)) }
         ensures unfit { IsErrOf result Unfit → (entries : List Entry)
             → Passed (D.pending disk.old) entries self.old
             → ¬ StandsForSome (D.pending disk.old) }
@@ -111,19 +108,27 @@ impl Batches {
         self.fill(disk)?;
         let room = self.room.as_slice();
         record_form::laws::slice(room);
-        let mut growing = Growing::new(alloc);
-        let end = match gated_batch(alloc, &mut growing, room, self.at) {
-            Ok(Some(end)) => end,
-            Ok(None) => return Ok(None),
-            Err(fault) => return Err(fault_of_reading(fault)),
-        };
-        let batch = growing.into_entries();
-        let Some(times) = pass(Some(self.times), batch.as_slice()) else {
-            return Err(BatchFault::Unfit);
-        };
-        self.times = times;
-        self.at = end;
-        Ok(Some(batch))
+        match pass_gate(self.times, room, self.at) {
+            Ok(Some((times, end))) => {
+                self.times = times;
+                self.last = Some(self.at);
+                self.at = end;
+                Ok(true)
+            }
+            Ok(None) => Ok(false),
+            Err(_) => Err(BatchFault::Unfit),
+        }
+    }
+
+    /// The entries of the batch that was read last, or none where none was.
+    #[tactic(auto, unfolding(crate::specs::Batches::entries_in))]
+    pub fn batch(&self) -> Batch<'_>
+        ensures { result ≡ self.now.batch }
+    {
+        match self.last {
+            Some(gate) => Batch::behind(&self.room, gate),
+            None => Batch::NONE,
+        }
     }
 
     /// Where the next gate stands.
@@ -153,20 +158,11 @@ impl Batches {
         {
             self.start = self.gate();
             self.at = 0;
+            self.last = None;
             read_piece(disk, self.start, PIECE.max(needed + 7), &mut self.room)?;
             needed = octets_of_batch(&self.room, self.at);
         }
         Ok(())
-    }
-}
-
-// A fault of the octets of a batch, or want of memory, to a reader of batches.
-fn fault_of_reading(fault: JournalFault) -> BatchFault
-    ensures { (result ≡ Memory) ⊎ (result ≡ Unfit) × (fault ≢ JournalFault.Memory) }
-{
-    match fault {
-        JournalFault::Memory => BatchFault::Memory,
-        _ => BatchFault::Unfit,
     }
 }
 

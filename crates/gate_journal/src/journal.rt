@@ -17,7 +17,8 @@ ghost use Rattle.gate_journal.specs.Kept.{RefusesDisk, appending, appending_octe
 ghost use Rattle.gate_journal.specs.Kept.{IsUnread};
 ghost use Rattle.gate_journal.specs.declared.fault.JournalFault.TheVariants as JournalFault;
 
-use crate::loading::{HEADER, OPEN, load};
+use crate::loading::{HEADER, load};
+use crate::passing::OPEN;
 use crate::writing::{entries_length, write_batch};
 use crate::{JournalFault, laws};
 use disk_model::{Disk, Memory, MemoryDisk, Orders, write_synced};
@@ -274,7 +275,8 @@ impl Journal<MemoryDisk> {
     pub fn restart(&mut self) -> Result<(), Memory>
         ensures stale { self.new ≡ record self.old { disk = self.new.disk; is_stale = true } }
         ensures ok { OnOk result (MatchOption self.old.disk.stopped
-            (self.new.disk ≡ self.old.disk) (λ pick. self.new.disk ≡ restarted self.old.disk pick)) }
+            (self.new.disk ≡ self.old.disk)
+            (λ pick. self.new.disk ≡ restarted self.old.disk pick)) }
         ensures err { OnErr result (self.new.disk ≡ self.old.disk) }
         ensures image { OnOk result (IsImage (pending_of self.old.disk)
             (content_of self.new.disk)) }

@@ -9,21 +9,25 @@
 // and stands for the one or the other. `laws` says that a file stands for one list at most.
 //
 // An append costs four calls of the disk, and copies each octet of the batch once. A recovery costs
-// one sync and one read of the whole file; it goes over each octet once more and copies a frame's
-// octets once, into the entry that keeps them. Meanwhile the file is held in memory. `Batches` reads
-// a file batch by batch, with a mebibyte of it in memory, or one batch where that has more.
+// one sync and one read of the whole file; it goes over what stands before each frame's octets
+// twice, and copies a frame's octets once, into the entry that keeps them. Meanwhile the file is
+// held in memory. `Batches` reads a file batch by batch, with a mebibyte of it in memory, or one
+// batch where that has more, and lends its entries: it copies nothing, and takes no memory but that
+// room.
 #![tactic(auto)]
 
+mod batch;
 mod batch_fault;
 mod batches;
 mod fault;
-mod growing;
 mod journal;
 pub mod laws;
 mod loading;
 mod order;
+mod passing;
 mod writing;
 
+pub use batch::Batch;
 pub use batch_fault::BatchFault;
 pub use batches::Batches;
 pub use fault::JournalFault;

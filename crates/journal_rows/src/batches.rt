@@ -1,48 +1,76 @@
 // Files that are read batch by batch.
-use crate::journals::{CAPACITY, append, load};
+use crate::journals::{CAPACITY, FILE, append, frames, load};
 use crate::reading::two_batches;
 use cds_time::{Cds, Rest};
 use disk_model::MemoryDisk;
-use gate_journal::{BatchFault, Batches, JournalFault};
+use gate_journal::{Batch, BatchFault, Batches, JournalFault};
 use octet_core::Octets;
 use record_form::{Entries, Entry, Memory};
 use std::alloc::{AllocError, Global};
 use std::test::Fail;
 
-// How many entries each batch of a file has, one after another, and where the gate behind them
-// stands.
-fn counts(alloc: Global, file: &[u8]) -> Result<(Vec<usize>, u64), BatchFault> {
+// What a file gives that is read batch by batch.
+#[derive(Debug, Drop)]
+struct Read {
+    // How many entries each batch has.
+    counts: Vec<usize>,
+    // All of them, one after another.
+    entries: Entries,
+    // Where the gate behind them stands.
+    gate: u64,
+}
+
+// Puts the entries that a batch lends behind others.
+fn keep(alloc: Global, batch: Batch<'_>, entries: &mut Entries) -> Result<(), Memory> {
+    let mut batch = batch;
+    // (a batch has 256 entries at most)
+    for _ in 0..=256 {
+        let Some(entry) = batch.next() else {
+            break;
+        };
+        entries.push(entry.to_entry(alloc)?)?;
+    }
+    Ok(())
+}
+
+// The same, and tells how many these are.
+fn keep_counted(alloc: Global, batch: Batch<'_>, read: &mut Read) -> Result<(), Memory> {
+    let before = read.entries.len();
+    keep(alloc, batch, &mut read.entries)?;
+    let count = read.entries.len().saturating_sub(before);
+    read.counts.push(count)?;
+    Ok(())
+}
+
+fn read_batches(alloc: Global, file: &[u8]) -> Result<Read, BatchFault> {
     let Ok(mut disk) = MemoryDisk::holding(alloc, file) else {
         return Err(BatchFault::Memory);
     };
-    let mut counts = Vec::new(alloc);
+    let mut read = Read {
+        counts: Vec::new(alloc),
+        entries: Entries::new(alloc),
+        gate: 0,
+    };
     let mut batches = Batches::open(alloc, &mut disk)?;
     // (a file has fewer batches than octets)
     for _ in 0..file.len() {
-        let Some(batch) = batches.next(alloc, &mut disk)? else {
+        if !batches.next(&mut disk)? {
             break;
-        };
-        if counts.push(batch.len()).is_err() {
+        }
+        if keep_counted(alloc, batches.batch(), &mut read).is_err() {
             return Err(BatchFault::Memory);
         }
     }
-    Ok((counts, batches.gate()))
-}
-
-// How many entries batches of so many have.
-fn total(counts: &[usize]) -> usize {
-    let mut all = 0_usize;
-    for count in counts {
-        all = all.saturating_add(*count);
-    }
-    all
+    read.gate = batches.gate();
+    Ok(read)
 }
 
 // Whether a file read batch by batch has the entries of its recovery, or is refused as it is.
 fn is_read_alike(alloc: Global, file: &[u8]) -> bool {
-    match (load(alloc, file), counts(alloc, file)) {
-        (Ok((journal, entries)), Ok((counts, gate))) => {
-            gate.checked_add(1) == Some(journal.used()) && entries.len() == total(&counts)
+    match (load(alloc, file), read_batches(alloc, file)) {
+        (Ok((journal, entries)), Ok(read)) => {
+            read.gate.checked_add(1) == Some(journal.used())
+                && read.entries.as_slice() == entries.as_slice()
         }
         (Err(JournalFault::NotJournal { .. } | JournalFault::Damaged { .. }), Err(fault)) => {
             fault == BatchFault::Unfit
@@ -74,11 +102,39 @@ fn first_unlike(alloc: Global, file: &[u8], values: &[u8]) -> Result<Option<usiz
 fn a_file_is_read_alike_whole_and_batch_by_batch(rt: HostRuntime) -> Result<(), Fail> {
     let file = two_batches(rt.alloc())?;
     let values = [0, 1, 2, 3, 4, 0x4e, 0xa4, 0xa5, 0xff];
-    assert_eq!(rt;
-        counts(rt.alloc(), &file),
-        Ok((vec![in rt.alloc(); 1, 4]?, 98))
-    );
+    let read = read_batches(rt.alloc(), &file)?;
+    assert_eq!(rt; read.counts.as_slice(), [1, 4].as_slice());
+    assert_eq!(rt; read.gate, 98);
     assert_eq!(rt; first_unlike(rt.alloc(), &file, &values)?, None);
+    Ok(())
+}
+
+// Whether the entries that a reading lends now are frames of these numbers.
+fn is_lending(alloc: Global, batches: &Batches, numbers: &[u8]) -> Result<bool, Memory> {
+    let mut entries = Entries::new(alloc);
+    keep(alloc, batches.batch(), &mut entries)?;
+    Ok(entries.as_slice() == frames(alloc, numbers)?.as_slice())
+}
+
+// Of two batches: the entries of the one that was read last, however often they are asked for.
+#[test]
+fn a_batch_is_lent_once_it_was_read(rt: HostRuntime) -> Result<(), Fail> {
+    let (mut journal, stored) = load(rt.alloc(), FILE)?;
+    append(
+        &mut journal,
+        &stored,
+        &frames(rt.alloc(), &[2, 3])?,
+        CAPACITY,
+    )?;
+    let mut disk = journal.into_disk();
+    let mut batches = Batches::open(rt.alloc(), &mut disk)?;
+    assert!(rt; is_lending(rt.alloc(), &batches, &[])?);
+    assert!(rt; batches.next(&mut disk)?);
+    assert!(rt; is_lending(rt.alloc(), &batches, &[1])?);
+    assert!(rt; batches.next(&mut disk)?);
+    assert!(rt; is_lending(rt.alloc(), &batches, &[2, 3])?);
+    assert!(rt; is_lending(rt.alloc(), &batches, &[2, 3])?);
+    assert!(rt; !batches.next(&mut disk)?);
     Ok(())
 }
 
@@ -118,8 +174,9 @@ fn batches_of_any_size_are_read(rt: HostRuntime) -> Result<(), Fail> {
     for size in sizes {
         file = with_long_batch(rt.alloc(), &file, size)?;
     }
-    let (counts, gate) = counts(rt.alloc(), &file)?;
-    assert_eq!(rt; counts.as_slice(), sizes.as_slice());
-    assert_eq!(rt; gate.checked_add(1), Some(file.len() as u64));
+    let read = read_batches(rt.alloc(), &file)?;
+    assert_eq!(rt; read.counts.as_slice(), sizes.as_slice());
+    assert_eq!(rt; read.gate.checked_add(1), Some(file.len() as u64));
+    assert!(rt; is_read_alike(rt.alloc(), &file));
     Ok(())
 }

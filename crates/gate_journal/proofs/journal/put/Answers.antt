@@ -6,7 +6,8 @@ use Rattle.disk_model.specs.Throughout.{weaker, and_then}
 use Rattle.gate_journal.proofs.Adding.{first_holds, second_holds, added, rests_again}
 use Rattle.gate_journal.proofs.journal.put.Goals as goal
 
-pub returns-in_err-write_synced-clause-any_moment : goal.returns-in_err-write_synced-clause-any_moment
+pub returns-in_err-write_synced-clause-any_moment
+    : goal.returns-in_err-write_synced-clause-any_moment
 returns-in_err-write_synced-clause-any_moment g c batch ready entries keeps =
     weaker g.D.Disk.moment g.D.Disk.images_since c.args.disk.now c.write_synced.new.disk _ _
     (first_holds c.read_back.ensures (g.D.Disk.pending c.args.disk.now) c.args.gate

@@ -1,6 +1,6 @@
 use Rattle.std.proofs.Common.{[], ◌++◌, refl, ◌∙◌}
 use Rattle.record_form.specs.Entry.{entries_of}
-use Rattle.gate_journal.proofs.Passing.{known, joined}
+use Rattle.gate_journal.proofs.Passed.{known, joined}
 use Rattle.gate_journal.proofs.order.follows.Goals as goal
 
 pub returns : goal.returns

@@ -1,6 +1,6 @@
 use Rattle.std.proofs.Common.{◌++◌, take}
 use Rattle.record_form.specs.Entry.{entries_of}
-use Rattle.gate_journal.proofs.Passing.{passed_one, passed_all}
+use Rattle.gate_journal.proofs.Passed.{passed_one, passed_all}
 use Rattle.gate_journal.proofs.order.pass.Goals as goal
 
 pub loop-entry-preserved : goal.loop-entry-preserved

@@ -1,13 +1,21 @@
 -- Passing over entries one after another.
 use Rattle.std.proofs.Common.{◌≡◌, ℕ, ◌+◌, ◌<◌, ◌≤◌, List, [], ◌∷◌, ◌++◌, length, take, get_or}
-use Rattle.std.proofs.Common.{Option, Some, None, is_some, sym, ap, subst, ◌∙◌, append_assoc}
+use Rattle.std.proofs.Common.{Option, Some, None, is_some, Ok, Err, Bool, true, false, ◌&&◌}
+use Rattle.std.proofs.Common.{refl, sym, ap, subst, ◌∙◌, append_assoc}
 use Rattle.std.proofs.lemmas.List.{take_more, take_all, map_push}
 use Rattle.archive_terms.specs.Archive as terms
-use Rattle.archive_terms.specs.Archive.{is_archive}
+use Rattle.archive_terms.specs.Archive.{is_archive, is_storable, keeps_order}
+use Rattle.record_form.specs.declared.fault.EntryFault.{EntryFault}
+use Rattle.record_form.specs.Reading.{entry_from}
 use Rattle.record_form.specs.declared.entry.Entry.{Entry}
 use Rattle.record_form.specs.Entry.{entry_of, entries_of}
 use Rattle.gate_journal.specs.declared.order.Times.{Times}
+use Rattle.gate_journal.specs.declared.fault.JournalFault.TheVariants.{Damaged}
 use Rattle.gate_journal.specs.Order.{Knows}
+use Rattle.gate_journal.specs.Passing.{Passed}
+use Rattle.gate_journal.specs.Reading.{next_entry, first_fault}
+use Rattle.gate_journal.proofs.Growth.{Grows}
+use Rattle.gate_journal.proofs.Again.{in_order, next_again}
 
 pub one_more : (entries : List Entry) (i : ℕ) (entry : Entry) → i < length entries
     → entry ≡ get_or entries i entry
@@ -44,3 +52,36 @@ pub joined : (a b x y : List terms.Entry) (times : Option Times) → a ≡ x →
 joined a b x y times p q knows =
     subst (λ (l : List terms.Entry). Knows (x ++ l) times) q
     (subst (λ (l : List terms.Entry). Knows (l ++ b) times) p knows)
+
+-- ---- the next entry of a file
+
+last_of : (a b c : Bool) → (a && (b && c)) ≡ false → a ≡ true → b ≡ true → c ≡ false
+last_of true true c e p q = e
+last_of true false c e p q = absurd (cc)
+last_of false b c e p q = absurd (cc)
+
+module _ (grows : Grows) (before : List terms.Entry) (file : List ℕ) (place : ℕ) where
+  pub entry_passed : (entry : terms.Entry) (end : ℕ) (times : Times)
+      → entry_from place file ≡ Ok (entry, end) → Knows (before ++ entry ∷ []) (Some times)
+      → Passed (Ok (times, end)) (next_entry before file place)
+  entry_passed entry end times read knows = (
+    before ++ entry ∷ [],
+    next_again before file place entry end read (in_order grows before entry [] knows.0),
+    knows,
+  )
+
+  pub entry_late : (entry : terms.Entry) (end : ℕ) (times : Times)
+      → entry_from place file ≡ Ok (entry, end) → is_storable entry ≡ true
+      → Knows before (Some times) → Knows (before ++ entry ∷ []) None
+      → next_entry before file place ≡ Err (Damaged (place + 1))
+  unfolding next_entry
+  entry_late entry end times read storable knows late =
+      let out : keeps_order before entry ≡ false =
+      last_of (is_archive before) (is_storable entry) (keeps_order before entry)
+      (sym (grows before entry) ∙ late) knows.0 storable in
+      rw (read, out) refl
+
+  pub entry_faulty : (fault : EntryFault) → entry_from place file ≡ Err fault
+      → next_entry before file place ≡ Err (Damaged (first_fault before file place fault))
+  unfolding next_entry
+  entry_faulty fault read = rw read refl
