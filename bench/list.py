@@ -1,4 +1,6 @@
-"""Makes an archive file, and times a built provider's `list` of it beside `cat` of the list. Called by bench/list."""
+"""Makes an archive file, and times a built provider's `list` of it beside `cat` of the list.
+
+Called by bench/list."""
 import filecmp
 import os
 import subprocess
@@ -11,7 +13,7 @@ CIRCLE = bytes(range(256)) * 6
 
 
 def frames(count):
-    """Time, quality, lost frames and octets of each frame: 1,115 octets that differ from frame to frame."""
+    """Time, quality, lost frames and octets of each frame: 1,115, others in each frame."""
     for i in range(count):
         days, millis = divmod(10 * i, 86_400_000)
         octets = bytes([0x02, 0xA0 + 2 * (i % 8)]) + CIRCLE[(i + 2) % 256 :][:1113]
@@ -25,10 +27,12 @@ def make_archive(path, count):
         batch = []
         for n, (days, millis, quality, lost, octets) in enumerate(frames(count), 1):
             time_of = b"\0" + days.to_bytes(2, "big") + millis.to_bytes(4, "big") + b"\0\0"
-            batch.append(b"\x01" + time_of + bytes([quality, 1, 0x41]) + lost.to_bytes(4, "big") + len(octets).to_bytes(4, "big") + octets)
+            fields = time_of + bytes([quality, 1, 0x41]) + lost.to_bytes(4, "big")
+            batch.append(b"\x01" + fields + len(octets).to_bytes(4, "big") + octets)
             if n % 256 == 0 or n == count:
                 entries = b"".join(batch)
-                file.write(b"\xa5" + len(entries).to_bytes(4, "big") + len(batch).to_bytes(2, "big") + entries)
+                sizes = len(entries).to_bytes(4, "big") + len(batch).to_bytes(2, "big")
+                file.write(b"\xa5" + sizes + entries)
                 batch = []
         file.write(b"\0")
 
@@ -80,7 +84,9 @@ def compare(name, destination, listing, copy, folder):
     times = [(destination(listing, folder), destination(copy, folder)) for _ in range(RUNS)]
     ours, plain = best(t[0] for t in times), best(t[1] for t in times)
     for kind, what in enumerate(("real", "processor")):
-        print(f"{name}, {what} time: list {ours[kind]:.3f} s, cat {plain[kind]:.3f} s, {ours[kind] / plain[kind]:.2f} times its time", flush=True)
+        ratio = ours[kind] / plain[kind]
+        both = f"list {ours[kind]:.3f} s, cat {plain[kind]:.3f} s"
+        print(f"{name}, {what} time: {both}, {ratio:.2f} times its time", flush=True)
 
 
 def main():
@@ -88,7 +94,8 @@ def main():
     within = sys.argv[2] if len(sys.argv) > 2 else "."
     count = int(sys.argv[3]) if len(sys.argv) > 3 else 200_000
     with tempfile.TemporaryDirectory(dir=within) as folder:
-        archive, cut, wanted, listed = (os.path.join(folder, name) for name in ("archive", "cut", "wanted", "listed"))
+        names = ("archive", "cut", "wanted", "listed")
+        archive, cut, wanted, listed = (os.path.join(folder, name) for name in names)
         make_archive(archive, count)
         make_list(wanted, count)
         with open(listed, "wb") as file:
@@ -103,7 +110,8 @@ def main():
         os.rename(archive, cut)
         os.truncate(cut, os.path.getsize(cut) - 1)
         reading = best([to_nothing([program, "list", cut], folder, 5) for _ in range(RUNS)])
-        print(f"a list that reads and checks all and is refused at the end: {reading[0]:.3f} s, processor {reading[1]:.3f} s")
+        taken = f"{reading[0]:.3f} s, processor {reading[1]:.3f} s"
+        print(f"a list that reads and checks all and is refused at the end: {taken}")
     print("load: %.1f %.1f %.1f" % os.getloadavg())
 
 

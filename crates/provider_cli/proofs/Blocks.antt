@@ -1,59 +1,55 @@
 -- Lines that are put together in a block, which is written where it is full.
-use Rattle.std.proofs.Common.{◌≡◌, ℕ, List, [], ◌++◌, Option, Result, Ok, Err, sym, ap, ◌∙◌}
-use Rattle.std.proofs.Common.{append_assoc, append-nil}
+use Rattle.std.proofs.Common.{◌≡◌, ℕ, List, ◌++◌, Option, Result, Ok, Err, OnOk, OnErr, refl}
+use Rattle.std.proofs.Common.{sym, ap, ◌∙◌, append_assoc}
 use Rattle.std.specs.Result.{IsErrAnd}
 use Rattle.station_law.specs.Output.{Wrote}
 use Rattle.station_law.specs.Steps.{Behind, behind_as, step_on, stopped_by, stopped_before}
-use Rattle.station_law.specs.Steps.{ends_with}
+use Rattle.station_law.specs.Steps.{at_start}
 use Rattle.station_law.specs.declared.stop.Stop.{Stop}
 use Rattle.station_law.specs.declared.stop.Stop.TheVariants.{Memory}
 use Rattle.provider_cli.specs.Archives.{Empties}
 
-module _ (start now : Option (List ℕ)) (f g : ℕ) (whole : List ℕ) where
+-- a line was put behind what a block held, and the block was written where it was full
+module _ (now next : Option (List ℕ)) (g h : ℕ) (block line grown left : List ℕ)
+    (put : grown ≡ block ++ line) where
+  pub put_on : (result : Result (Unit {0}) Stop) → Empties now next g h grown left result
+      → OnOk result (Behind now next g h (block ++ line) left)
+  put_on (Ok done) how =
+      record { so_far = how.text; splits = sym put ∙ how.splits; wrote = how.wrote }
+  put_on (Err stop) how = tt
+
+  pub put_halted : (result : Result (Unit {0}) Stop) → Empties now next g h grown left result
+      → OnErr result (Wrote now next g h (block ++ line) result)
+  put_halted (Ok done) how = tt
+  put_halted (Err stop) how =
+      stopped_by {T = Unit {0}} now now next g g h (block ++ line) how.text left stop (Err stop)
+      refl (behind_as now now g g (block ++ line) (block ++ line) (how.text ++ left)
+      (sym put ∙ how.splits) (at_start now g (block ++ line))) how.wrote
+
+-- no memory for it
+pub not_put : {T : Type 0} (output : Option (List ℕ)) (f : ℕ) (text : List ℕ) (stop : Stop)
+    (result : Result T Stop) → IsErrAnd result (λ e. e ≡ stop) → stop ≡ Memory
+    → OnErr result (Wrote output output f f text result)
+not_put output f text stop (Ok value) is refused = tt
+not_put {T} output f text stop (Err e) is refused =
+    rw (is, refused) (stopped_before {T = T} output output f f text text (at_start output f text))
+
+module _ (start now next : Option (List ℕ)) (f g h : ℕ) (whole block line more : List ℕ)
+    (behind : Behind start now f g whole (block ++ (line ++ more))) where
   -- the next line was put behind those of a block
-  pub line_put : (block line rest more grown : List ℕ) → rest ≡ line ++ more
-      → grown ≡ block ++ line → Behind start now f g whole (block ++ rest)
-      → Behind start now f g whole (grown ++ more)
-  line_put block line rest more grown next put behind =
-      behind_as start now f g whole (block ++ rest) (grown ++ more)
-      (ap (λ text. block ++ text) next ∙ sym (append_assoc block line more)
-      ∙ ap (λ text. text ++ more) (sym put))
-      behind
+  pub line_on : (left : List ℕ) → Behind now next g h (block ++ line) left
+      → Behind start next f h whole (left ++ more)
+  line_on left put =
+      step_on start now next f g h whole put.so_far (left ++ more) tt
+      (behind_as start now f g whole (block ++ (line ++ more)) (put.so_far ++ (left ++ more))
+      (sym (append_assoc block line more) ∙ ap (λ text. text ++ more) put.splits
+      ∙ append_assoc put.so_far left more) behind) put.wrote
 
-  -- no memory for it
-  pub not_put : {T : Type 0} (rest : List ℕ) (stop : Stop) (result : Result T Stop)
-      → IsErrAnd result (λ e. e ≡ stop) → stop ≡ Memory → Behind start now f g whole rest
-      → Wrote {T = T} start now f g whole result
-  not_put rest stop (Ok value) is refused behind = absurd is
-  not_put {T} rest stop (Err e) is refused behind =
-      rw (is, refused) (stopped_before {T = T} start now f g whole rest behind)
-
-  module _ (next : Option (List ℕ)) (h : ℕ) (held left more : List ℕ)
-      (behind : Behind start now f g whole (held ++ more)) where
-    split : (text : List ℕ) → held ≡ text ++ left
-        → Behind start now f g whole (text ++ (left ++ more))
-    split text is = behind_as start now f g whole (held ++ more) (text ++ (left ++ more))
-        (ap (λ held. held ++ more) is ∙ append_assoc text left more) behind
-
-    pub emptied : Empties now next g h held left (Ok tt)
-        → Behind start next f h whole (left ++ more)
-    emptied how =
-        step_on start now next f g h whole how.text (left ++ more) tt (split how.text how.splits)
-        how.wrote
-
-    pub not_emptied : {T : Type 0} (stop : Stop) (result : Result T Stop)
-        → IsErrAnd result (λ e. e ≡ stop) → Empties now next g h held left (Err stop)
-        → Wrote {T = T} start next f h whole result
-    not_emptied stop result is how =
-        stopped_by start now next f g h whole how.text (left ++ more) stop result is
-        (split how.text how.splits) how.wrote
-
-    pub all_emptied : (result : Result (Unit {0}) Stop) → more ≡ [] → left ≡ []
-        → Empties now next g h held left result → Wrote start next f h whole result
-    all_emptied result none empty how =
-        ends_with start now next f g h whole how.text result
-        (behind_as start now f g whole (held ++ more) how.text
-        (ap (λ more. held ++ more) none ∙ append-nil held ∙ how.splits
-        ∙ ap (λ left. how.text ++ left) empty ∙ append-nil how.text)
-        behind)
-        how.wrote
+  -- or the writing stopped there
+  pub line_stopped : {T U : Type 0} (stop : Stop) (result : Result U Stop)
+      → IsErrAnd result (λ e. e ≡ stop) → Wrote {T = T} now next g h (block ++ line) (Err stop)
+      → Wrote {T = U} start next f h whole result
+  line_stopped {T} stop result is wrote =
+      stopped_by {T = T} start now next f g h whole (block ++ line) more stop result is
+      (behind_as start now f g whole (block ++ (line ++ more)) ((block ++ line) ++ more)
+      (sym (append_assoc block line more)) behind) wrote

@@ -1,6 +1,7 @@
 -- The lines of a file's batches, put together one batch after another.
-use Rattle.std.proofs.Common.{◌≡◌, ◌⊎◌, inl, inr, ℕ, List, [], ◌++◌, Option, Some, None, IfSome}
-use Rattle.std.proofs.Common.{Result, Ok, Err, OnErr, refl, sym, ap, subst, ◌∙◌, append_assoc, append-nil}
+use Rattle.std.proofs.Common.{◌≡◌, ℕ, List, [], ◌++◌, Option, Some, None, IfSome}
+use Rattle.std.proofs.Common.{Result, Ok, Err, OnErr, refl, sym, ap, subst, ◌∙◌, append_assoc}
+use Rattle.std.proofs.Common.{append-nil}
 use Rattle.std.proofs.lemmas.Grind.{flat_map-append}
 use Rattle.std.specs.Result.{IsErrAnd}
 use Rattle.archive_terms.specs.Archive.{Entry}
@@ -15,7 +16,6 @@ use Rattle.station_law.specs.Output.{Wrote}
 use Rattle.station_law.specs.Steps.{Behind, behind_as, step_on, stopped_by, stopped_before}
 use Rattle.station_law.specs.Steps.{at_start}
 use Rattle.station_law.specs.declared.stop.Stop.{Stop}
-use Rattle.station_law.specs.declared.stop.Stop.TheVariants.{Memory}
 use Rattle.provider_cli.specs.declared.ending.Ending.{Ending}
 use Rattle.provider_cli.specs.Archives.{offered, entries_text, IsFrontOf, ReadTo, Gathers, Puts}
 use Rattle.provider_cli.specs.Archives.{ending_of, Empties}
@@ -24,10 +24,6 @@ use Rattle.provider_cli.specs.declared.ending.Ending.TheVariants as endings
 pub on_err : {T E : Type 0} {P : Type 0} (result : Result T E) → P → OnErr result P
 on_err (Ok value) fact = tt
 on_err (Err error) fact = fact
-
-pub some_fact : {X : Type 0} (P : X → Type 0) (found : Option X) (x : X) → found ≡ Some x
-    → IfSome found P → P x
-some_fact P found x is fact = subst (λ f. IfSome f P) is fact
 
 -- what was read so far, and what of its lines a block holds
 pub record Going (pending : Option Pending) (start now : Option (List ℕ)) (f g : ℕ)
@@ -164,7 +160,8 @@ gathered_none pending output f block empty whole =
 pub gathered_stop : (pending : Option Pending) (start next : Option (List ℕ)) (f h : ℕ)
     (entries : List Entry) (block : List ℕ) (stop : Stop) (result : Result Ending Stop)
     → IsErrAnd result (λ e. e ≡ stop) → IsFrontOf pending entries
-    → Wrote start next f h (entries_text entries) result → Gathers pending start next f h block result
+    → Wrote start next f h (entries_text entries) result
+    → Gathers pending start next f h block result
 gathered_stop pending start next f h entries block stop (Ok ending) is front wrote = absurd is
 gathered_stop pending start next f h entries block stop (Err e) is front wrote = record {
   entries = entries;

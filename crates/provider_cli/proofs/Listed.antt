@@ -1,14 +1,15 @@
 -- What a list leaves of a disk.
-use Rattle.std.proofs.Common.{◌≡◌, ◌⊎◌, inl, inr, ℕ, ◌≤◌, List, [], ◌++◌, Option, Some, None, IfSome}
-use Rattle.std.proofs.Common.{IsSomeAnd, option_map, Result, Ok, Err, refl, sym, ap, subst, ◌∙◌}
+use Rattle.std.proofs.Common.{◌≡◌, ◌⊎◌, inl, inr, ℕ, ◌≤◌, List, [], ◌++◌, Option, Some, None}
+use Rattle.std.proofs.Common.{IfSome}
+use Rattle.std.proofs.Common.{IsSomeAnd, option_map, Ok, Err, refl, sym, ap, subst, ◌∙◌}
 use Rattle.std.proofs.Common.{arith, ⊎_elim}
 use Rattle.octet_core.specs.Fault.{Rose, count_up}
-use Rattle.octet_core.specs.Written.{Gains, GainsFront}
+use Rattle.octet_core.specs.Written.{Gains}
 use Rattle.octet_core.specs.Writing.{gains-none, gains-append, gains_front-append}
 use Rattle.archive_terms.specs.Archive.{Entry}
 use Rattle.disk_model.specs.Images.{Pending, IsImage, IsCoherent, after_sync, all_synced}
-use Rattle.disk_model.specs.Moments.{Elapses, HoldsThroughout, IsImageOf}
-use Rattle.disk_model.specs.Throughout.{started, goes_on, weaker, and_then}
+use Rattle.disk_model.specs.Moments.{HoldsThroughout, IsImageOf}
+use Rattle.disk_model.specs.Throughout.{started, goes_on}
 use Rattle.gate_journal.specs.declared.fault.JournalFault.{JournalFault}
 use Rattle.gate_journal.specs.declared.fault.JournalFault.TheVariants as refusals
 use Rattle.gate_journal.specs.File.{StandsFor, StandsAt}
@@ -64,13 +65,15 @@ pub leaves_by : {D : Type 0} (pending : D → Option Pending) (faults : D → �
     → LeavesListed pending faults old new (listed_by fault)
 leaves_by pending faults old new (refusals.NotJournal place) is = by_told (pending old) is
   where
-    by_told : (p : Option Pending) → RefusesDisk (refusals.NotJournal place) p (faults old) (faults new)
+    by_told : (p : Option Pending)
+        → RefusesDisk (refusals.NotJournal place) p (faults old) (faults new)
         → LeavesListed (λ _. p) faults old new (refused place)
     by_told None is = tt
     by_told (Some told) is = inl is
 leaves_by pending faults old new (refusals.Damaged place) is = by_told (pending old) is
   where
-    by_told : (p : Option Pending) → RefusesDisk (refusals.Damaged place) p (faults old) (faults new)
+    by_told : (p : Option Pending)
+        → RefusesDisk (refusals.Damaged place) p (faults old) (faults new)
         → LeavesListed (λ _. p) faults old new (refused place)
     by_told None is = tt
     by_told (Some told) is = inr is
@@ -138,7 +141,8 @@ leaves_before pending faults old mid new (listed entries) same later leaves =
         → IfSome mid (λ told. StandsFor entries told.content × Keeps (pending new) entries)
         → IfSome old (λ told. StandsFor entries told.content × Keeps (pending new) entries)
     by_told None mid same leaves = tt
-    by_told (Some told) mid same leaves = subst (λ p. IfSome p (λ told. StandsFor entries told.content
+    by_told (Some told) mid same leaves =
+        subst (λ p. IfSome p (λ told. StandsFor entries told.content
         × Keeps (pending new) entries)) same leaves
 leaves_before pending faults old mid new (refused place) same later leaves =
     by_told (pending old) (pending mid) same leaves

@@ -1,6 +1,6 @@
 -- The entries of a file, as lines.
-use Rattle.std.proofs.Common.{◌≡◌, ◌∙◌, ℕ, zero, suc, ◌+◌, ◌<◌, ◌≤◌, true, List, [], ◌∷◌, ◌++◌}
-use Rattle.std.proofs.Common.{length, drop, get_or, refl, sym, ap, subst, arith, drop-cons, add-one}
+use Rattle.std.proofs.Common.{◌≡◌, ℕ, zero, suc, ◌+◌, ◌<◌, ◌≤◌, true, List, [], ◌∷◌, ◌++◌}
+use Rattle.std.proofs.Common.{length, drop, get_or, refl, sym, subst, arith, drop-cons, add-one}
 use Rattle.std.proofs.lemmas.Bool.{and_parts}
 use Rattle.std.proofs.lemmas.List.{drop_all}
 use Rattle.std.specs.List.{list_all}
@@ -12,7 +12,7 @@ use Rattle.record_form.specs.Entry.{entry_of, entries_of}
 use Rattle.drill_text.specs.Reading.{entry_text}
 use Rattle.provider_cli.specs.Archives.{offered, entries_text}
 
-same_entry : (entry : Entry) → offered (entry_of entry) ≡ entry
+pub same_entry : (entry : Entry) → offered (entry_of entry) ≡ entry
 same_entry (Frame ert quality antenna lost octets) = refl
 same_entry (LossOfSync at carrier subcarrier symbol) = refl
 same_entry (Production status) = refl
@@ -22,11 +22,8 @@ same_entry (Seal at) = refl
 pub next_line : (entries : List Entry) (i : ℕ) (entry : Entry) → i < length entries
     → entry ≡ get_or entries i entry
     → entries_text (entries_of (drop i entries))
-    ≡ entry_text entry ++ entries_text (entries_of (drop (i + 1) entries))
-next_line entries i entry h here =
-    rw (drop-cons entries i entry h, ← here, add-one)
-    (ap (λ line. entry_text line ++ entries_text (entries_of (drop (suc i) entries)))
-    (same_entry entry))
+    ≡ entry_text (offered (entry_of entry)) ++ entries_text (entries_of (drop (i + 1) entries))
+next_line entries i entry h here = rw (drop-cons entries i entry h, ← here, add-one) refl
 
 pub no_lines : (entries : List Entry) (i : ℕ) → length entries ≤ i
     → entries_text (entries_of (drop i entries)) ≡ []

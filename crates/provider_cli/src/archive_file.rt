@@ -91,13 +91,14 @@ fn list_synced<D: Disk, O: Sink>(alloc: Global, mut disk: D, output: &mut O) -> 
 fn check<D: Disk>(alloc: Global, disk: &mut D) -> Result<(), BatchFault>
     ensures whole { OnOk result (IfSome (D.pending disk.old) (λ _. StandsForSome
         (D.pending disk.old))) }
+    ensures unfit { IsErrOf result BatchFault.Unfit → ¬ StandsForSome (D.pending disk.old) }
     ensures same { IsErrOf result BatchFault.DiskFault ⊎ (disk.new ≡ disk.old) }
     ensures reads { OnlyReads D.pending D.moment D.images_since disk.old disk.new }
     ensures cause { IsErrOf result BatchFault.DiskFault → Rose (D.faults disk.old)
         (D.faults disk.new) }
 {
     let mut batches = Batches::open(alloc, disk)?;
-    while let Some(_) = batches.next(alloc, disk)? {}
+    while batches.next(disk)? {}
     Ok(())
 }
 

@@ -2,25 +2,32 @@
 ghost use Rattle.std.specs.Prelude.{◌≡◌, ◌++◌, IsTrue, OnOk};
 ghost use Rattle.archive_terms.specs.Archive.{is_storable};
 ghost use Rattle.record_form.specs.Entry.{entry_of};
+ghost use Rattle.record_form.specs.Lent.{lent_entry};
 ghost use Rattle.record_form.specs.declared.entry.Entry.TheVariants.{Frame};
 ghost use Rattle.drill_text.specs.Reading.{entry_text};
+ghost use Rattle.provider_cli.specs.Archives.{offered};
 
 use crate::digits::append_digits;
 use cds_time::Cds;
 use drill_text::write_entry_line;
 use octet_core::{Memory, Octets};
-use record_form::{Entry, laws};
+use record_form::{Entry, EntryRef, laws};
 use std::alloc::{AllocError, Global};
-use words::{Hex, Last, Number, Octet, Then, Time, WriteWords};
+use words::{Last, LentOctets, Number, Octet, Then, Time, WriteWords};
 
 /// Appends the line of a script that offers an entry, and its end. A frame's is put together where
 /// it comes to stand.
-pub fn append_entry_line(alloc: Global, entry: &Entry, into: &mut Vec<u8>) -> Result<(), AllocError>
-    requires { IsTrue (is_storable (entry_of entry.now)) }
-    ensures { OnOk result (into.new.items ≡ into.old.items ++ entry_text entry.now) }
+pub fn append_entry_line(
+    alloc: Global,
+    entry: EntryRef<'_>,
+    into: &mut Vec<u8>,
+) -> Result<(), AllocError>
+    requires { IsTrue (is_storable (lent_entry entry)) }
+    ensures { OnOk result (into.new.items
+        ≡ into.old.items ++ entry_text (offered (lent_entry entry.entry))) }
 {
     match entry {
-        Entry::Frame {
+        EntryRef::Frame {
             ert,
             quality,
             antenna,
@@ -32,39 +39,44 @@ pub fn append_entry_line(alloc: Global, entry: &Entry, into: &mut Vec<u8>) -> Re
 }
 
 // Appends the line as it is written by itself.
-fn append_other(alloc: Global, entry: &Entry, into: &mut Vec<u8>) -> Result<(), AllocError>
-    requires { IsTrue (is_storable (entry_of entry.now)) }
-    ensures { OnOk result (into.new.items ≡ into.old.items ++ entry_text entry.now) }
+fn append_other(alloc: Global, entry: EntryRef<'_>, into: &mut Vec<u8>) -> Result<(), AllocError>
+    requires { IsTrue (is_storable (lent_entry entry)) }
+    ensures { OnOk result (into.new.items
+        ≡ into.old.items ++ entry_text (offered (lent_entry entry.entry))) }
 {
+    let entry = entry.to_entry(alloc)?;
     let mut line = Octets::new(alloc);
-    match write_entry_line(alloc, entry, &mut line) {
+    match write_entry_line(alloc, &entry, &mut line) {
         Ok(()) => into.extend_from_slice(line.as_slice()),
         Err(Memory) => Err(AllocError),
     }
 }
 
-// The words of a frame's line between its first and its last.
-type Head = Then<Time, Then<Octet<0, 2>, Then<Hex<1, 16>, Last<Number<0, 16_777_215>>>>>;
+// Words of a frame's line.
+type TimeAndQuality = Then<Time, Last<Octet<0, 2>>>;
+
+type Lost = Last<Number<0, 16_777_215>>;
 
 // Appends the line of a frame.
 fn append_frame(
-    ert: &Cds,
-    quality: &u8,
-    antenna: &Octets,
-    lost: &u32,
-    octets: &Octets,
+    ert: Cds,
+    quality: u8,
+    antenna: &[u8],
+    lost: u32,
+    octets: &[u8],
     into: &mut Vec<u8>,
 ) -> Result<(), AllocError>
-    requires { IsTrue (is_storable (entry_of
-        (Frame ert.now quality.now antenna.now lost.now octets.now))) }
+    requires { IsTrue (is_storable (entry_of (Frame ert quality antenna.now lost octets.now))) }
     ensures { OnOk result (into.new.items ≡ into.old.items
-        ++ entry_text (Frame ert.now quality.now antenna.now lost.now octets.now)) }
+        ++ entry_text (Frame ert quality antenna.now lost octets.now)) }
 {
-    laws::slice(antenna.as_slice());
+    laws::slice(antenna);
     into.extend_from_slice(b"frame")?;
-    Head::put(b' ', (ert, (quality, (antenna, lost))), into)?;
+    TimeAndQuality::put(b' ', (&ert, &quality), into)?;
+    LentOctets::put(b' ', antenna, into)?;
+    Lost::put(b' ', &lost, into)?;
     into.push(b' ')?;
-    append_digits(octets.as_slice(), into)?;
+    append_digits(octets, into)?;
     into.push(b'\n')?;
     Ok(())
 }

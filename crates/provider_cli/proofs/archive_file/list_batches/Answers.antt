@@ -3,7 +3,8 @@ use Rattle.provider_cli.specs.Archives.{listed, failed_behind, stopped_behind, c
 use Rattle.provider_cli.specs.Archives.{ReadTo}
 use Rattle.provider_cli.specs.declared.status.Status.TheVariants as ends
 use Rattle.provider_cli.proofs.Outcomes.{closes_by}
-use Rattle.provider_cli.proofs.Listed.{all_listed, still_kept, none_other, reads_hold, closes_behind}
+use Rattle.provider_cli.proofs.Listed.{all_listed, still_kept, none_other, reads_hold}
+use Rattle.provider_cli.proofs.Listed.{closes_behind}
 use Rattle.provider_cli.proofs.Listed.{closes_written, closes_stop}
 use Rattle.provider_cli.proofs.archive_file.list_batches.Goals as goal
 
@@ -38,8 +39,10 @@ returns-in-Ok-Changed g c =
       any_moment = reads_hold g.D.Disk.moment g.D.Disk.images_since g.D.Disk.pending
           c.args.disk.now c.put_file.new.disk
           (c.images_at_a_moment.ensures.only_now c.args.disk.now) c.put_file.ensures.reads;
-      closes = closes_behind _ _ _ _ _ _ _ _ ends.ArchiveRefused _ c.in-Ok-Changed.field-0 puts.wrote
-          (closes_by _ _ _ _ _ ends.ArchiveRefused _ c.put_refused.result c.close.ensures c.put_refused.ensures);
+      closes = closes_behind _ _ _ _ _ _ _ _ ends.ArchiveRefused _ c.in-Ok-Changed.field-0
+          puts.wrote
+          (closes_by _ _ _ _ _ ends.ArchiveRefused _ c.put_refused.result c.close.ensures
+          c.put_refused.ensures);
     }
 
 pub returns-in-Ok-DiskFault : goal.returns-in-Ok-DiskFault

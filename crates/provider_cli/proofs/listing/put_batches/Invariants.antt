@@ -2,10 +2,10 @@ use Rattle.std.proofs.Common.{◌≡◌, ◌-◌, ◌^◌}
 use Rattle.provider_cli.proofs.Gathering.{Going}
 use Rattle.provider_cli.proofs.listing.put_batches.Given as goal
 
-abbrev pub invariant-loop-batch : goal.invariant-loop-batch
-invariant-loop-batch g l = Going (g.D.Disk.pending l.fn.disk) (g.O.Sink.written l.fn.output)
+abbrev pub invariant-loop-batches : goal.invariant-loop-batches
+invariant-loop-batches g l = Going (g.D.Disk.pending l.fn.disk) (g.O.Sink.written l.fn.output)
     (g.O.Sink.written l.output) (g.O.Sink.faults l.fn.output) (g.O.Sink.faults l.output) l.batches
     l.block.items × (l.disk ≡ l.fn.disk)
 
-abbrev pub decreases-loop-batch : goal.decreases-loop-batch
-decreases-loop-batch g l = 2 ^ 64 - l.batches.gate
+abbrev pub decreases-loop-batches : goal.decreases-loop-batches
+decreases-loop-batches g l = 2 ^ 64 - l.batches.gate
