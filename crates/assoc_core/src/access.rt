@@ -45,8 +45,9 @@ fn sender<'a>(site: &'a Site, state: State, kind: PduKind<'_>) -> Option<&'a Pee
     peers.get(place)
 }
 
-// Whether a level asks for the credentials of a message that has any.
-fn asks(level: Level, kind: PduKind<'_>) -> bool
+/// Whether a level asks for the credentials of a message, and so for those of its return: of a BIND
+/// alone, of all that may have any, or of none (CCSDS 913.1-B; the levels are this provider's own).
+pub fn is_asked(level: Level, kind: PduKind<'_>) -> bool
     ensures { result ≡ is_asked level (kind_of kind.entry) }
 {
     match level {
@@ -84,7 +85,7 @@ fn is_authentic(peer: &Peer, credentials: &Credentials<'_>, now: u128) -> bool
 fn may_send(peer: &Peer, kind: PduKind<'_>, credentials: &Credentials<'_>, now: u128) -> bool
     ensures { result ≡ may_send (Some peer.now) (message_of kind.entry credentials.now now) }
 {
-    !asks(peer.level, kind) || is_authentic(peer, credentials, now)
+    !is_asked(peer.level, kind) || is_authentic(peer, credentials, now)
 }
 
 // Whether a message is admitted.

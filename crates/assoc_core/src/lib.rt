@@ -24,7 +24,7 @@ mod pdu_kind;
 mod state;
 mod step;
 
-pub use access::peer_of;
+pub use access::{is_asked, peer_of};
 pub use association::Association;
 pub use bind_check::check_bind;
 pub use bind_fault::BindFault;

@@ -4,7 +4,9 @@
 // The definition `Session` (`specs/Session.antt`) says what a session does over whole lists of
 // rounds, by the answers of its link and of the book: `specs/Steps.antt` has one function for each
 // step of a round, `specs/Message.antt` and `specs/Handling.antt` what a message says and leads to,
-// `specs/Returns.antt` the returns. The module `laws` has what holds of every list of rounds.
+// `specs/Service.antt` what a message of a bound service is and leads to, `specs/Inquiry.antt` what
+// a step asks the book and wants of a look, `specs/Returns.antt` the returns. The module `laws` has
+// what holds of every list of rounds.
 //
 // `Session` does that, one method for each step. It takes its memory when it is made, and holds no
 // history: the octets that were not handled yet, the space of a poll, and how it stands. A round

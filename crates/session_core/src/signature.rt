@@ -5,29 +5,12 @@ ghost use Rattle.cds_time.specs.Moment.{octets_of, in_micros};
 ghost use Rattle.isp1_auth.specs.declared.random_numbers.TheConstants.{GREATEST_NUMBER};
 ghost use Rattle.isp1_auth.specs.Signed.{signed};
 ghost use Rattle.sle_common.specs.Credentials.{credentials, credentials_of};
-ghost use Rattle.assoc_core.specs.Access.{is_asked};
-ghost use Rattle.assoc_core.specs.Kind.{kind_of};
 ghost use Rattle.session_core.specs.Returns.{own_secret, IsOwnSecret};
 
-use assoc_core::PduKind;
 use isp1_auth::{Hash, Secret, make};
 use sle_common::Credentials;
-use station_config::{Level, Peer, Site};
+use station_config::{Peer, Site};
 use std::marker::Model;
-
-// Whether a level asks for the credentials of an invocation, and so for those of its return.
-pub(crate) fn is_asked(level: Level, kind: PduKind<'_>) -> bool
-    ensures { result ≡ is_asked level (kind_of kind.entry) }
-{
-    match level {
-        Level::Nothing => false,
-        Level::Bind => matches!(kind, PduKind::Bind { .. }),
-        Level::All => !matches!(
-            kind,
-            PduKind::Context | PduKind::Heartbeat | PduKind::PeerAbort
-        ),
-    }
-}
 
 // The octets of credentials that this provider made.
 #[derive(Drop)]
