@@ -1,9 +1,9 @@
 -- The images of a disk that is written and synced.
 use Rattle.std.proofs.Common.{◌≡◌, inl, inr, ℕ, List, [], length, Option, Some, None, option_map}
-use Rattle.std.proofs.Common.{IfSome, Result, Ok, Err, OnOk, OnErr, ap, subst, sym, ◌∙◌}
+use Rattle.std.proofs.Common.{IfSome, Result, Ok, Err, OnOk, OnErr, subst, sym}
 use Rattle.octet_core.specs.declared.failed.Failed.{Failed}
 use Rattle.disk_model.specs.Images.{Pending, IsImage, IsCoherent, FailsToWrite, with_range}
-use Rattle.disk_model.specs.Images.{after_write, after_sync, written_and_synced}
+use Rattle.disk_model.specs.Images.{after_write, after_sync}
 use Rattle.disk_model.specs.Moments.{IsImageOf, Becomes}
 
 -- what a read gives is no matter
@@ -65,15 +65,3 @@ during_sync leaves (Ok value) None new held synced failed image is =
     subst (λ (p : Option Pending). IsImageOf p image) synced is
 during_sync leaves (Err error) mid new held synced failed image is =
     subst (λ (p : Option Pending). IsImageOf p image) failed is
-
--- a write and a sync that succeeded
-pub both_done : {T : Type 0} → (result : Result T Failed) (old mid new : Option Pending) (place : ℕ)
-    (octets : List ℕ)
-    → mid ≡ option_map (after_write place octets) old
-    → OnOk result (new ≡ option_map after_sync mid)
-    → OnOk result (new ≡ option_map (written_and_synced place octets) old)
-both_done (Ok value) (Some told) mid new place octets written synced = synced
-    ∙ ap (option_map after_sync) written
-both_done (Ok value) None mid new place octets written synced = synced
-    ∙ ap (option_map after_sync) written
-both_done (Err error) old mid new place octets written synced = synced

@@ -6,9 +6,6 @@ use Rattle.archive_terms.specs.Archive.{seal}
 use Rattle.record_form.specs.Spelling.{entry_octets, time_octets, antenna_octets, content_octets}
 use Rattle.rehearsal.specs.Frames.{time_at, quality_at, octets_at, length-octets_at, entry_at}
 
-length-time : (i : ℕ) → length (time_octets (time_at i)) ≡ 9
-length-time i = refl
-
 pub length-frame : (i : ℕ) → length (entry_octets (entry_at i)) ≡ 1136
 length-frame i = omega (
   arith,

@@ -2,7 +2,7 @@
 use Rattle.std.proofs.Common.{◌≡◌, ℕ, ◌+◌, ◌-◌, ◌*◌, ◌<◌, ◌≤◌, Bool, true, false, cond, nat_lt}
 use Rattle.std.proofs.Common.{List, [], ◌∷◌, ◌++◌, length, map, take, get_or, refl, sym, ap, subst}
 use Rattle.std.proofs.Common.{◌∙◌, arith}
-use Rattle.std.proofs.lemmas.List.{take_more, take_all, length-map}
+use Rattle.std.proofs.lemmas.List.{take_more, length-map}
 use Rattle.std.proofs.lemmas.List.Sums.{count_by-le-length}
 use Rattle.std.proofs.lemmas.Bool.Decides.{nat_tests}
 use Rattle.std.specs.List.{count_by, list_any}
@@ -51,15 +51,6 @@ next_count told old new is next has =
       count ∙ rw more refl,
       grind (arith, nat_tests),
     )
-
-pub none_left : (told : List Told) (old new : Cursor) (tally : Tally) → HasCounted told old tally
-    → new ≡ at_next old → new.has_current ≡ false → Counts tally told
-none_left told old new tally counted next has =
-    let none : nat_lt old.count (length old.buffers) ≡ false =
-    sym (ap (λ (c : Cursor). c.has_current) next) ∙ has in
-    let same : length old.buffers ≡ length told = ap length counted.of_told in
-    let past : length told ≤ old.count = grind (arith, nat_tests) in
-    subst (Counts tally) (take_all old.count told past) counted.counts
 
 pub counted_more : (told : List Told) (old new : Cursor) (before after : Tally)
     (items : List Item) (message : List ℕ) → HasCounted told old before → new ≡ at_next old

@@ -39,7 +39,8 @@ limits_at instance = option_map_or (λ i. limits_of i.service) instance no_limit
 -- what the queue of the forward service's instance may hold, and nothing where there is none
 abbrev pub forward_limits : List Instance → Limits
 forward_limits instances =
-    option_map_or (λ place. limits_at (slice_get instances place)) (forward_place instances) no_limits
+    option_map_or (λ place. limits_at (slice_get instances place))
+    (forward_place instances) no_limits
 
 -- the origin of a book of the site's instances over these entries, with so many workers beside the
 -- antenna's

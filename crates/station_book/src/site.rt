@@ -1,6 +1,7 @@
 // What a site gives a book.
 ghost use Rattle.std.specs.Prelude.{◌≡◌, IfOk};
-ghost use Rattle.station_book.specs.Origin.{kind_of, kinds_of, forward_place, limits_of, forward_limits};
+ghost use Rattle.station_book.specs.Origin.{kind_of, kinds_of, forward_place, limits_of};
+ghost use Rattle.station_book.specs.Origin.{forward_limits};
 
 use crate::limits::Limits;
 use crate::service_kind::ServiceKind;

@@ -78,7 +78,8 @@ module _ {X Y : Type 0} (text : List ℕ) (r : Row X) (c : Choice Y)
   pub line_is : (w : List ℕ) (ws : List (List ℕ)) (z : X ⊎ Y) → line_read w ws ≡ Ok z
       → on_either r.Fits c.Fits z × line_spelled z w ws
   line_is w ws z e =
-      elim (chosen (bytes_eq w text) (mapped inl (judged r ws)) (mapped inr (c.read w ws)) (Ok z) e) [
+      elim (chosen (bytes_eq w text) (mapped inl (judged r ws)) (mapped inr (c.read w ws))
+      (Ok z) e) [
         | inl h ↦
             let read = mapped_ok inl (judged r ws) z h.1 in
             let is = judged_is r ws read.0 read.1 in
