@@ -71,53 +71,48 @@ module _ (file image : List ℕ) (place : ℕ) (there : place < length file)
       ∙ sym (length-set file place (slice_index image place)))
       (λ k below. as_elsewhere k below (cases_eq k place))
 
+-- what stands behind a gate once octets are written there
+abbrev pub behind : List ℕ → List ℕ → List ℕ
+behind rest octets = octets ++ drop (length octets) rest
+
 -- a file with a gate behind a front, and octets that are written behind the gate
-module _ (front rest octets : List ℕ) (shut gate : ℕ) (place : length front ≡ gate) where
-  abbrev pub behind : List ℕ
-  behind = octets ++ drop (length octets) rest
+module _ (front rest : List ℕ) (shut gate : ℕ) (place : length front ≡ gate) where
+  split_old : front ++ shut ∷ rest ≡ (front ++ shut ∷ []) ++ rest
+  split_old = sym (append_assoc front (shut ∷ []) rest)
 
   front_length : length (front ++ shut ∷ []) ≡ gate + 1
   front_length = omega (arith, place, length-append front (shut ∷ []))
 
-  old_length : gate + 1 ≤ length (front ++ shut ∷ rest)
-  old_length = omega (arith, place, length-append front (shut ∷ rest))
+  octets_written : (octets : List ℕ)
+      → overwritten (front ++ shut ∷ rest) (gate + 1) octets ≡ front ++ shut ∷ behind rest octets
+  octets_written octets = rw split_old (written_behind (front ++ shut ∷ []) rest octets (gate + 1)
+      front_length ∙ simp append_assoc)
 
-  new_length : gate < length (front ++ shut ∷ behind)
-  new_length = omega (arith, place, length-append front (shut ∷ behind))
-
-  split_old : front ++ shut ∷ rest ≡ (front ++ shut ∷ []) ++ rest
-  split_old = sym (append_assoc front (shut ∷ []) rest)
-
-  pub octets_written : overwritten (front ++ shut ∷ rest) (gate + 1) octets ≡ front ++ shut ∷ behind
-  octets_written =
-      ap (λ (file : List ℕ). overwritten file (gate + 1) octets) split_old
-      ∙ written_behind (front ++ shut ∷ []) rest octets (gate + 1) front_length
-      ∙ append_assoc (front ++ shut ∷ []) octets (drop (length octets) rest)
-      ∙ append_assoc front (shut ∷ []) behind
-
-  gate_written : overwritten (front ++ shut ∷ behind) gate (165 ∷ []) ≡ front ++ 165 ∷ behind
-  gate_written = written_behind front (shut ∷ behind) (165 ∷ []) gate place
-      ∙ append_assoc front (165 ∷ []) behind
+  gate_written : (value : ℕ)
+      → overwritten (front ++ shut ∷ rest) gate (value ∷ []) ≡ front ++ value ∷ rest
+  gate_written value = written_behind front (shut ∷ rest) (value ∷ []) gate place
+      ∙ append_assoc front (value ∷ []) rest
 
   -- behind the closed gate all is free
-  during_first : (image : List ℕ)
-      → IsImage (with_range (gate + 1) (length octets) [] (all_synced (front ++ shut ∷ rest))) image
+  during_first : (count : ℕ) (image : List ℕ)
+      → IsImage (with_range (gate + 1) count [] (all_synced (front ++ shut ∷ rest))) image
       → image ≡ front ++ shut ∷ drop (gate + 1) image
-  during_first image is =
+  during_first count image is =
       let begins : take (gate + 1) image ≡ front ++ shut ∷ [] =
-      as_before (front ++ shut ∷ rest) image (gate + 1) (length octets) old_length is
+      as_before (front ++ shut ∷ rest) image (gate + 1) count
+      (omega (arith, place, length-append front (shut ∷ rest))) is
       ∙ ap (take (gate + 1)) split_old
       ∙ take_at (front ++ shut ∷ []) rest (gate + 1) front_length in
-      sym (take-append-drop (gate + 1) image)
-      ∙ ap (λ (f : List ℕ). f ++ drop (gate + 1) image) begins
-      ∙ append_assoc front (shut ∷ []) (drop (gate + 1) image)
+      cc (take-append-drop (gate + 1) image, append_assoc front (shut ∷ []) (drop (gate + 1) image))
 
   -- and then the gate alone
   during_second : (image : List ℕ)
-      → IsImage (with_range gate 1 [] (all_synced (front ++ shut ∷ behind))) image
-      → image ≡ front ++ slice_index image gate ∷ behind
-  during_second image is = but_for_one (front ++ shut ∷ behind) image gate new_length is
-      ∙ set_at front shut behind (slice_index image gate) gate place
+      → IsImage (with_range gate 1 [] (all_synced (front ++ shut ∷ rest))) image
+      → image ≡ front ++ slice_index image gate ∷ rest
+  during_second image is =
+      but_for_one (front ++ shut ∷ rest) image gate
+      (omega (arith, place, length-append front (shut ∷ rest))) is
+      ∙ set_at front shut rest (slice_index image gate) gate place
 
 -- ---- what such files stand for
 
@@ -146,27 +141,24 @@ stands_opened : (batches : List (List Entry)) (entries batch : List Entry) (gate
 stands_opened batches entries batch gate rest file leads is_batch archive is =
     let more : gated (batches ++ batch ∷ []) ≡ gated batches ++ 165 ∷ batch_octets batch =
     gated_more batches batch in
-    let size : length (gated (batches ++ batch ∷ []))
-    ≡ length (gated batches) + length (165 ∷ batch_octets batch) = ap length more
-    ∙ length-append (gated batches) (165 ∷ batch_octets batch) in
     record {
       batches = batches ++ batch ∷ [];
       gate = 0;
       rest = rest;
       leads = record {
         each = all-append batches batch leads.each is_batch;
-        entries_are = ap (λ (l : List Entry). l ++ batch) leads.entries_are
-            ∙ sym (joined_more batches batch);
+        entries_are = cc (leads.entries_are, joined_more batches batch);
         archive = archive;
-        there = omega (arith, leads.there, size, closed_length batch);
+        there = omega (
+          arith,
+          leads.there,
+          ap length more,
+          length-append (gated batches) (165 ∷ batch_octets batch),
+          closed_length batch,
+        );
       };
       shut = λ same. cc;
-      is = is ∙ append_assoc header (gated batches) (165 ∷ (closed_batch batch ++ rest))
-          ∙ ap (λ (l : List ℕ). header ++ l)
-          (ap (λ (l : List ℕ). gated batches ++ 165 ∷ l)
-          (append_assoc (batch_octets batch) (0 ∷ []) rest)
-          ∙ sym (append_assoc (gated batches) (165 ∷ batch_octets batch) (0 ∷ rest))
-          ∙ ap (λ (l : List ℕ). l ++ 0 ∷ rest) (sym more));
+      is = is ∙ rw more (simp append_assoc);
     }
 
 -- where all is synced each image is what is kept
@@ -187,98 +179,79 @@ module _ (told : Pending) (gate : ℕ) (at_rest : IsAtRest (Some told) gate) whe
   abbrev held : StandsAt at_rest.1 gate told.content
   held = at_rest.2
 
-  pub front_there : length (front_of held.batches) ≡ gate
+  front_there : length (front_of held.batches) ≡ gate
   front_there = omega (arith, held.leads.there, length-append header (gated held.batches))
 
-  pub content_is : told.content ≡ front_of held.batches ++ held.gate ∷ held.rest
+  content_is : told.content ≡ front_of held.batches ++ held.gate ∷ held.rest
   content_is = held.is ∙ sym (append_assoc header (gated held.batches) (held.gate ∷ held.rest))
 
-  pub entries_are : ReadBack → (entries : List Entry) → Keeps (Some told) entries
-      → at_rest.1 ≡ entries
-  entries_are law entries keeps =
-      (stands_for_one law at_rest.1 entries gate keeps.1.0 told.content held keeps.1.1).0
+  -- the file with this octet at its gate, and octets written behind it
+  abbrev pub with_gate : ℕ → List ℕ → List ℕ
+  with_gate value octets = front_of held.batches ++ value ∷ behind held.rest octets
 
-  module _ (octets : List ℕ) where
-    mid_is : (mid : Option Pending) → mid ≡ Some (written_and_synced (gate + 1) octets told)
-        → mid ≡ Some (all_synced (front_of held.batches ++ held.gate
-        ∷ behind (front_of held.batches) held.rest octets held.gate gate front_there))
-    mid_is mid is =
-        is ∙ ap (λ (file : List ℕ). Some (all_synced (overwritten file (gate + 1) octets)))
-        content_is
-        ∙ ap (λ (file : List ℕ). Some (all_synced file))
-        (octets_written (front_of held.batches) held.rest octets held.gate gate front_there)
+  pub written : (octets : List ℕ)
+      → overwritten told.content (gate + 1) octets ≡ with_gate held.gate octets
+  written octets =
+      ap (λ (file : List ℕ). overwritten file (gate + 1) octets) content_is
+      ∙ octets_written (front_of held.batches) held.rest held.gate gate front_there octets
 
-    first_image : (image : List ℕ) → IsImage (with_range (gate + 1) (length octets) [] told) image
-        → StandsAt at_rest.1 gate image
-    first_image image is =
-        stands_closed held.batches at_rest.1 gate held.gate (drop (gate + 1) image) image held.leads
-        held.shut
-        (during_first (front_of held.batches) held.rest octets held.gate gate front_there image
-        (subst (λ (p : Pending). IsImage (with_range (gate + 1) (length octets) [] p) image)
-        (at_rest.0 ∙ ap all_synced content_is) is))
+  pub gate_over : (octets : List ℕ) (value : ℕ)
+      → overwritten (with_gate held.gate octets) gate (value ∷ []) ≡ with_gate value octets
+  gate_over octets =
+      gate_written (front_of held.batches) (behind held.rest octets) held.gate gate front_there
 
-    module _ (batch : List Entry) (law : ReadBack) (ready : IsReady (Some told) batch octets)
-        (entries : List Entry) (keeps : Keeps (Some told) entries) where
-      same_entries : at_rest.1 ≡ entries
-      same_entries = entries_are law entries keeps
+  pub stands_gated : (octets : List ℕ) (value : ℕ) (file : List ℕ) → value ≢ 165
+      → file ≡ with_gate value octets → StandsAt at_rest.1 gate file
+  stands_gated octets value file =
+      stands_closed held.batches at_rest.1 gate value (behind held.rest octets) file held.leads
 
-      whole : IsArchive (at_rest.1 ++ batch)
-      whole = subst (λ (l : List Entry). IsArchive (l ++ batch)) (sym same_entries)
+  mid_is : (octets : List ℕ) (mid : Option Pending)
+      → mid ≡ Some (written_and_synced (gate + 1) octets told)
+      → mid ≡ Some (all_synced (with_gate held.gate octets))
+  mid_is octets mid is = is ∙ ap (λ (file : List ℕ). Some (all_synced file)) (written octets)
+
+  first_image : (count : ℕ) (image : List ℕ) → IsImage (with_range (gate + 1) count [] told) image
+      → StandsAt at_rest.1 gate image
+  first_image count image is =
+      stands_closed held.batches at_rest.1 gate held.gate (drop (gate + 1) image) image held.leads
+      held.shut
+      (during_first (front_of held.batches) held.rest held.gate gate front_there count image
+      (subst (λ (p : Pending). IsImage (with_range (gate + 1) count [] p) image)
+      (at_rest.0 ∙ ap all_synced content_is) is))
+
+  module _ (law : ReadBack) (entries : List Entry) (keeps : Keeps (Some told) entries) where
+    entries_are : at_rest.1 ≡ entries
+    entries_are = (stands_for_one law at_rest.1 entries gate keeps.1.0 told.content held
+        keeps.1.1).0
+
+    pub stands_old : (file : List ℕ) → StandsAt at_rest.1 gate file → StandsAt entries gate file
+    stands_old file = subst (λ (l : List Entry). StandsAt l gate file) entries_are
+
+    module _ (octets : List ℕ) (batch : List Entry) (ready : IsReady (Some told) batch octets) where
+      pub stands_whole : (file : List ℕ) → file ≡ with_gate 165 octets
+          → StandsAt (entries ++ batch) (gate + length octets) file
+      stands_whole file is =
+          let leads =
+          subst (λ (l : List Entry). Leads held.batches l gate) entries_are held.leads in
+          rw ready.spelled (stands_opened held.batches entries batch gate
+          (drop (length (closed_batch batch)) held.rest) file leads ready.is_batch
           (ready.archive entries keeps)
+          (rw ready.spelled at is))
 
-      new_place : ℕ
-      new_place = gate + length octets
-
-      stands_new : (file : List ℕ) → file ≡ front_of held.batches ++ 165
-          ∷ behind (front_of held.batches) held.rest octets held.gate gate front_there
-          → StandsAt (at_rest.1 ++ batch) (gate + length octets) file
-      stands_new file is =
-          subst (λ (n : ℕ). StandsAt (at_rest.1 ++ batch) (gate + n) file)
-          (sym (ap length ready.spelled))
-          (stands_opened held.batches at_rest.1 batch gate (drop (length octets) held.rest) file
-          held.leads ready.is_batch whole
-          (is ∙ ap (λ (l : List ℕ). front_of held.batches ++ 165
-          ∷ (l ++ drop (length octets) held.rest)) ready.spelled))
-
-      old_or_new : (image : List ℕ) (value : ℕ)
-          → image ≡ front_of held.batches ++ value
-          ∷ behind (front_of held.batches) held.rest octets held.gate gate front_there
+      old_or_new : (image : List ℕ) (value : ℕ) → image ≡ with_gate value octets
           → (value ≡ 165) ⊎ (value ≢ 165) → IsOldOrNew entries batch image
       old_or_new image value is (inl opened) =
-          inr (
-            gate + length octets,
-            subst (λ (l : List Entry). StandsAt (l ++ batch) (gate + length octets) image)
-                same_entries
-                (stands_new image (is ∙ ap (λ (v : ℕ). front_of held.batches ++ v
-                ∷ behind (front_of held.batches) held.rest octets held.gate gate front_there)
-                opened)),
-          )
+          inr (gate + length octets, stands_whole image (rw opened at is))
       old_or_new image value is (inr closed) =
-          inl (
-            gate,
-            subst (λ (l : List Entry). StandsAt l gate image) same_entries
-                (stands_closed held.batches at_rest.1 gate value
-                (behind (front_of held.batches) held.rest octets held.gate gate front_there)
-                image held.leads closed is),
-          )
+          inl (gate, stands_old image (stands_gated octets value image closed is))
 
       second_image : (image : List ℕ)
-          → IsImage (with_range gate 1 [] (all_synced
-          (front_of held.batches ++ held.gate
-          ∷ behind (front_of held.batches) held.rest octets held.gate gate front_there))) image
+          → IsImage (with_range gate 1 [] (all_synced (with_gate held.gate octets))) image
           → IsOldOrNew entries batch image
       second_image image is =
           old_or_new image (slice_index image gate)
-          (during_second (front_of held.batches) held.rest octets held.gate gate front_there
-          image is) (cases_eq (slice_index image gate) 165)
-
-      abbrev new_file : List ℕ
-      new_file = front_of held.batches ++ 165
-          ∷ behind (front_of held.batches) held.rest octets held.gate gate front_there
-
-      pub stands_whole : StandsAt (entries ++ batch) (gate + length octets) new_file
-      stands_whole = subst (λ (l : List Entry). StandsAt (l ++ batch) (gate + length octets)
-          new_file) same_entries (stands_new new_file refl)
+          (during_second (front_of held.batches) (behind held.rest octets) held.gate gate
+          front_there image is) (cases_eq (slice_index image gate) 165)
 
 -- ---- the whole of it over what a disk tells
 
@@ -289,9 +262,8 @@ pub first_holds : ReadBack → (old : Option Pending) (gate : ℕ) (octets : Lis
 first_holds law (Some told) gate octets at_rest batch entries keeps image is =
     inl (
       gate,
-      subst (λ (l : List Entry). StandsAt l gate image)
-          (entries_are told gate at_rest law entries keeps)
-          (first_image told gate at_rest octets image is),
+      stands_old told gate at_rest law entries keeps image
+          (first_image told gate at_rest (length octets) image is),
     )
 first_holds law None gate octets at_rest batch entries keeps image is = absurd keeps
 
@@ -301,7 +273,7 @@ pub second_holds : ReadBack → (old mid : Option Pending) (gate : ℕ) (octets 
     → (image : List ℕ) → IsImageOf (option_map (with_range gate 1 []) mid) image
     → IsOldOrNew entries batch image
 second_holds law (Some told) mid gate octets at_rest mid_is_ batch ready entries keeps image is =
-    second_image told gate at_rest octets batch law ready entries keeps image
+    second_image told gate at_rest law entries keeps octets batch ready image
     (subst (λ (p : Option Pending). IsImageOf (option_map (with_range gate 1 []) p) image)
     (mid_is told gate at_rest octets mid mid_is_) is)
 second_holds law None mid gate octets at_rest mid_is_ batch ready entries keeps image is =
@@ -310,15 +282,11 @@ second_holds law None mid gate octets at_rest mid_is_ batch ready entries keeps 
 new_is : (told : Pending) (gate : ℕ) (at_rest : IsAtRest (Some told) gate) (octets : List ℕ)
     (mid new : Option Pending) → mid ≡ Some (written_and_synced (gate + 1) octets told)
     → new ≡ option_map (written_and_synced gate (165 ∷ [])) mid
-    → new ≡ Some (all_synced (front_of at_rest.2.batches ++ 165
-    ∷ behind (front_of at_rest.2.batches) at_rest.2.rest octets at_rest.2.gate gate
-    (front_there told gate at_rest)))
+    → new ≡ Some (all_synced (with_gate told gate at_rest 165 octets))
 new_is told gate at_rest octets mid new mid_is_ new_is_ =
     new_is_ ∙ ap (option_map (written_and_synced gate (165 ∷ [])))
     (mid_is told gate at_rest octets mid mid_is_)
-    ∙ ap (λ (f : List ℕ). Some (all_synced f))
-    (gate_written (front_of at_rest.2.batches) at_rest.2.rest octets at_rest.2.gate gate
-    (front_there told gate at_rest))
+    ∙ ap (λ (f : List ℕ). Some (all_synced f)) (gate_over told gate at_rest octets 165)
 
 pub added : ReadBack → (old mid new : Option Pending) (gate : ℕ) (octets : List ℕ)
     → IsAtRest old gate → mid ≡ option_map (written_and_synced (gate + 1) octets) old
@@ -326,13 +294,11 @@ pub added : ReadBack → (old mid new : Option Pending) (gate : ℕ) (octets : L
     → IsReady old batch octets → (entries : List Entry) → Keeps old entries
     → Keeps new (entries ++ batch)
 added law (Some told) mid new gate octets at_rest mid_is_ new_is_ batch ready entries keeps =
-    subst (λ (p : Option Pending). Keeps p (entries ++ batch))
-    (sym (new_is told gate at_rest octets mid new mid_is_ new_is_)) (
+    rw (new_is told gate at_rest octets mid new mid_is_ new_is_) (
       refl,
       (
         gate + length octets,
-        stands_whole told gate at_rest octets batch law ready entries
-            keeps,
+        stands_whole told gate at_rest law entries keeps octets batch ready _ refl,
       ),
     )
 added law None mid new gate octets at_rest mid_is_ new_is_ batch ready entries keeps = absurd keeps
@@ -342,14 +308,11 @@ pub rests_again : ReadBack → (old mid new : Option Pending) (gate : ℕ) (octe
     → new ≡ option_map (written_and_synced gate (165 ∷ [])) mid → (batch : List Entry)
     → IsReady old batch octets → IsAtRest new (gate + length octets)
 rests_again law (Some told) mid new gate octets at_rest mid_is_ new_is_ batch ready =
-    let keeps : Keeps (Some told) at_rest.1 = (at_rest.0, (gate, at_rest.2)) in
-    subst (λ (p : Option Pending). IsAtRest p (gate + length octets))
-    (sym (new_is told gate at_rest octets mid new mid_is_ new_is_)) (
+    rw (new_is told gate at_rest octets mid new mid_is_ new_is_) (
       refl,
       at_rest.1 ++ batch,
-      stands_new told gate at_rest octets batch law ready at_rest.1 keeps _
-          refl,
+      stands_whole told gate at_rest law at_rest.1 (at_rest.0, (gate, at_rest.2)) octets batch
+          ready _ refl,
     )
 rests_again law None mid new gate octets at_rest mid_is_ new_is_ batch ready =
-    subst (λ (p : Option Pending). IsAtRest p (gate + length octets))
-    (sym (new_is_ ∙ ap (option_map (written_and_synced gate (165 ∷ []))) mid_is_)) tt
+    rw (new_is_, mid_is_) tt

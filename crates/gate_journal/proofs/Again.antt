@@ -1,8 +1,8 @@
 -- What stands in a file is read, so a damaged file stands for nothing.
 use Rattle.std.proofs.Common.{◌≡◌, ◌≢◌, ℕ, ◌*◌, ◌+◌, ◌≤◌, ◌<◌}
-use Rattle.std.proofs.Common.{◌==◌, Bool, true, false, ◌&&◌, List, [], ◌∷◌, ◌++◌, length, take}
+use Rattle.std.proofs.Common.{◌==◌, true, false, ◌&&◌, List, [], ◌∷◌, ◌++◌, length, take}
 use Rattle.std.proofs.Common.{drop, slice_index, nat_le, Option}
-use Rattle.std.proofs.Common.{Some, None, Result, Ok, Err, refl, sym, ap, subst, ◌∙◌, arith}
+use Rattle.std.proofs.Common.{Some, None, Ok, Err, refl, sym, ap, subst, ◌∙◌, arith}
 use Rattle.std.proofs.Common.{append_assoc, eq-eqb}
 use Rattle.std.specs.List.{AllByRecursion, list_all}
 use Rattle.std.specs.Int.{w16, w32, to_be_bytes, from_be_bytes}
@@ -27,18 +27,15 @@ use Rattle.gate_journal.specs.Reading.{next_entry, entries_at}
 use Rattle.gate_journal.specs.Reading.{ending_at, size_at, count_at, batch_at, gate_at}
 use Rattle.gate_journal.specs.Reading.{LedTo, IsNoJournal, IsDamagedAt}
 use Rattle.gate_journal.proofs.Growth.{Grows, joined-append}
+use Rattle.gate_journal.proofs.Unique.{both, regroup, in_front}
 use Rattle.gate_journal.proofs.Unique.{same_batch, same_rest, tail_of, Follows, follows_led}
-
-pub both : (a b : Bool) → (a && b) ≡ true → (a ≡ true) × (b ≡ true)
-both true b e = (refl, e)
-both false b e = absurd (cc)
 
 -- a front of an archive is one
 pub archive_front : Grows → (a b : List Entry) → IsArchive (a ++ b) → IsArchive a
 archive_front grows a [] archive = subst IsArchive (append-nil a) archive
 archive_front grows a (e ∷ b) archive =
     let longer : IsArchive (a ++ e ∷ []) = archive_front grows (a ++ e ∷ []) b
-    (subst IsArchive (sym (append_assoc a (e ∷ []) b)) archive) in
+    (rw append_assoc archive) in
     (both (is_archive a) (may_follow a e) (sym (grows a e) ∙ longer)).0
 
 -- an entry behind others in an archive keeps their order
@@ -46,7 +43,7 @@ pub in_order : Grows → (a : List Entry) (e : Entry) (b : List Entry) → IsArc
     → keeps_order a e ≡ true
 in_order grows a e b archive =
     let longer : IsArchive (a ++ e ∷ []) = archive_front grows (a ++ e ∷ []) b
-    (subst IsArchive (sym (append_assoc a (e ∷ []) b)) archive) in
+    (rw append_assoc archive) in
     (both (is_storable e) (keeps_order a e) (both (is_archive a) (may_follow a e) (sym (grows a e)
     ∙ longer)).1).1
 
@@ -56,17 +53,9 @@ pub next_again : (before : List Entry) (file : List ℕ) (place : ℕ) (entry : 
 unfolding next_entry
 next_again before file place entry end read order = rw (read, order) refl
 
-behind_entry : (entry : Entry) (more : List Entry) (file : List ℕ) (place end : ℕ)
-    → drop place file ≡ entries_octets (entry ∷ more) ++ drop end file
-    → drop place file ≡ entry_octets entry ++ (entries_octets more ++ drop end file)
-behind_entry entry more file place end is = is
-    ∙ ap (λ (l : List ℕ). l ++ drop end file) (flat_map-cons entry_octets entry more)
-    ∙ append_assoc (entry_octets entry) (entries_octets more) (drop end file)
-
 rest_behind : (x y : List ℕ) (file : List ℕ) (place : ℕ) → drop place file ≡ x ++ y
     → drop (place + length x) file ≡ y
-rest_behind x y file place is = sym (drop-drop (length x) place file) ∙ ap (drop (length x)) is
-    ∙ drop_at x y (length x) refl
+rest_behind x y file place is = cc (drop-drop (length x) place file, drop_at x y (length x) refl)
 
 entries_again : ReadWhereSpelled → Grows
     → (batch before : List Entry) (file : List ℕ) (place end : ℕ) → AreOctets file
@@ -77,33 +66,31 @@ entries_again : ReadWhereSpelled → Grows
 unfolding entries_at
 entries_again law grows [] before file place end all storable archive ends is =
     let same : place ≡ end = omega (arith, ends) in
-    rw same (ap (λ (l : List Entry). Ok (l, end)) (sym (append-nil before)))
+    cc (append-nil before)
 entries_again law grows (entry ∷ more) before file place end all storable archive ends is =
     let each = both (is_storable entry) (list_all is_storable more) storable in
-    let split = behind_entry entry more file place end is in
+    let split = is ∙ regroup entry more (drop end file) in
     let mid = place + length (entry_octets entry) in
-    let rest : drop (place + length (entry_octets entry)) file
-    ≡ entries_octets more ++ drop end file =
+    let rest : drop mid file ≡ entries_octets more ++ drop end file =
     rest_behind (entry_octets entry) (entries_octets more ++ drop end file) file place split in
-    let stands : StandsFrom place file entry (place + length (entry_octets entry)) = record {
+    let stands : StandsFrom place file entry mid = record {
       storable = each.0;
       ends = refl;
-      spelled = split ∙ ap (λ (l : List ℕ). entry_octets entry ++ l) (sym rest);
+      spelled = cc (split, rest);
     } in
-    let next = next_again before file place entry (place + length (entry_octets entry))
-    ((law place file entry (place + length (entry_octets entry)) all).1 stands)
-    (in_order grows before entry more archive) in
-    let later : entries_at (length more) (before ++ entry ∷ []) file
-    (place + length (entry_octets entry)) ≡ Ok ((before ++ entry ∷ []) ++ more, end) =
-    entries_again law grows more (before ++ entry ∷ []) file (place + length (entry_octets entry))
-    end all each.1 (subst IsArchive (sym (append_assoc before (entry ∷ []) more)) archive)
-    (omega (
-      arith,
-      ends,
-      ap length (flat_map-cons entry_octets entry more),
-      length-append (entry_octets entry) (entries_octets more),
-    )) rest in
-    rw next (later ∙ ap (λ (l : List Entry). Ok (l, end)) (append_assoc before (entry ∷ []) more))
+    rw (
+      next_again before file place entry mid ((law place file entry mid all).1 stands)
+          (in_order grows before entry more archive),
+      entries_again law grows more (before ++ entry ∷ []) file mid end all each.1
+          (rw append_assoc archive)
+          (omega (
+            arith,
+            ends,
+            ap length (flat_map-cons entry_octets entry more),
+            length-append (entry_octets entry) (entries_octets more),
+          )) rest,
+      append_assoc before (entry ∷ []) more,
+    ) refl
 
 -- ---- how long a batch is
 
@@ -155,9 +142,7 @@ entries_short (e ∷ batch) is =
 pub size_of_batch : (batch : List Entry) (rest : List ℕ) → IsBatch batch
     → from_be_bytes w32 (take 4 (batch_octets batch ++ rest)) ≡ length (entries_octets batch)
 size_of_batch batch rest is_batch =
-    ap (λ (l : List ℕ). from_be_bytes w32 (take 4 l))
-    (append_assoc (to_be_bytes w32 (length (entries_octets batch)))
-    (to_be_bytes w16 (length batch) ++ entries_octets batch) rest)
+    ap (λ (l : List ℕ). from_be_bytes w32 (take 4 l)) (in_front batch rest)
     ∙ from_be_bytes-to_be_bytes_4 (length (entries_octets batch))
     (omega (arith, entries_short batch is_batch.storable, is_batch.most))
 
@@ -173,28 +158,20 @@ module _ (law : ReadWhereSpelled) (grows : Grows) (before batch : List Entry) (f
     (archive : IsArchive (before ++ batch)) (ends : end ≡ place + length (batch_octets batch))
     (is : drop place file ≡ batch_octets batch ++ drop end file)
     (inside : place ≤ length file) where
-  size : List ℕ
-  size = to_be_bytes w32 (length (entries_octets batch))
-
   parts_are : drop place file ≡ to_be_bytes w32 (length (entries_octets batch))
       ++ (to_be_bytes w16 (length batch) ++ (entries_octets batch ++ drop end file))
-  parts_are =
-      is ∙ append_assoc (to_be_bytes w32 (length (entries_octets batch)))
-      (to_be_bytes w16 (length batch) ++ entries_octets batch) (drop end file)
-      ∙ ap (λ (l : List ℕ). to_be_bytes w32 (length (entries_octets batch)) ++ l)
-      (append_assoc (to_be_bytes w16 (length batch)) (entries_octets batch) (drop end file))
+  parts_are = is ∙ in_front batch (drop end file)
 
   size_is : size_at file place ≡ length (entries_octets batch)
-  size_is = ap (λ (l : List ℕ). from_be_bytes w32 (take 4 l)) is
-      ∙ size_of_batch batch (drop end file) is_batch
+  size_is = rw is (size_of_batch batch (drop end file) is_batch)
 
   behind_size : drop (place + 4) file ≡ to_be_bytes w16 (length batch)
       ++ (entries_octets batch ++ drop end file)
   behind_size = sym (drop-drop 4 place file) ∙ ap (drop 4) parts_are
 
   pub count_is : count_at file place ≡ length batch
-  count_is = ap (λ (l : List ℕ). from_be_bytes w16 (take 2 l)) behind_size
-      ∙ from_be_bytes-to_be_bytes_2 (length batch) (omega (arith, is_batch.most))
+  count_is = rw behind_size
+      (from_be_bytes-to_be_bytes_2 (length batch) (omega (arith, is_batch.most)))
 
   pub behind_count : drop (place + 6) file ≡ entries_octets batch ++ drop end file
   behind_count = ap (λ (n : ℕ). drop n file) (omega arith) ∙ sym (drop-drop 2 (place + 4) file)
@@ -207,9 +184,8 @@ module _ (law : ReadWhereSpelled) (grows : Grows) (before batch : List Entry) (f
   long = omega (arith, inside, ap length parts_are, length-drop place file)
 
   read_is : entries_at (count_at file place) before file (place + 6) ≡ Ok (before ++ batch, end)
-  read_is = ap (λ (n : ℕ). entries_at n before file (place + 6)) count_is
-      ∙ entries_again law grows batch before file (place + 6) end all is_batch.storable archive
-      end_is behind_count
+  read_is = rw count_is (entries_again law grows batch before file (place + 6) end all
+      is_batch.storable archive end_is behind_count)
 
   batch_again : batch_at before file place ≡ Ok (before ++ batch, end)
   unfolding batch_at
@@ -225,6 +201,12 @@ module _ (law : ReadWhereSpelled) (grows : Grows) (before batch : List Entry) (f
 
 -- ---- a gate
 
+-- the octet that stands at a place
+pub first_is : (x : ℕ) (xs file : List ℕ) (place : ℕ) → drop place file ≡ x ∷ xs
+    → place < length file → slice_index file place ≡ x
+first_is x xs file place is there =
+    ap (λ (l : List ℕ). slice_index l 0) (sym (drop_more file place 0 there) ∙ is)
+
 pub open_again : ReadWhereSpelled → Grows → (before batch : List Entry) (rest file : List ℕ)
     (gate : ℕ) → AreOctets file → IsBatch batch → IsArchive (before ++ batch)
     → drop gate file ≡ 165 ∷ (batch_octets batch ++ rest) → gate < length file
@@ -232,31 +214,24 @@ pub open_again : ReadWhereSpelled → Grows → (before batch : List Entry) (res
     ≡ Ok (Some (before ++ batch, (gate + 1) + length (batch_octets batch)))
 unfolding gate_at
 open_again law grows before batch rest file gate all is_batch archive is there =
-    let first : slice_index file gate ≡ 165 =
-    ap (λ (l : List ℕ). slice_index l 0) (sym (drop_more file gate 0 there) ∙ is) in
+    let first : slice_index file gate ≡ 165 = first_is 165 _ file gate is there in
     let behind : drop (gate + 1) file ≡ batch_octets batch ++ rest = sym (drop-drop 1 gate file)
     ∙ ap (drop 1) is in
-    let rest_is : drop ((gate + 1) + length (batch_octets batch)) file ≡ rest =
-    rest_behind (batch_octets batch) rest file (gate + 1) behind in
-    let read : batch_at before file (gate + 1)
-    ≡ Ok (before ++ batch, (gate + 1) + length (batch_octets batch)) =
-    batch_again law grows before batch file (gate + 1) ((gate + 1) + length (batch_octets batch))
-    all is_batch archive refl
-    (behind ∙ ap (λ (l : List ℕ). batch_octets batch ++ l) (sym rest_is)) (omega (arith, there)) in
-    rw (lt-ltb gate (length file) there, eq-eqb (slice_index file gate) 165 first, read) refl
+    let rest_is = rest_behind (batch_octets batch) rest file (gate + 1) behind in
+    rw (
+      lt-ltb gate (length file) there,
+      eq-eqb (slice_index file gate) 165 first,
+      batch_again law grows before batch file (gate + 1) (gate + 1 + length (batch_octets batch))
+          all is_batch archive refl (cc (behind, rest_is)) (omega (arith, there)),
+    ) refl
 
 pub shut_again : (before : List Entry) (rest file : List ℕ) (gate shut : ℕ) → shut ≢ 165
     → drop gate file ≡ shut ∷ rest → gate < length file → gate_at before file gate ≡ Ok None
 unfolding gate_at
 shut_again before rest file gate shut closed is there =
-    let first : slice_index file gate ≡ shut =
-    ap (λ (l : List ℕ). slice_index l 0) (sym (drop_more file gate 0 there) ∙ is) in
+    let first : slice_index file gate ≡ shut = first_is shut rest file gate is there in
     let other : (slice_index file gate == 165) ≡ false = grind (arith, nat_tests, first, closed) in
     rw (lt-ltb gate (length file) there, other) refl
-
-pub ok_err : {A : Type 0} (x : A) (fault : JournalFault)
-    → ◌≡◌ {A = Result A JournalFault} (Ok x) (Err fault) → ⊥
-ok_err x fault e = cc
 
 pub not_past : (n : ℕ) (l : List ℕ) (x : ℕ) (xs : List ℕ) → drop n l ≡ x ∷ xs → n < length l
 not_past n l x xs is = omega (arith, ap length is, length-drop n l)
@@ -283,9 +258,12 @@ pub entries_behind : (entries whole : List Entry) (gate place : ℕ) (file rest 
     (follows : Follows led.batches stands.batches rest behind)
     → whole ≡ entries ++ joined follows.more
 entries_behind entries whole gate place file rest behind led stands follows =
-    stands.leads.entries_are ∙ ap joined follows.batches
-    ∙ joined-append led.batches follows.more
-    ∙ ap (λ (l : List Entry). l ++ joined follows.more) (sym led.leads.entries_are)
+    cc (
+      stands.leads.entries_are,
+      follows.batches,
+      joined-append led.batches follows.more,
+      led.leads.entries_are,
+    )
 
 -- a batch, or a gate that isn't open, is read where it stands
 read_there : ReadWhereSpelled → Grows → (before : List Entry) (more : List (List Entry))
@@ -300,7 +278,7 @@ read_there law grows before (b ∷ bs) file rest gate shut all each archive clos
       Some (before ++ b, (gate + 1) + length (batch_octets b)),
       open_again law grows before b (gated bs ++ shut ∷ rest) file gate all each.0
           (archive_front grows (before ++ b) (joined bs)
-          (subst IsArchive (sym (append_assoc before b (joined bs))) archive)) split
+          (rw append_assoc archive)) split
           (not_past gate file 165 (batch_octets b ++ (gated bs ++ shut ∷ rest)) split),
     )
 
@@ -314,11 +292,11 @@ damaged_stands_for_none law back grows place entries there file all damaged stan
     let read = read_there law grows damaged.entries follows.more file stands.rest damaged.gate
     stands.gate all
     (all_behind led.batches follows.more
-    (subst (AllByRecursion IsBatch) follows.batches stands.leads.each))
+    (rw follows.batches at stands.leads.each))
     (subst IsArchive (entries_behind damaged.entries entries damaged.gate there file
     (drop damaged.gate file) (stands.gate ∷ stands.rest) led stands follows) stands.leads.archive)
     stands.shut follows.octets in
-    ok_err read.0 (Damaged place) (sym read.1 ∙ damaged.fault)
+    cc (read.1, damaged.fault)
 
 -- and so does one that is no journal
 pub other_stands_for_none : (place : ℕ) (entries : List Entry) (there : ℕ) (file : List ℕ)
@@ -331,14 +309,9 @@ other_stands_for_none place entries there file other stands =
       ap length stands.is,
       length-append header behind,
     ) in
-    other.differs inside (ap (λ (l : List ℕ). slice_index l place) stands.is
-    ∙ get_or_append_left header behind 0 place other.inside)
+    other.differs inside (rw stands.is (get_or_append_left header behind 0 place other.inside))
 
 -- ---- one place
-
-damage_is : (p q : ℕ) → ◌≡◌ {A = Result (Option (List Entry × ℕ)) JournalFault} (Err (Damaged p))
-    (Err (Damaged q)) → p ≡ q
-damage_is p q e = cc
 
 module _ (law : ReadWhereSpelled) (back : ReadBack) (grows : Grows) (file : List ℕ)
     (all : AreOctets file) where
@@ -351,11 +324,12 @@ module _ (law : ReadWhereSpelled) (back : ReadBack) (grows : Grows) (file : List
       let split : drop gate file ≡ 165 ∷ (batch_octets batch ++ (gated others ++ rest)) = is
       ∙ ap (λ (l : List ℕ). 165 ∷ l) (append_assoc (batch_octets batch) (gated others) rest) in
       let front : IsArchive (before ++ batch) =
-      archive_front grows (before ++ batch) (joined others)
-      (subst IsArchive (sym (append_assoc before batch (joined others))) archive) in
-      ok_err (Some (before ++ batch, (gate + 1) + length (batch_octets batch))) fault
-      (sym (open_again law grows before batch (gated others ++ rest) file gate all is_batch front
-      split (not_past gate file 165 (batch_octets batch ++ (gated others ++ rest)) split)) ∙ e)
+      archive_front grows (before ++ batch) (joined others) (rw append_assoc archive) in
+      cc (
+        open_again law grows before batch (gated others ++ rest) file gate all is_batch front
+            split (not_past gate file 165 (batch_octets batch ++ (gated others ++ rest)) split),
+        e,
+      )
 
   one_damage : (one other : List (List Entry)) (before : List Entry) (g h p q : ℕ)
       → AllByRecursion IsBatch one → AllByRecursion IsBatch other
@@ -366,13 +340,13 @@ module _ (law : ReadWhereSpelled) (back : ReadBack) (grows : Grows) (file : List
       → gate_at (before ++ joined other) file h ≡ Err (Damaged q) → p ≡ q
   one_damage [] [] before g h p q first second a b same places e f =
       let gates : g ≡ h = omega (arith, places) in
-      damage_is p q (sym e ∙ ap (λ (n : ℕ). gate_at (before ++ []) file n) gates ∙ f)
+      cc
   one_damage [] (y ∷ ys) before g h p q first second a b same places e f =
       absurd (no_batch before y ys (drop h file) g (Damaged p) second.0 b same
-      (ap (λ (l : List Entry). gate_at l file g) (sym (append-nil before)) ∙ e))
+      (rw append-nil at e))
   one_damage (x ∷ xs) [] before g h p q first second a b same places e f =
       absurd (no_batch before x xs (drop g file) h (Damaged q) first.0 a (sym same)
-      (ap (λ (l : List Entry). gate_at l file h) (sym (append-nil before)) ∙ f))
+      (rw append-nil at f))
   one_damage (x ∷ xs) (y ∷ ys) before g h p q first second a b same places e f =
       let behind : batch_octets x ++ (gated xs ++ drop g file)
       ≡ batch_octets y ++ (gated ys ++ drop h file) =
@@ -381,9 +355,7 @@ module _ (law : ReadWhereSpelled) (back : ReadBack) (grows : Grows) (file : List
       let found = same_batch back x y (gated xs ++ drop g file) (gated ys ++ drop h file) first.0
       second.0 behind in
       one_damage xs ys (before ++ x) g h p q first.1 second.1
-      (subst IsArchive (sym (append_assoc before x (joined xs))) a)
-      (subst IsArchive (ap (λ (l : List Entry). before ++ (l ++ joined ys)) (sym found.0)
-      ∙ sym (append_assoc before x (joined ys))) b) found.1
+      (rw append_assoc a) (rw (append_assoc, found.0) b) found.1
       (omega (
         arith,
         places,
@@ -391,21 +363,17 @@ module _ (law : ReadWhereSpelled) (back : ReadBack) (grows : Grows) (file : List
         length-append (batch_octets x) (gated xs),
         length-append (batch_octets y) (gated ys),
       ))
-      (ap (λ (l : List Entry). gate_at l file g) (append_assoc before x (joined xs)) ∙ e)
-      (ap (λ (l : List Entry). gate_at l file h) (append_assoc before x (joined ys)
-      ∙ ap (λ (l : List Entry). before ++ (l ++ joined ys)) found.0) ∙ f)
+      (rw append_assoc e) (rw (append_assoc, found.0) f)
 
 pub one_place : ReadWhereSpelled → ReadBack → Grows → (p q : ℕ) (file : List ℕ) → AreOctets file
     → IsDamagedAt p file → IsDamagedAt q file → p ≡ q
 one_place law back grows p q file all first second =
     one_damage law back grows file all first.led.batches second.led.batches [] first.gate
     second.gate p q first.led.leads.each second.led.leads.each
-    (subst IsArchive first.led.leads.entries_are first.led.leads.archive)
-    (subst IsArchive second.led.leads.entries_are second.led.leads.archive)
+    (rw first.led.leads.entries_are at first.led.leads.archive)
+    (rw second.led.leads.entries_are at second.led.leads.archive)
     (same_rest header (gated first.led.batches ++ drop first.gate file)
     (gated second.led.batches ++ drop second.gate file) (sym first.led.is ∙ second.led.is))
     (omega (arith, first.led.leads.there, second.led.leads.there))
-    (ap (λ (l : List Entry). gate_at l file first.gate) (sym first.led.leads.entries_are)
-    ∙ first.fault)
-    (ap (λ (l : List Entry). gate_at l file second.gate) (sym second.led.leads.entries_are)
-    ∙ second.fault)
+    (rw first.led.leads.entries_are at first.fault)
+    (rw second.led.leads.entries_are at second.fault)

@@ -2,10 +2,9 @@
 use Rattle.std.proofs.Common.{◌≡◌, ◌≢◌, ◌⊎◌, ℕ, zero, suc, ◌+◌, ◌-◌, ◌≤◌, true, List, []}
 use Rattle.std.proofs.Common.{◌∷◌, ◌++◌, length, drop, Option, Some, None, IfSome}
 use Rattle.std.proofs.Common.{Result, Ok, Err}
-use Rattle.std.proofs.Common.{refl, sym, ap, subst, ◌∙◌, arith, append_assoc}
-use Rattle.std.specs.List.{AllByRecursion, list_all}
+use Rattle.std.proofs.Common.{refl, sym, ap, subst, ◌∙◌, arith}
+use Rattle.std.specs.List.{list_all}
 use Rattle.std.proofs.lemmas.List.{drop_at, drop-drop}
-use Rattle.std.proofs.lemmas.List.Concat.{flat_map-cons}
 use Rattle.archive_terms.specs.Archive.{Entry, IsArchive, is_storable}
 use Rattle.disk_model.specs.Images.{Pending}
 use Rattle.disk_model.specs.Moments.{Reads}
@@ -13,15 +12,16 @@ use Rattle.record_form.specs.Spelling.{entry_octets}
 use Rattle.record_form.specs.Reading.{AreOctets, ReadWhereSpelled, ReadBack, entry_from}
 use Rattle.gate_journal.specs.declared.fault.JournalFault.{JournalFault}
 use Rattle.gate_journal.specs.declared.order.Times.{Times}
-use Rattle.gate_journal.specs.File.{IsBatch, StandsAt, entries_octets, batch_octets}
+use Rattle.gate_journal.specs.File.{StandsAt, entries_octets, batch_octets}
 use Rattle.gate_journal.specs.Order.{Knows}
 use Rattle.gate_journal.specs.Passing.{PassedGate}
 use Rattle.gate_journal.specs.Reading.{LedTo, gate_at, count_at}
 use Rattle.gate_journal.specs.Batches.{BatchesState, Passed, StandsForSome, HoldsBatch}
 use Rattle.gate_journal.specs.Batches.{entries_in, batch_in}
 use Rattle.gate_journal.proofs.Growth.{Grows, Opened, opened, led_more, shut_there, stands_shut}
-use Rattle.gate_journal.proofs.Again.{behind_led, entries_behind, all_behind, ok_err, not_past}
-use Rattle.gate_journal.proofs.Again.{both, count_is, behind_count}
+use Rattle.gate_journal.proofs.Again.{behind_led, entries_behind, all_behind, not_past}
+use Rattle.gate_journal.proofs.Again.{count_is, behind_count}
+use Rattle.gate_journal.proofs.Unique.{both, regroup}
 use Rattle.gate_journal.proofs.Windows.{open_shown, shut_shown, read_shown}
 
 abbrev pub standing : ℕ → ℕ → Times → List ℕ → List Entry → BatchesState
@@ -45,12 +45,8 @@ unfolding entries_in
 spelled_in back [] rest storable = refl
 spelled_in back (e ∷ batch) rest storable =
     let each = both (is_storable e) (list_all is_storable batch) storable in
-    let split : entries_octets (e ∷ batch) ++ rest
-    ≡ entry_octets e ++ (entries_octets batch ++ rest) =
-    ap (λ (l : List ℕ). l ++ rest) (flat_map-cons entry_octets e batch)
-    ∙ append_assoc (entry_octets e) (entries_octets batch) rest in
     rw (
-      split,
+      regroup e batch rest,
       back e (entries_octets batch ++ rest) each.0,
       drop_at (entry_octets e) (entries_octets batch ++ rest) (length (entry_octets e)) refl,
     )
@@ -83,112 +79,105 @@ read_as_it_is law grows back entries after file gate end all archive e =
     found.after_is ∙ ap (λ (b : List Entry). entries ++ b)
     (sym (batch_read law grows back entries after file gate end found all))
 
--- what was passed before the next batch was brought into memory
-pub still_passed : (pending : Option Pending) (entries : List Entry) (old now : BatchesState)
+-- the octets in memory as a slice, behind entries that were passed
+pub record Sliced (pending : Option Pending) (entries : List Entry) (start at : ℕ) (times : Times)
+    (slice : List ℕ) (last : List Entry) : Type 0 where
+  pub within : at ≤ length slice
+  pub passed : Passed pending entries (standing start at times slice last)
+
+-- as it is once the next batch was brought into memory
+pub sliced : {pending : Option Pending} {entries : List Entry} {old now : BatchesState}
+    {start : ℕ} {times : Times} {room slice : List ℕ} {last : List Entry} (at : ℕ)
     → now.gate ≡ old.gate → now.times ≡ old.times
     → (Reads pending old.start old.room → Reads pending now.start now.room)
-    → Passed pending entries old → Passed pending entries now
-still_passed pending entries old now gate times room passed = record {
-  knows = subst (λ (t : Times). Knows entries (Some t)) (sym times) passed.knows;
-  led = subst (λ (g : ℕ). IfSome pending (λ told. LedTo g entries told.content)) (sym gate)
-      passed.led;
-  room = room passed.room;
+    → standing start at times room last ≡ now → slice ≡ room → at ≤ length room
+    → Passed pending entries old → Sliced pending entries start at times slice last
+sliced {pending} {entries} at gate times room is same within passed = record {
+  within = rw same within;
+  passed = rw same (subst (Passed pending entries) (sym is) (record {
+    knows = rw times passed.knows;
+    led = rw gate passed.led;
+    room = room passed.room;
+  }));
 }
 
--- the octets in memory, as a slice
-pub as_slice : (pending : Option Pending) (entries : List Entry) (now : BatchesState)
-    (start at : ℕ) (times : Times) (room slice : List ℕ) (last : List Entry)
-    → standing start at times room last ≡ now → slice ≡ room → Passed pending entries now
-    → Passed pending entries (standing start at times slice last)
-as_slice pending entries now start at times room slice last is same passed =
-    subst (λ (l : List ℕ). Passed pending entries (standing start at times l last)) (sym same)
-    (subst (Passed pending entries) (sym is) passed)
-
 -- and what they hold
-pub holds_there : (now : BatchesState) (start at : ℕ) (times : Times) (room slice : List ℕ)
-    (last : List Entry) (extent : ℕ) → standing start at times room last ≡ now → slice ≡ room
+pub holds_there : {now : BatchesState} {start : ℕ} {times : Times} {room slice : List ℕ}
+    {last : List Entry} (at extent : ℕ) → standing start at times room last ≡ now → slice ≡ room
     → HoldsBatch now.room (now.gate - now.start) ⊎ (extent ≤ now.start + length now.room)
     → HoldsBatch slice at ⊎ (extent ≤ start + length slice)
-holds_there now start at times room slice last extent is same holds =
+holds_there {start = start} at extent is same holds =
     let there : (start + at) - start ≡ at = omega arith in
     rw (same, ← there)
     (subst (λ (s : BatchesState). HoldsBatch s.room (s.gate - s.start)
     ⊎ (extent ≤ s.start + length s.room)) (sym is) holds)
 
-module _ (law : ReadWhereSpelled) (grows : Grows) (start at : ℕ) (times : Times) (room : List ℕ)
-    (last : List Entry) (within : at ≤ length room) (pending : Option Pending)
-    (entries : List Entry)
-    (passed : Passed pending entries (standing start at times room last)) where
+module _ (law : ReadWhereSpelled) (grows : Grows) {pending : Option Pending} {entries : List Entry}
+    {start at : ℕ} {times : Times} {room : List ℕ} {last : List Entry}
+    (there : Sliced pending entries start at times room last) where
   -- the next gate isn't open
   pub shut_next : gate_at entries room at ≡ Ok None
       → IfSome pending (λ told. StandsAt entries (start + at) told.content)
-  shut_next e = by_told pending passed
+  shut_next e = by_told pending there.passed
     where
       by_told : (p : Option Pending) → Passed p entries (standing start at times room last)
           → IfSome p (λ told. StandsAt entries (start + at) told.content)
       by_told None has = tt
       by_told (Some told) has =
           let shut = shut_there entries room at e in
-          let shown = shut_shown told.content room start at has.room within shut.0 in
-          stands_shut entries told.content (start + at) has.led shown.0
-          (λ same. shut.1 (sym shown.1 ∙ same))
+          let shown = shut_shown told.content room start at has.room there.within shut.0 in
+          stands_shut entries told.content (start + at) has.led shown.0 (rw (← shown.1) at shut.1)
 
-  module _ (all : AreOctets room) where
+  module _ (all : AreOctets room) (back : ReadBack) where
     -- the next batch stands behind what was passed, and is what the octets in memory have there
-    pub batch_next : ReadBack → (new : Option Pending) (after : List Entry) (next : Times) (end : ℕ)
+    pub batch_next : (new : Option Pending) (after : List Entry) (next : Times) (end : ℕ)
         → new ≡ pending → gate_at entries room at ≡ Ok (Some (after, end)) → end ≤ length room
         → Knows after (Some next)
         → Passed new (entries ++ batch_in room (Some at))
         (standing start end next room (batch_in room (Some at)))
-    batch_next back new after next end same e inside knows =
+    batch_next new after next end same e inside knows =
         let after_is : after ≡ entries ++ batch_in room (Some at) =
-        read_as_it_is law grows back entries after room at end all passed.knows.0 e in
-        subst (λ (p : Option Pending). Passed p (entries ++ batch_in room (Some at))
-        (standing start end next room (batch_in room (Some at)))) (sym same) (record {
-          knows = subst (λ (l : List Entry). Knows l (Some next)) after_is knows;
-          led = subst (λ (l : List Entry).
-              IfSome pending (λ told. LedTo (start + end) l told.content))
-              after_is (led_by pending passed);
-          room = passed.room;
+        read_as_it_is law grows back entries after room at end all there.passed.knows.0 e in
+        rw same (record {
+          knows = rw after_is at knows;
+          led = rw after_is at (led_by pending there.passed);
+          room = there.passed.room;
         })
       where
         led_by : (p : Option Pending) → Passed p entries (standing start at times room last)
             → IfSome p (λ told. LedTo (start + end) after told.content)
         led_by None has = tt
         led_by (Some told) has =
-            let found = opened law grows entries room at after end all passed.knows.0 e in
-            subst (λ (l : List Entry). LedTo (start + end) l told.content)
-            (sym found.after_is)
+            let found = opened law grows entries room at after end all there.passed.knows.0 e in
+            rw found.after_is
             (led_more entries found.batch told.content (start + at) (start + end) has.led
-            found.is_batch (subst IsArchive found.after_is found.archive)
-            (omega (arith, found.ends))
-            (open_shown told.content room start at has.room within entries after end found inside))
+            found.is_batch (rw found.after_is at found.archive) (omega (arith, found.ends))
+            (open_shown told.content room start at has.room there.within entries after end found
+            inside))
 
     -- what the file has there, where it stands for entries, is read
-    pub none_next : ReadBack → (extent : ℕ) (fault : JournalFault)
+    pub none_next : (extent : ℕ) (fault : JournalFault)
         → IfSome pending (λ told. extent ≡ length told.content)
         → HoldsBatch room at ⊎ (extent ≤ start + length room)
         → gate_at entries room at ≡ Err fault → StandsForSome pending → ⊥
-    none_next back extent fault size holds e stands = by_told pending size passed stands
+    none_next extent fault size holds e stands = by_told pending size there.passed stands
       where
         by_told : (p : Option Pending) → IfSome p (λ told. extent ≡ length told.content)
             → Passed p entries (standing start at times room last) → StandsForSome p → ⊥
         by_told None size has stands = stands
         by_told (Some told) size has stands =
             let whole = stands.0 in
-            let place = stands.1.0 in
             let at_place = stands.1.1 in
-            let follows = behind_led back entries whole (start + at) place told.content has.led
+            let follows = behind_led back entries whole (start + at) stands.1.0 told.content has.led
             at_place in
-            let read = read_shown told.content room start at has.room within law grows all
+            let read = read_shown told.content room start at has.room there.within law grows all
             (subst (λ (n : ℕ). HoldsBatch room at ⊎ (n ≤ start + length room)) size holds) entries
             follows.more at_place.rest at_place.gate
-            (all_behind has.led.batches follows.more
-            (subst (AllByRecursion IsBatch) follows.batches at_place.leads.each))
-            (subst IsArchive (entries_behind entries whole (start + at) place told.content
+            (all_behind has.led.batches follows.more (rw follows.batches at at_place.leads.each))
+            (subst IsArchive (entries_behind entries whole (start + at) stands.1.0 told.content
             (drop (start + at) told.content) (at_place.gate ∷ at_place.rest) has.led at_place
             follows) at_place.leads.archive) at_place.shut follows.octets in
-            ok_err read.0 fault (sym read.1 ∙ e)
+            cc (read.1, e)
 
 -- what a call found at a gate
 pub gate_is : {found known : Option (Times × ℕ)}

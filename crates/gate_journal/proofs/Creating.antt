@@ -1,7 +1,7 @@
 -- A new journal on an empty disk.
 use Rattle.std.proofs.Common.{◌≡◌, ℕ, ◌≤◌, List, [], ◌∷◌, ◌++◌, length, Option, Some, None}
 use Rattle.std.proofs.Common.{IfSome, option_map, Result, Ok, Err, OnOk, is_err, false, refl, sym}
-use Rattle.std.proofs.Common.{ap, subst, ◌∙◌, arith}
+use Rattle.std.proofs.Common.{ap, ◌∙◌, arith}
 use Rattle.std.proofs.lemmas.List.{nil_from_length}
 use Rattle.disk_model.specs.Images.{Pending, all_synced, overwritten, with_range}
 use Rattle.disk_model.specs.Images.{written_and_synced}
@@ -44,10 +44,7 @@ pub new_keeps : (old new : Option Pending) (extent : ℕ)
     → new ≡ option_map (written_and_synced 0 new_octets) old
     → IfSome old (λ _. Keeps new [])
 new_keeps (Some told) new extent size empty is =
-    subst (λ (p : Option Pending). Keeps p []) (sym (written told extent new size empty is)) (
-      refl,
-      (8, new_stands),
-    )
+    rw (written told extent new size empty is) (refl, (8, new_stands))
 new_keeps None new extent size empty is = tt
 
 pub new_rests : (old new : Option Pending) (extent : ℕ)
@@ -55,9 +52,8 @@ pub new_rests : (old new : Option Pending) (extent : ℕ)
     → new ≡ option_map (written_and_synced 0 new_octets) old
     → IsAtRest new 8
 new_rests (Some told) new extent size empty is =
-    subst (λ (p : Option Pending). IsAtRest p 8) (sym (written told extent new size empty is))
-    (refl, [], new_stands)
-new_rests None new extent size empty is = subst (λ (p : Option Pending). IsAtRest p 8) (sym is) tt
+    rw (written told extent new size empty is) (refl, [], new_stands)
+new_rests None new extent size empty is = rw is tt
 
 -- what follows from the success follows where there was no error
 pub if_good : {T E P : Type 0} → (result : Result T E) → is_err result ≡ false → OnOk result P → P

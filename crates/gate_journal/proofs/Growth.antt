@@ -22,9 +22,10 @@ use Rattle.gate_journal.specs.declared.fault.JournalFault.{JournalFault}
 use Rattle.gate_journal.specs.declared.fault.JournalFault.TheVariants.{Damaged}
 use Rattle.gate_journal.specs.File.{header, entries_octets, batch_octets, IsBatch, gated, joined}
 use Rattle.gate_journal.specs.File.{StandsAt}
-use Rattle.gate_journal.specs.Reading.{◌>>=◌, with_next, first_fault, next_entry, entries_at}
-use Rattle.gate_journal.specs.Reading.{ending_at, lesser, size_at, count_at, batch_at, gate_at}
+use Rattle.gate_journal.specs.Reading.{◌>>=◌, with_next, next_entry, entries_at}
+use Rattle.gate_journal.specs.Reading.{ending_at, size_at, count_at, batch_at, gate_at}
 use Rattle.gate_journal.specs.Reading.{LedTo}
+use Rattle.gate_journal.proofs.Unique.{regroup, in_front}
 
 -- ---- readings that answer Ok
 
@@ -33,26 +34,21 @@ bind_ok : {A B : Type 0} (r : Result A JournalFault) (f : A → Result B Journal
 bind_ok (Ok x) f y e = (x, refl, e)
 bind_ok (Err fault) f y e = cc
 
-ok_is : {A : Type 0} (x y : A) → ◌≡◌ {A = Result A JournalFault} (Ok x) (Ok y) → x ≡ y
-ok_is x y e = cc
-
-err_ok : {A : Type 0} (fault : JournalFault) (x : A)
-    → ◌≡◌ {A = Result A JournalFault} (Err fault) (Ok x) → ⊥
-err_ok fault x e = cc
-
 good : {A : Type 0} (test : Bool) (r : Result A JournalFault) (fault : JournalFault) (x : A)
     → (if test then r else Err fault) ≡ Ok x → (test ≡ true) × (r ≡ Ok x)
 good true r fault x e = (refl, e)
-good false r fault x e = absurd (err_ok fault x e)
+good false r fault x e = cc
 
 no_fault : {A : Type 0} (test : Bool) (r : Result A JournalFault) (fault : JournalFault) (x : A)
     → (if test then Err fault else r) ≡ Ok x → (test ≡ false) × (r ≡ Ok x)
-no_fault true r fault x e = absurd (err_ok fault x e)
+no_fault true r fault x e = cc
 no_fault false r fault x e = (refl, e)
 
-both : (a b : Bool) → (a && b) ≡ true → (a ≡ true) × (b ≡ true)
-both true b e = (refl, e)
-both false b e = absurd (cc)
+both_are : {S : Type 0} {a c : S} {b d : ℕ}
+    → ◌≡◌ {A = Result (S × ℕ) JournalFault} (Ok (a, b)) (Ok (c, d)) → (a ≡ c) × (b ≡ d)
+both_are {S} {a} {c} {b} {d} e =
+    let same : ◌≡◌ {A = S × ℕ} (a, b) (c, d) = cc in
+    (ap (λ (p : S × ℕ). p.0) same, ap (λ (p : S × ℕ). p.1) same)
 
 -- ---- entries
 
@@ -81,20 +77,16 @@ with_next_ok : (before : List Entry) (file : List ℕ) (place : ℕ)
     → with_next before file place read ≡ Ok (after, end)
     → (entry : Entry) × One before after entry file place end
 with_next_ok before file place (Ok read) after end law e =
-    let found = good (keeps_order before read.0) (Ok (before ++ read.0 ∷ [], read.1))
-    (Damaged (place + 1)) (after, end) e in
-    let made : ◌≡◌ {A = List Entry × ℕ} (before ++ read.0 ∷ [], read.1) (after, end) =
-    ok_is (before ++ read.0 ∷ [], read.1) (after, end) found.1 in (
+    let found = good (keeps_order before read.0) _ (Damaged (place + 1)) (after, end) e in
+    let made = both_are found.1 in (
       read.0,
       record {
-        after_is = sym (ap (λ (p : List Entry × ℕ). p.0) made);
+        after_is = sym made.0;
         in_order = found.0;
-        stands = subst (StandsFrom place file read.0) (ap (λ (p : List Entry × ℕ). p.1) made)
-            (law read.0 read.1 refl);
+        stands = subst (StandsFrom place file read.0) made.1 (law read.0 read.1 refl);
       },
     )
-with_next_ok before file place (Err fault) after end law e =
-    absurd (err_ok (Damaged (first_fault before file place fault)) (after, end) e)
+with_next_ok before file place (Err fault) after end law e = cc
 
 next_ok : ReadWhereSpelled → (before : List Entry) (file : List ℕ) (place : ℕ) (after : List Entry)
     (end : ℕ) → AreOctets file
@@ -118,19 +110,16 @@ entries_ok : ReadWhereSpelled → Grows
     → Stand before after count file place end × IsArchive after
 unfolding entries_at
 entries_ok law grows zero before file place after end all archive e =
-    let made : ◌≡◌ {A = List Entry × ℕ} (before, place) (after, end) =
-    ok_is (before, place) (after, end) e in
-    let after_is : before ≡ after = ap (λ (p : List Entry × ℕ). p.0) made in
-    let end_is : place ≡ end = ap (λ (p : List Entry × ℕ). p.1) made in (
+    let made = both_are e in (
       record {
         batch = [];
-        after_is = sym after_is ∙ sym (append-nil before);
+        after_is = sym made.0 ∙ sym (append-nil before);
         count_is = refl;
         storable = refl;
-        ends = omega (arith, end_is);
-        spelled = ap (λ (n : ℕ). drop n file) end_is;
+        ends = omega (arith, made.1);
+        spelled = rw made.1 refl;
       },
-      subst IsArchive after_is archive,
+      subst IsArchive made.0 archive,
     )
 entries_ok law grows (suc count) before file place after end all archive e =
     let next = bind_ok (next_entry before file place) (λ read. entries_at count read.0 file read.1)
@@ -143,8 +132,7 @@ entries_ok law grows (suc count) before file place after end all archive e =
     let more = rest.0.batch in (
       record {
         batch = entry ∷ more;
-        after_is = rest.0.after_is ∙ ap (λ (l : List Entry). l ++ more) one.1.after_is
-            ∙ append_assoc before (entry ∷ []) more;
+        after_is = cc (rest.0.after_is, one.1.after_is, append_assoc before (entry ∷ []) more);
         count_is = ap suc rest.0.count_is;
         storable = rw (one.1.stands.storable) rest.0.storable;
         ends = omega (
@@ -154,10 +142,11 @@ entries_ok law grows (suc count) before file place after end all archive e =
           ap length (flat_map-cons entry_octets entry more),
           length-append (entry_octets entry) (entries_octets more),
         );
-        spelled = one.1.stands.spelled ∙ ap (λ (l : List ℕ). entry_octets entry ++ l) rest.0.spelled
-            ∙ sym (append_assoc (entry_octets entry) (entries_octets more) (drop end file))
-            ∙ ap (λ (l : List ℕ). l ++ drop end file)
-            (sym (flat_map-cons entry_octets entry more));
+        spelled = cc (
+          one.1.stands.spelled,
+          rest.0.spelled,
+          regroup entry more (drop end file),
+        );
       },
       rest.1,
     )
@@ -170,8 +159,9 @@ taken_octets n place file all k =
       | inl below ↦ rw (get_or-take n (drop place file) k 0 below, get_or-drop) (all (place + k))
       | inr past ↦ omega (
         arith,
-        get_or_past (take n (drop place file)) k 0
-            (omega (arith, length-take n (drop place file))),
+        length-take n (drop place file),
+        get_or_past (take n (drop place
+            file)) k 0,
       )
     ]
 
@@ -179,9 +169,8 @@ ending_ok : (stated : ℕ) (r : Result (List Entry × ℕ) JournalFault) (after 
     → ending_at stated r ≡ Ok (after, end) → (r ≡ Ok (after, end)) × (end ≡ stated)
 ending_ok stated (Ok read) after end e =
     let found = good (read.1 == stated) (Ok read) (Damaged (min read.1 stated)) (after, end) e in
-    let read_is : read ≡ (after, end) = ok_is read (after, end) found.1 in
-    (found.1, sym (ap (λ (p : List Entry × ℕ). p.1) read_is) ∙ eqb-true read.1 stated found.0)
-ending_ok stated (Err fault) after end e = absurd (err_ok (lesser stated fault) (after, end) e)
+    (found.1, cc (found.1, eqb-true read.1 stated found.0))
+ending_ok stated (Err fault) after end e = cc
 
 between : (n : ℕ) → (nat_le 1 n && nat_le n 256) ≡ true → (1 ≤ n) × (n ≤ 256)
 between n e = (grind (arith, nat_tests), grind (arith, nat_tests))
@@ -197,15 +186,14 @@ pub record Batch (before after : List Entry) (file : List ℕ) (place end : ℕ)
 in_three : (file : List ℕ) (place : ℕ) → drop place file
     ≡ take 4 (drop place file) ++ (take 2 (drop (place + 4) file) ++ drop (place + 6) file)
 in_three file place =
-    let behind : drop 2 (drop (place + 4) file) ≡ drop (place + 6) file =
-    drop-drop 2 (place + 4) file ∙ ap (λ (n : ℕ). drop n file) (omega arith) in
-    sym (take-append-drop 4 (drop place file))
-    ∙ ap (λ (l : List ℕ). take 4 (drop place file) ++ l)
-    (drop-drop 4 place file ∙ sym (take-append-drop 2 (drop (place + 4) file))
-    ∙ ap (λ (l : List ℕ). take 2 (drop (place + 4) file) ++ l) behind)
-
-parts : (a x b y c z : List ℕ) → a ≡ x → b ≡ y → c ≡ z → a ++ (b ++ c) ≡ x ++ (y ++ z)
-parts a x b y c z p q r = rw (p, q, r) refl
+    let behind : place + 4 + 2 ≡ place + 6 = omega arith in
+    cc (
+      take-append-drop 4 (drop place file),
+      drop-drop 4 place file,
+      take-append-drop 2 (drop (place + 4) file),
+      drop-drop 2 (place + 4) file,
+      behind,
+    )
 
 batch_ok : ReadWhereSpelled → Grows
     → (before : List Entry) (file : List ℕ) (place : ℕ) (after : List Entry) (end : ℕ)
@@ -246,12 +234,13 @@ batch_ok law grows before file place after end all archive e =
         };
         after_is = read.0.after_is;
         ends = omega (arith, read.0.ends);
-        spelled = in_three file place ∙ parts _ _ _ _ _ _ (sym size) (sym count) read.0.spelled
-            ∙ sym (append_assoc (to_be_bytes w32 (length (entries_octets batch)))
-            (to_be_bytes w16 (length batch) ++ entries_octets batch) (drop end file)
-            ∙ ap (λ (l : List ℕ). to_be_bytes w32 (length (entries_octets batch)) ++ l)
-            (append_assoc (to_be_bytes w16 (length batch)) (entries_octets batch)
-            (drop end file)));
+        spelled = cc (
+          in_three file place,
+          size,
+          count,
+          read.0.spelled,
+          in_front batch (drop end file),
+        );
       },
       read.1,
     )
@@ -262,33 +251,27 @@ gated-append : (batches more : List (List Entry))
     → gated (batches ++ more) ≡ gated batches ++ gated more
 gated-append [] more = refl
 gated-append (batch ∷ batches) more =
-    ap (λ (l : List ℕ). 165 ∷ l) (ap (λ (l : List ℕ). batch_octets batch ++ l)
-    (gated-append batches more) ∙ sym (append_assoc (batch_octets batch) (gated batches)
-    (gated more)))
+    rw (gated-append batches more, append_assoc (batch_octets batch) (gated batches) (gated more))
+    refl
 
 pub joined-append : (batches more : List (List Entry))
     → joined (batches ++ more) ≡ joined batches ++ joined more
 joined-append [] more = refl
-joined-append (batch ∷ batches) more = ap (λ (l : List Entry). batch ++ l)
-    (joined-append batches more) ∙ sym (append_assoc batch (joined batches) (joined more))
+joined-append (batch ∷ batches) more =
+    rw (joined-append batches more, append_assoc batch (joined batches) (joined more)) refl
 
 pub all-append : (batches : List (List Entry)) (batch : List Entry) → AllByRecursion IsBatch batches
     → IsBatch batch → AllByRecursion IsBatch (batches ++ batch ∷ [])
 all-append [] batch all is = (is, tt)
 all-append (first ∷ batches) batch all is = (all.0, all-append batches batch all.1 is)
 
-one_gated : (batch : List Entry) → gated (batch ∷ []) ≡ 165 ∷ batch_octets batch
-one_gated batch = ap (λ (l : List ℕ). 165 ∷ l) (append-nil (batch_octets batch))
-
 pub gated_more : (batches : List (List Entry)) (batch : List Entry)
     → gated (batches ++ batch ∷ []) ≡ gated batches ++ 165 ∷ batch_octets batch
-gated_more batches batch = gated-append batches (batch ∷ [])
-    ∙ ap (λ (l : List ℕ). gated batches ++ l) (one_gated batch)
+gated_more batches batch = cc (gated-append batches (batch ∷ []), append-nil (batch_octets batch))
 
 pub joined_more : (batches : List (List Entry)) (batch : List Entry)
     → joined (batches ++ batch ∷ []) ≡ joined batches ++ batch
-joined_more batches batch = joined-append batches (batch ∷ [])
-    ∙ ap (λ (l : List Entry). joined batches ++ l) (append-nil batch)
+joined_more batches batch = cc (joined-append batches (batch ∷ []), append-nil batch)
 
 pub led_at_first : (file : List ℕ) → IsArchive [] → file ≡ header ++ drop 8 file → LedTo 8 [] file
 led_at_first file archive is = record {
@@ -297,24 +280,18 @@ led_at_first file archive is = record {
   is = is;
 }
 
-some_is : (x y : List Entry × ℕ) → ◌≡◌ {A = Option (List Entry × ℕ)} (Some x) (Some y) → x ≡ y
-some_is x y e = cc
-
-none_some : (x : List Entry × ℕ) → ◌≡◌ {A = Option (List Entry × ℕ)} None (Some x) → ⊥
-none_some x e = cc
-
 abbrev some_read : List Entry × ℕ → Result (Option (List Entry × ℕ)) JournalFault
 some_read read = Ok (Some read)
 
 open_gate : (test : Bool) (r : Result (Option (List Entry × ℕ)) JournalFault) (x : List Entry × ℕ)
     → (if test then r else Ok None) ≡ Ok (Some x) → (test ≡ true) × (r ≡ Ok (Some x))
 open_gate true r x e = (refl, e)
-open_gate false r x e = absurd (none_some x (ok_is None (Some x) e))
+open_gate false r x e = cc
 
 closed_gate : (test : Bool) (r : Result (List Entry × ℕ) JournalFault)
     → (if test then (r >>= some_read) else Ok None) ≡ Ok None → test ≡ false
-closed_gate true (Ok read) e = absurd (none_some read (sym (ok_is (Some read) None e)))
-closed_gate true (Err fault) e = absurd (err_ok {A = Option (List Entry × ℕ)} fault None e)
+closed_gate true (Ok read) e = cc
+closed_gate true (Err fault) e = cc
 closed_gate false r e = refl
 
 -- a batch stands behind an open gate, and entries with those of the batch are an archive
@@ -338,20 +315,14 @@ opened law grows before file gate after end all archive e =
     (batch_at before file (gate + 1) >>= some_read) (after, end) inside.1 in
     let is_open : slice_index file gate ≡ 165 = eqb-true (slice_index file gate) 165 gate_is.0 in
     let read = bind_ok (batch_at before file (gate + 1)) some_read (Some (after, end)) gate_is.1 in
-    let read_is : read.0 ≡ (after, end) = some_is read.0 (
-      after,
-      end,
-    ) (ok_is (Some read.0) (Some (after, end)) read.2) in
-    let found = batch_ok law grows before file (gate + 1) after end all archive (read.1
-    ∙ ap (λ (x : List Entry × ℕ). Ok x) read_is) in
+    let found = batch_ok law grows before file (gate + 1) after end all archive
+    (cc (read.1, read.2)) in
     record {
       batch = found.0.batch;
       is_batch = found.0.is_batch;
       after_is = found.0.after_is;
       ends = found.0.ends;
-      spelled = drop_more file gate 0 there
-          ∙ ap (λ (octet : ℕ). octet ∷ drop (gate + 1) file) is_open
-          ∙ ap (λ (l : List ℕ). 165 ∷ l) found.0.spelled;
+      spelled = cc (drop_more file gate 0 there, is_open, found.0.spelled);
       archive = found.1;
     }
 
@@ -367,8 +338,7 @@ led_more entries batch file gate end led is_batch archive ends behind =
       batches = led.batches ++ batch ∷ [];
       leads = record {
         each = all-append led.batches batch led.leads.each is_batch;
-        entries_are = ap (λ (l : List Entry). l ++ batch) led.leads.entries_are
-            ∙ sym (joined_more led.batches batch);
+        entries_are = cc (led.leads.entries_are, joined_more led.batches batch);
         archive = archive;
         there = ends ∙ omega (
           arith,
@@ -377,10 +347,7 @@ led_more entries batch file gate end led is_batch archive ends behind =
           length-append (gated led.batches) (165 ∷ batch_octets batch),
         );
       };
-      is = led.is ∙ ap (λ (l : List ℕ). header ++ (gated led.batches ++ l)) behind
-          ∙ ap (λ (l : List ℕ). header ++ l) (sym
-          (append_assoc (gated led.batches) (165 ∷ batch_octets batch) (drop end file))
-          ∙ ap (λ (l : List ℕ). l ++ drop end file) (sym more));
+      is = led.is ∙ rw (behind, more, append_assoc (gated led.batches)) refl;
     }
 
 pub led_on : ReadWhereSpelled → Grows
@@ -389,9 +356,8 @@ pub led_on : ReadWhereSpelled → Grows
     → gate_at entries file gate ≡ Ok (Some (after, end)) → LedTo end after file
 led_on law grows entries file gate after end all led e =
     let found = opened law grows entries file gate after end all led.leads.archive e in
-    subst (λ (l : List Entry). LedTo end l file) (sym found.after_is)
-    (led_more entries found.batch file gate end led found.is_batch
-    (subst IsArchive found.after_is found.archive) found.ends found.spelled)
+    rw found.after_is (led_more entries found.batch file gate end led found.is_batch
+    (rw found.after_is at found.archive) found.ends found.spelled)
 
 eqb_false : (a b : ℕ) → (a == b) ≡ false → a ≢ b
 eqb_false a b e same = grind (arith, nat_tests)
@@ -415,8 +381,7 @@ stands_shut entries file gate led there shut = record {
   rest = drop (gate + 1) file;
   leads = led.leads;
   shut = shut;
-  is = led.is ∙ ap (λ (l : List ℕ). header ++ (gated led.batches ++ l))
-      (drop_more file gate 0 there);
+  is = led.is ∙ rw (drop_more file gate 0 there) refl;
 }
 
 pub stands_there : (entries : List Entry) (file : List ℕ) (gate : ℕ) → LedTo gate entries file

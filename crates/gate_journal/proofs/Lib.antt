@@ -9,6 +9,7 @@ pub mod Adding
 pub mod Storable
 pub mod Journals
 pub mod Creating
+pub mod Parts
 pub mod Passed
 pub mod Following
 pub mod Again

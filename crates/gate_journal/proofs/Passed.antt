@@ -1,6 +1,6 @@
 -- Passing over entries one after another.
 use Rattle.std.proofs.Common.{◌≡◌, ℕ, ◌+◌, ◌<◌, ◌≤◌, List, [], ◌∷◌, ◌++◌, length, take, get_or}
-use Rattle.std.proofs.Common.{Option, Some, None, is_some, Ok, Err, Bool, true, false, ◌&&◌}
+use Rattle.std.proofs.Common.{Option, Some, None, is_some, Ok, Err, true, false}
 use Rattle.std.proofs.Common.{refl, sym, ap, subst, ◌∙◌, append_assoc}
 use Rattle.std.proofs.lemmas.List.{take_more, take_all, map_push}
 use Rattle.archive_terms.specs.Archive as terms
@@ -30,10 +30,7 @@ pub passed_one : (earlier : List terms.Entry) (entries : List Entry) (i : ℕ) (
     → Knows ((earlier ++ entries_of (take i entries)) ++ entry_of entry ∷ []) times
     → Knows (earlier ++ entries_of (take (i + 1) entries)) times
 passed_one earlier entries i entry times there is knows =
-    subst (λ (l : List terms.Entry). Knows l times)
-    (append_assoc earlier (entries_of (take i entries)) (entry_of entry ∷ [])
-    ∙ ap (λ (l : List terms.Entry). earlier ++ l) (sym (one_more entries i entry there is)))
-    knows
+    rw (one_more entries i entry there is) (rw append_assoc at knows)
 
 pub passed_all : (earlier : List terms.Entry) (entries : List Entry) (i : ℕ) (times : Option Times)
     → length entries ≤ i
@@ -49,16 +46,9 @@ known entries None knows = sym knows
 
 pub joined : (a b x y : List terms.Entry) (times : Option Times) → a ≡ x → b ≡ y
     → Knows (([] ++ a) ++ b) times → Knows (x ++ y) times
-joined a b x y times p q knows =
-    subst (λ (l : List terms.Entry). Knows (x ++ l) times) q
-    (subst (λ (l : List terms.Entry). Knows (l ++ b) times) p knows)
+joined a b x y times p q knows = rw (← p, ← q) knows
 
 -- ---- the next entry of a file
-
-last_of : (a b c : Bool) → (a && (b && c)) ≡ false → a ≡ true → b ≡ true → c ≡ false
-last_of true true c e p q = e
-last_of true false c e p q = absurd (cc)
-last_of false b c e p q = absurd (cc)
 
 module _ (grows : Grows) (before : List terms.Entry) (file : List ℕ) (place : ℕ) where
   pub entry_passed : (entry : terms.Entry) (end : ℕ) (times : Times)
@@ -77,8 +67,7 @@ module _ (grows : Grows) (before : List terms.Entry) (file : List ℕ) (place : 
   unfolding next_entry
   entry_late entry end times read storable knows late =
       let out : keeps_order before entry ≡ false =
-      last_of (is_archive before) (is_storable entry) (keeps_order before entry)
-      (sym (grows before entry) ∙ late) knows.0 storable in
+      cc (grows before entry, knows.0) in
       rw (read, out) refl
 
   pub entry_faulty : (fault : EntryFault) → entry_from place file ≡ Err fault

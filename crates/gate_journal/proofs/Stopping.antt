@@ -1,21 +1,19 @@
 -- What a stop in an append leaves on a disk in memory.
 use Rattle.std.proofs.Common.{◌≡◌, ◌≢◌, ℕ, zero, suc, ◌+◌, ◌-◌, ◌<◌, ◌≤◌, nat_le, Bool, true, false}
-use Rattle.std.proofs.Common.{IsFalse, if◌then◌else◌, List, [], ◌∷◌, ◌++◌, length, fold, take}
-use Rattle.std.proofs.Common.{Option, Some, None, refl, sym, ◌∙◌, ap, subst, arith, append_assoc}
-use Rattle.std.specs.Option.{option_or}
+use Rattle.std.proofs.Common.{not, IsFalse, if◌then◌else◌, List, [], ◌∷◌, ◌++◌, length, fold, take}
+use Rattle.std.proofs.Common.{Option, Some, None, refl, sym, ◌∙◌, ap, subst, arith}
 use Rattle.std.proofs.lemmas.Bool.Decides.{nat_tests}
 use Rattle.std.proofs.lemmas.Grind.{common_steps}
 use Rattle.std.proofs.lemmas.List.Sums.{fold-append}
 use Rattle.archive_terms.specs.Archive.{Entry, IsArchive}
 use Rattle.octet_core.specs.Fault.{last_count}
-use Rattle.octet_core.specs.FailingCalls.{Calls}
 use Rattle.record_form.specs.Reading.{ReadBack}
 use Rattle.disk_model.specs.Images.{Pending, all_synced, overwritten}
 use Rattle.disk_model.specs.Calls.{AllMade, FailedAtOne}
 use Rattle.disk_model.specs.MemoryDisk.{DiskState, Medium, RunIs, IsMadeCall, IsFailedCall}
 use Rattle.disk_model.specs.MemoryDisk.{run_as_ordered, calls_until_stop, medium_of, pending_of}
 use Rattle.disk_model.specs.MemoryDisk.{synced_medium, left_by, after_call, after_event, torn_half}
-use Rattle.disk_model.specs.MemoryDisk.{restarted, steered, pick_within, stop_past, content_of}
+use Rattle.disk_model.specs.MemoryDisk.{restarted, steered, content_of}
 use Rattle.disk_model.specs.declared.call.Call.{Call}
 use Rattle.disk_model.specs.declared.event.Event.TheVariants.{Restarted}
 use Rattle.disk_model.specs.declared.orders.Orders.{Orders}
@@ -26,8 +24,8 @@ use Rattle.gate_journal.specs.File.{IsBatch, StandsAt, StandsFor, entries_octets
 use Rattle.gate_journal.specs.Kept.{Keeps, IsAtRest, IsReady, IsToStop, StopsIn, KeepsOnRestart}
 use Rattle.gate_journal.specs.Kept.{appending, closed_batch, entries_left}
 use Rattle.gate_journal.specs.Kept.{leaves_batch, HasBatch, IsToFail, FailsIn, holds_batch}
-use Rattle.gate_journal.proofs.Adding.{behind, content_is, entries_are, front_of, front_there}
-use Rattle.gate_journal.proofs.Adding.{octets_written, stands_closed, stands_whole, written_behind}
+use Rattle.gate_journal.proofs.Adding.{gate_over, stands_gated, stands_old, stands_whole, with_gate}
+use Rattle.gate_journal.proofs.Adding.{written}
 use Rattle.gate_journal.proofs.Following.{follows_kept}
 
 -- ---- what the calls that a stop lets through leave by each pick
@@ -39,70 +37,38 @@ torn_is_shut : ◌≢◌ {A = ℕ} 90 165
 torn_is_shut same = omega (arith, same)
 
 module _ (told : Pending) (gate : ℕ) (at_rest : IsAtRest (Some told) gate) where
-  abbrev held : StandsAt at_rest.1 gate told.content
-  held = at_rest.2
-
   -- octets behind the gate, the gate's octet still its own
-  closed_file : List ℕ → List ℕ
-  closed_file octets = front_of held.batches ++ held.gate
-      ∷ behind (front_of held.batches) held.rest octets held.gate gate
-      (front_there told gate at_rest)
-
-  written : (octets : List ℕ) → overwritten told.content (gate + 1) octets
-      ≡ front_of held.batches ++ held.gate ∷ behind (front_of held.batches) held.rest octets
-      held.gate gate (front_there told gate at_rest)
-  written octets =
-      ap (λ (file : List ℕ). overwritten file (gate + 1) octets) (content_is told gate at_rest)
-      ∙ octets_written (front_of held.batches) held.rest octets held.gate gate
-      (front_there told gate at_rest)
-
   stands_behind : (octets : List ℕ)
       → StandsAt at_rest.1 gate (overwritten told.content (gate + 1) octets)
-  stands_behind octets =
-      stands_closed held.batches at_rest.1 gate held.gate
-      (behind (front_of held.batches) held.rest octets held.gate gate
-      (front_there told gate at_rest))
-      (overwritten told.content (gate + 1) octets) held.leads held.shut (written octets)
+  stands_behind octets = stands_gated told gate at_rest octets at_rest.2.gate
+      (overwritten told.content (gate + 1) octets) at_rest.2.shut (written told gate at_rest octets)
 
   -- and then the gate's octet
   gate_is : (octets : List ℕ) (value : ℕ)
       → overwritten (overwritten told.content (gate + 1) octets) gate (value ∷ [])
-      ≡ front_of held.batches ++ value ∷ behind (front_of held.batches) held.rest octets held.gate
-      gate (front_there told gate at_rest)
+      ≡ with_gate told gate at_rest value octets
   gate_is octets value =
-      ap (λ (file : List ℕ). overwritten file gate (value ∷ [])) (written octets)
-      ∙ written_behind (front_of held.batches)
-      (held.gate ∷ behind (front_of held.batches) held.rest octets held.gate gate
-      (front_there told gate at_rest)) (value ∷ []) gate (front_there told gate at_rest)
-      ∙ append_assoc (front_of held.batches) (value ∷ [])
-      (behind (front_of held.batches) held.rest octets held.gate gate
-      (front_there told gate at_rest))
-
-  stands_torn : (octets : List ℕ)
-      → StandsAt at_rest.1 gate (overwritten (overwritten told.content (gate + 1) octets) gate
-      (90 ∷ []))
-  stands_torn octets =
-      stands_closed held.batches at_rest.1 gate 90
-      (behind (front_of held.batches) held.rest octets held.gate gate
-      (front_there told gate at_rest))
-      (overwritten (overwritten told.content (gate + 1) octets) gate (90 ∷ [])) held.leads
-      torn_is_shut (gate_is octets 90)
+      ap (λ (file : List ℕ). overwritten file gate (value ∷ [])) (written told gate at_rest octets)
+      ∙ gate_over told gate at_rest octets value
 
   module _ (batch : List Entry) (law : ReadBack)
       (ready : IsReady (Some told) batch (closed_batch batch)) (entries : List Entry)
       (keeps : Keeps (Some told) entries) where
-    old : (file : List ℕ) → StandsAt at_rest.1 gate file → StandsAt entries gate file
-    old file stands = subst (λ (l : List Entry). StandsAt l gate file)
-        (entries_are told gate at_rest law entries keeps) stands
+    kept : StandsAt entries gate told.content
+    kept = stands_old told gate at_rest law entries keeps told.content at_rest.2
+
+    put : (octets : List ℕ) → StandsAt entries gate (overwritten told.content (gate + 1) octets)
+    put octets = stands_old told gate at_rest law entries keeps _ (stands_behind octets)
+
+    torn : StandsAt entries gate
+        (overwritten (overwritten told.content (gate + 1) (closed_batch batch)) gate (90 ∷ []))
+    torn = stands_old told gate at_rest law entries keeps _ (stands_gated told gate at_rest
+        (closed_batch batch) 90 _ torn_is_shut (gate_is (closed_batch batch) 90))
 
     new : StandsAt (entries ++ batch) (gate + (length (entries_octets batch) + 7)) (overwritten
         (overwritten told.content (gate + 1) (closed_batch batch)) gate (165 ∷ []))
-    new = subst (λ (n : ℕ). StandsAt (entries ++ batch) (gate + n) (overwritten
-        (overwritten told.content (gate + 1) (closed_batch batch)) gate (165 ∷ [])))
-        (closed_size batch)
-        (subst (StandsAt (entries ++ batch) (gate + length (closed_batch batch)))
-        (sym (gate_is (closed_batch batch) 165))
-        (stands_whole told gate at_rest (closed_batch batch) batch law ready entries keeps))
+    new = rw (← closed_size batch) (stands_whole told gate at_rest law entries keeps
+        (closed_batch batch) batch ready _ (gate_is (closed_batch batch) 165))
 
     abbrev let_through : ℕ → Medium
     let_through k = fold after_call (synced_medium told.content)
@@ -111,34 +77,18 @@ module _ (told : Pending) (gate : ℕ) (at_rest : IsAtRest (Some told) gate) whe
     pub left_at : (k : ℕ) (pick : Pick) → 0 < k → k ≤ 4
         → HasBatch (leaves_batch k pick) entries batch gate (left_by pick (let_through k))
     left_at zero pick some most = absurd (omega arith)
-    left_at (suc zero) Old some most = old told.content held
-    left_at (suc zero) New some most =
-        old (overwritten told.content (gate + 1) (closed_batch batch))
-        (stands_behind (closed_batch batch))
-    left_at (suc zero) Torn some most =
-        old (overwritten told.content (gate + 1) (torn_half (closed_batch batch)))
-        (stands_behind (torn_half (closed_batch batch)))
-    left_at (suc (suc zero)) Old some most = old told.content held
-    left_at (suc (suc zero)) New some most = old
-        (overwritten told.content (gate + 1) (closed_batch batch))
-        (stands_behind (closed_batch batch))
-    left_at (suc (suc zero)) Torn some most =
-        old (overwritten told.content (gate + 1) (torn_half (closed_batch batch)))
-        (stands_behind (torn_half (closed_batch batch)))
-    left_at (suc (suc (suc zero))) Old some most =
-        old (overwritten told.content (gate + 1) (closed_batch batch))
-        (stands_behind (closed_batch batch))
+    left_at (suc zero) Old some most = kept
+    left_at (suc zero) New some most = put (closed_batch batch)
+    left_at (suc zero) Torn some most = put (torn_half (closed_batch batch))
+    left_at (suc (suc zero)) Old some most = kept
+    left_at (suc (suc zero)) New some most = put (closed_batch batch)
+    left_at (suc (suc zero)) Torn some most = put (torn_half (closed_batch batch))
+    left_at (suc (suc (suc zero))) Old some most = put (closed_batch batch)
     left_at (suc (suc (suc zero))) New some most = new
-    left_at (suc (suc (suc zero))) Torn some most =
-        old (overwritten (overwritten told.content (gate + 1) (closed_batch batch)) gate (90 ∷ []))
-        (stands_torn (closed_batch batch))
-    left_at (suc (suc (suc (suc zero)))) Old some most =
-        old (overwritten told.content (gate + 1) (closed_batch batch))
-        (stands_behind (closed_batch batch))
+    left_at (suc (suc (suc zero))) Torn some most = torn
+    left_at (suc (suc (suc (suc zero)))) Old some most = put (closed_batch batch)
     left_at (suc (suc (suc (suc zero)))) New some most = new
-    left_at (suc (suc (suc (suc zero)))) Torn some most =
-        old (overwritten (overwritten told.content (gate + 1) (closed_batch batch)) gate (90 ∷ []))
-        (stands_torn (closed_batch batch))
+    left_at (suc (suc (suc (suc zero)))) Torn some most = torn
     left_at (suc (suc (suc (suc (suc k))))) pick some most = absurd (omega arith)
 
     -- the calls before one that fails
@@ -149,13 +99,9 @@ module _ (told : Pending) (gate : ℕ) (at_rest : IsAtRest (Some told) gate) whe
     pub held_at : (k : ℕ) → 0 < k → k ≤ 4
         → HasBatch (holds_batch k) entries batch gate (made_before k).pending.content
     held_at zero some most = absurd (omega arith)
-    held_at (suc zero) some most = old told.content held
-    held_at (suc (suc zero)) some most =
-        old (overwritten told.content (gate + 1) (closed_batch batch))
-        (stands_behind (closed_batch batch))
-    held_at (suc (suc (suc zero))) some most =
-        old (overwritten told.content (gate + 1) (closed_batch batch))
-        (stands_behind (closed_batch batch))
+    held_at (suc zero) some most = kept
+    held_at (suc (suc zero)) some most = put (closed_batch batch)
+    held_at (suc (suc (suc zero))) some most = put (closed_batch batch)
     held_at (suc (suc (suc (suc zero)))) some most = new
     held_at (suc (suc (suc (suc (suc k))))) some most = absurd (omega arith)
 
@@ -216,17 +162,17 @@ pub is_to_stop : (disk : DiskState) (orders : Orders) (stop : Stop) → disk.sto
     → IsToStop (steered disk orders) stop
 is_to_stop disk orders stop runs stops succeeds some =
     let later : nat_le stop.calls 0 ≡ false = grind (arith, nat_tests) in
-    let same : stop.calls - 0 ≡ stop.calls = omega arith in record {
-      runs = ap (λ (p : Option Pick). option_or p (pick_within 0 orders.stop)) runs
-          ∙ ap (pick_within 0) stops ∙ ap (λ (b : Bool). if b then Some stop.pick else None) later;
-      stops = ap (stop_past 0) stops
-          ∙ ap (λ (b : Bool). if b then None else Some (record stop { calls = stop.calls - 0 }))
-          later ∙ ap (λ (n : ℕ). Some (record stop { calls = n })) same;
+    let same : stop.calls - 0 ≡ stop.calls = omega arith in
+    record {
+      runs = rw (runs, stops, later) refl;
+      stops = rw (stops, later, same) refl;
       succeeds = succeeds;
     }
 
-not_both : (run : Bool × DiskState) → run.0 ≡ true → run.0 ≡ false → ⊥
-not_both run good bad = cc
+not_both : (answer : Bool) {run : Bool × DiskState} {after : DiskState} → run ≡ (answer, after)
+    → run.0 ≡ not answer → ⊥
+not_both true is said = cc
+not_both false is said = cc
 
 -- an append at which the disk is to stop isn't Ok
 pub stopped_is_no_ok : StopsNow → MadeAsOrdered
@@ -234,8 +180,7 @@ pub stopped_is_no_ok : StopsNow → MadeAsOrdered
     → 0 < stop.calls → stop.calls ≤ 4
     → AllMade IsMadeCall disk (appending gate batch) after → ⊥
 stopped_is_no_ok now ordered disk after gate batch stop is some most made =
-    not_both (run_as_ordered disk (appending gate batch))
-    (ap (λ (r : Bool × DiskState). r.0) (ordered disk after (appending gate batch) made))
+    not_both true (ordered disk after (appending gate batch) made)
     (now disk (appending gate batch) stop is.runs is.stops is.succeeds some most).answer
 
 -- and one before its stop doesn't fail
@@ -245,9 +190,8 @@ pub unstopped_is_no_fault : StopsLater → FailedAsOrdered
     → FailedAtOne IsMadeCall IsFailedCall disk (appending gate batch) after
     → IsFalse after.memory_refused → ⊥
 unstopped_is_no_fault later ordered disk after gate batch stop is past failed ample =
-    not_both (run_as_ordered disk (appending gate batch))
+    not_both false (ordered disk after (appending gate batch) failed ample)
     (later disk (appending gate batch) stop is.runs is.stops is.succeeds past).answer
-    (ap (λ (r : Bool × DiskState). r.0) (ordered disk after (appending gate batch) failed ample))
 
 module _ (now : StopsNow) (ordered : FailedAsOrdered) (disk after : DiskState) (gate : ℕ)
     (batch : List Entry) (stop : Stop) (is : StopsIn disk gate batch stop after) where
@@ -261,13 +205,13 @@ module _ (now : StopsNow) (ordered : FailedAsOrdered) (disk after : DiskState) (
 
   -- the disk has stopped then, by the stop's pick
   pub has_stopped : after.stopped ≡ Some stop.pick
-  has_stopped = ap (λ (r : Bool × DiskState). r.1.stopped) (sym there) ∙ run.stopped
+  has_stopped = rw there at run.stopped
 
   medium_then : SyncedIsAll → IsAtRest (Some (pending_of disk)) gate
       → medium_of after ≡ fold after_call (synced_medium (pending_of disk).content)
       (calls_until_stop stop.calls (appending gate batch))
   medium_then synced at_rest =
-      ap (λ (r : Bool × DiskState). medium_of r.1) (sym there) ∙ run.medium
+      rw there at run.medium
       ∙ ap (λ (m : Medium). fold after_call m (calls_until_stop stop.calls (appending gate batch)))
       (synced disk (pending_of disk).content at_rest.0)
 
@@ -324,9 +268,8 @@ pub is_to_fail_at : (disk : DiskState) (orders : Orders) (k : ℕ) → disk.stop
     → orders.stop ≡ None → orders.failing ≡ record { failing = k ∷ []; made = 0 }
     → IsToFail (steered disk orders) k
 is_to_fail_at disk orders k runs goes_on fails = record {
-  runs = ap (λ (p : Option Pick). option_or p (pick_within 0 orders.stop)) runs
-      ∙ ap (pick_within 0) goes_on;
-  goes_on = ap (stop_past 0) goes_on;
+  runs = rw (runs, goes_on) refl;
+  goes_on = rw goes_on refl;
   fails = fails;
 }
 
@@ -334,19 +277,15 @@ module _ (now : FaultsNow) (disk : DiskState) (gate : ℕ) (batch : List Entry) 
     (is : IsToFail disk k) (some : 0 < k) (within : k ≤ 4) where
   fault_run : RunIs disk (appending gate batch) false (take (k - 1) (appending gate batch)) None
   fault_run =
-      let none : disk.calls.made ≡ 0 = ap (λ (c : Calls). c.made) is.fails in
-      let listed : disk.calls.failing ≡ k ∷ [] = ap (λ (c : Calls). c.failing) is.fails in
-      let first : disk.calls.made + k ≡ k = omega (arith, none) in
-      now disk (appending gate batch) k is.runs is.goes_on
-      (listed ∙ ap (λ (n : ℕ). n ∷ []) (sym first)) (omega (arith, none, within)) some within
+      let none : 0 + k ≡ k = omega arith in
+      now disk (appending gate batch) k is.runs is.goes_on (rw (is.fails, none) refl)
+      (rw is.fails (omega (arith, within))) some within
 
   -- an append at which a call is to fail isn't Ok
   pub failed_is_no_ok : MadeAsOrdered → (after : DiskState)
       → AllMade IsMadeCall disk (appending gate batch) after → ⊥
   failed_is_no_ok ordered after made =
-      not_both (run_as_ordered disk (appending gate batch))
-      (ap (λ (r : Bool × DiskState). r.0) (ordered disk after (appending gate batch) made))
-      fault_run.answer
+      not_both true (ordered disk after (appending gate batch) made) fault_run.answer
 
 module _ (now : FaultsNow) (ordered : FailedAsOrdered) (disk after : DiskState) (gate : ℕ)
     (batch : List Entry) (k : ℕ) (is : FailsIn disk gate batch k after) where
@@ -358,7 +297,7 @@ module _ (now : FaultsNow) (ordered : FailedAsOrdered) (disk after : DiskState) 
 
   -- the disk runs on
   pub runs_on : after.stopped ≡ None
-  runs_on = ap (λ (r : Bool × DiskState). r.1.stopped) (sym there_failed) ∙ run_failed.stopped
+  runs_on = rw there_failed at run_failed.stopped
 
   -- and holds these entries
   pub file_held : SyncedIsAll → ReadBack → IsAtRest (Some (pending_of disk)) gate → IsBatch batch
@@ -366,8 +305,7 @@ module _ (now : FaultsNow) (ordered : FailedAsOrdered) (disk after : DiskState) 
       → IsArchive (entries ++ batch)
       → HasBatch (holds_batch k) entries batch gate (content_of after)
   file_held synced law at_rest is_batch entries keeps archive =
-      let medium_is = ap (λ (r : Bool × DiskState). medium_of r.1) (sym there_failed)
-      ∙ run_failed.medium
+      let medium_is = rw there_failed at run_failed.medium
       ∙ ap (λ (m : Medium). fold after_call m (take (k - 1) (appending gate batch)))
       (synced disk (pending_of disk).content at_rest.0) in
       subst (λ (m : Medium). HasBatch (holds_batch k) entries batch gate m.pending.content)

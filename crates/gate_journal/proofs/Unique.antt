@@ -1,5 +1,5 @@
 -- A file stands for one list at most.
-use Rattle.std.proofs.Common.{◌≡◌, ◌≢◌, ℕ, ◌+◌, ◌&&◌, Bool, true, false}
+use Rattle.std.proofs.Common.{◌≡◌, ◌≢◌, ℕ, ◌&&◌, Bool, true, false}
 use Rattle.std.proofs.Common.{List, [], ◌∷◌, ◌++◌, length, take, drop, slice_index, IsTrue, Result}
 use Rattle.std.proofs.Common.{Ok, refl, sym, ap, ◌∙◌, arith, append_assoc}
 use Rattle.std.specs.List.{AllByRecursion, list_all}
@@ -11,10 +11,10 @@ use Rattle.archive_terms.specs.Archive.{Entry, is_storable}
 use Rattle.record_form.specs.declared.fault.EntryFault.{EntryFault}
 use Rattle.record_form.specs.Spelling.{entry_octets}
 use Rattle.record_form.specs.Reading.{ReadBack, entry_from}
-use Rattle.gate_journal.specs.File.{header, entries_octets, batch_octets, IsBatch, gated, joined}
+use Rattle.gate_journal.specs.File.{header, entries_octets, batch_octets, IsBatch, gated}
 use Rattle.gate_journal.specs.File.{StandsAt}
 
-both : (a b : Bool) → (a && b) ≡ true → (a ≡ true) × (b ≡ true)
+pub both : (a b : Bool) → (a && b) ≡ true → (a ≡ true) × (b ≡ true)
 both true b e = (refl, e)
 both false b e = absurd (cc)
 
@@ -32,10 +32,9 @@ pub same_rest : (front x y : List ℕ) → front ++ x ≡ front ++ y → x ≡ y
 same_rest front x y same = sym (drop_at front x (length front) refl) ∙ ap (drop (length front)) same
     ∙ drop_at front y (length front) refl
 
-regroup : (e : Entry) (es : List Entry) (x : List ℕ)
+pub regroup : (e : Entry) (es : List Entry) (x : List ℕ)
     → entries_octets (e ∷ es) ++ x ≡ entry_octets e ++ (entries_octets es ++ x)
-regroup e es x = ap (λ (l : List ℕ). l ++ x) (flat_map-cons entry_octets e es)
-    ∙ append_assoc (entry_octets e) (entries_octets es) x
+regroup e es x = rw (flat_map-cons entry_octets e es) (append_assoc (entry_octets e) _ x)
 
 same_entries : ReadBack → (a b : List Entry) (x y : List ℕ) → length a ≡ length b
     → list_all is_storable a ≡ true → list_all is_storable b ≡ true
@@ -52,18 +51,14 @@ same_entries law (e ∷ a) (f ∷ b) x y size first second same =
     other.0 split in
     let tail : entries_octets a ++ x ≡ entries_octets b ++ y =
     same_rest (entry_octets f) (entries_octets a ++ x) (entries_octets b ++ y)
-    (sym (ap (λ (g : Entry). entry_octets g ++ (entries_octets a ++ x)) head) ∙ split) in
+    (cc (head, split)) in
     let rest = same_entries law a b x y (omega (arith, size)) one.1 other.1 tail in
-    (ap (λ (l : List Entry). e ∷ l) rest.0 ∙ ap (λ (g : Entry). g ∷ b) head, rest.1)
+    (cc (rest.0, head), rest.1)
 
-in_front : (batch : List Entry) (x : List ℕ)
+pub in_front : (batch : List Entry) (x : List ℕ)
     → batch_octets batch ++ x ≡ to_be_bytes w32 (length (entries_octets batch))
     ++ (to_be_bytes w16 (length batch) ++ (entries_octets batch ++ x))
-in_front batch x =
-    append_assoc (to_be_bytes w32 (length (entries_octets batch)))
-    (to_be_bytes w16 (length batch) ++ entries_octets batch) x
-    ∙ ap (λ (l : List ℕ). to_be_bytes w32 (length (entries_octets batch)) ++ l)
-    (append_assoc (to_be_bytes w16 (length batch)) (entries_octets batch) x)
+in_front batch x = simp append_assoc
 
 pub same_batch : ReadBack → (a b : List Entry) (x y : List ℕ) → IsBatch a → IsBatch b
     → batch_octets a ++ x ≡ batch_octets b ++ y → (a ≡ b) × (x ≡ y)
@@ -106,8 +101,7 @@ follows_led law (x ∷ xs) (y ∷ ys) rest past shut first second closed same =
     let later = follows_led law xs ys rest past shut first.1 second.1 closed found.1 in
     record {
       more = later.more;
-      batches = ap (λ (l : List (List Entry)). y ∷ l) later.batches
-          ∙ ap (λ (b : List Entry). b ∷ (xs ++ later.more)) (sym found.0);
+      batches = cc (later.batches, found.0);
       octets = later.octets;
     }
 
@@ -124,16 +118,18 @@ same_batches law one other place there file first second =
     second.gate first.leads.each second.leads.each second.shut
     (same_rest header (gated first.batches ++ first.gate ∷ first.rest)
     (gated second.batches ++ second.gate ∷ second.rest) (sym first.is ∙ second.is)) in
-    sym (follows.batches ∙ ap (λ (l : List (List Entry)). first.batches ++ l)
-    (nothing_more follows.more first.gate first.rest (second.gate ∷ second.rest) first.shut
-    follows.octets) ∙ append-nil first.batches)
+    cc (
+      follows.batches,
+      nothing_more follows.more first.gate first.rest (second.gate ∷ second.rest) first.shut
+          follows.octets,
+      append-nil first.batches,
+    )
 
 -- the list, and the place of the gate behind it
 pub stands_for_one : ReadBack → (one other : List Entry) (place there : ℕ) (file : List ℕ)
     → StandsAt one place file → StandsAt other there file → (one ≡ other) × (place ≡ there)
 stands_for_one law one other place there file first second =
     let same = same_batches law one other place there file first second in (
-      first.leads.entries_are ∙ ap joined same ∙ sym second.leads.entries_are,
-      first.leads.there
-          ∙ ap (λ (b : List (List Entry)). 8 + length (gated b)) same ∙ sym second.leads.there,
+      cc (first.leads.entries_are, same, second.leads.entries_are),
+      cc (first.leads.there, same, second.leads.there),
     )

@@ -1,6 +1,6 @@
 // The batches of a file, one after another.
 ghost use Rattle.std.specs.Prelude.{◌≡◌, ◌≢◌, ◌+◌, ◌-◌, ◌<◌, ◌≤◌, ◌^◌, ◌++◌, ◌⊎◌, ℕ, List, []};
-ghost use Rattle.std.specs.Prelude.{length};
+ghost use Rattle.std.specs.Prelude.{length, take, drop};
 ghost use Rattle.std.specs.Prelude.{min, max, IsTrue, IsFalse, IfOk, OnOk, OnErr, IsErrOf, IfSome};
 ghost use Rattle.octet_core.specs.Fault.{Rose};
 ghost use Rattle.archive_terms.specs.Archive.{Entry};
@@ -16,14 +16,14 @@ use crate::order::Times;
 use crate::passing::{OPEN, pass_gate};
 use crate::{BatchFault, laws};
 use disk_model::Disk;
-use std::alloc::Global;
+use std::alloc::{AllocError, Global};
 use std::marker::Model;
 
-// How many octets are read at once, where no batch has more.
-const PIECE: usize = 1_048_576;
+// How many octets are held at once, where no batch has more.
+const PIECE: usize = 131_072;
 
-/// A reading of a journal's file, batch by batch. The file is held in memory a piece at a time: a
-/// mebibyte, or a batch that has more.
+/// A reading of a journal's file, batch by batch. The file is held in memory a piece at a time,
+/// 131,072 octets or the batch that has more, and each octet of it is read once.
 #[derive(Drop)]
 pub struct Batches {
     // The last times of the entries that were read.
@@ -59,6 +59,7 @@ impl Batches {
     /// A reading of the file of a disk, before its first batch. It costs one read.
     pub fn open<D: Disk>(alloc: Global, disk: &mut D) -> Result<Batches, BatchFault>
         ensures passed { IfOk result (λ batches. Passed (D.pending disk.old) [] batches) }
+        ensures none { IfOk result (λ batches. batches.batch ≡ []) }
         ensures unfit { IsErrOf result Unfit → ¬ StandsForSome (D.pending disk.old) }
         ensures same { IsErrOf result DiskFault ⊎ (disk.new ≡ disk.old) }
         ensures reads { OnlyReads D.pending D.moment D.images_since disk.old disk.new }
@@ -66,7 +67,7 @@ impl Batches {
     {
         laws::a_refused_file_stands_for_nothing();
         let mut room = Vec::new(alloc);
-        read_piece(disk, 0, PIECE, &mut room)?;
+        read_on(disk, 0, 0, PIECE, &mut room)?;
         if first_difference(&room).is_some() {
             return Err(BatchFault::Unfit);
         }
@@ -84,7 +85,7 @@ impl Batches {
     /// entries: why, a recovery tells. After an error no more is to be read.
     ///
     /// It goes over what stands before a frame's octets, and reads the file where the next batch
-    /// isn't yet in memory. It copies nothing.
+    /// isn't yet in memory. It copies no octet but what is left of a piece there, to its front.
     pub fn next<D: Disk>(&mut self, disk: &mut D) -> Result<bool, BatchFault>
         ensures batch { IfOk result (λ more. IsTrue more → (entries : List Entry)
             → Passed (D.pending disk.old) entries self.old
@@ -93,9 +94,12 @@ impl Batches {
         ensures shut { IfOk result (λ more. IsFalse more → (entries : List Entry)
             → Passed (D.pending disk.old) entries self.old → IfSome (D.pending disk.old)
             (λ told. StandsAt entries self.old.gate told.content)) }
+        ensures none { IfOk result (λ more. IsFalse more → self.new.batch ≡ []) }
+        ensures stays { IfOk result (λ more. IsFalse more → self.new.gate ≡ self.old.gate) }
         ensures unfit { IsErrOf result Unfit → (entries : List Entry)
             → Passed (D.pending disk.old) entries self.old
             → ¬ StandsForSome (D.pending disk.old) }
+        ensures refused { OnErr result (self.new.gate ≡ self.old.gate) }
         ensures bound { self.new.gate < 2 ^ 64 }
         ensures same { IsErrOf result DiskFault ⊎ (disk.new ≡ disk.old) }
         ensures reads { OnlyReads D.pending D.moment D.images_since disk.old disk.new }
@@ -115,7 +119,10 @@ impl Batches {
                 self.at = end;
                 Ok(true)
             }
-            Ok(None) => Ok(false),
+            Ok(None) => {
+                self.last = None;
+                Ok(false)
+            }
             Err(_) => Err(BatchFault::Unfit),
         }
     }
@@ -156,10 +163,14 @@ impl Batches {
         while self.room.len() - self.at < needed
             && self.start + (self.room.len() as u64) < disk.size()
         {
+            let from = self.at;
             self.start = self.gate();
             self.at = 0;
             self.last = None;
-            read_piece(disk, self.start, PIECE.max(needed + 7), &mut self.room)?;
+            // With the next batch the head of the one behind it, so that it is known how much
+            // that one needs.
+            let count = PIECE.max(needed + 7);
+            read_on(disk, self.start, from, count, &mut self.room)?;
             needed = octets_of_batch(&self.room, self.at);
         }
         Ok(())
@@ -182,14 +193,19 @@ fn octets_of_batch(octets: &[u8], at: usize) -> usize
     7 + u32::from_be_bytes(octets[at + 1..at + 5].try_into().unwrap()) as usize
 }
 
-// Reads so many octets from a place of the file on, or as many as there are.
-fn read_piece<D: Disk>(
+// Keeps the octets from an index on, which stand at a place of a file, and reads what stands there
+// behind them: so many in all, or as many as there are.
+fn read_on<D: Disk>(
     disk: &mut D,
     place: u64,
+    from: usize,
     count: usize,
     room: &mut Vec<u8>,
 ) -> Result<(), BatchFault>
-    ensures octets { OnOk result (Reads (D.pending disk.old) place room.new.items) }
+    requires within { from ≤ length room.old.items }
+    requires fits { length room.old.items - from ≤ min count (D.extent disk.old - place) }
+    ensures octets { OnOk result (Reads (D.pending disk.old) place (drop from room.old.items)
+        → Reads (D.pending disk.old) place room.new.items) }
     ensures size { OnOk result (length room.new.items ≡ min count (D.extent disk.old - place)) }
     ensures err { OnErr result (room.new.items ≡ []) }
     ensures same { IsErrOf result DiskFault ⊎ (disk.new ≡ disk.old) }
@@ -204,13 +220,30 @@ fn read_piece<D: Disk>(
         room.clear();
         return Ok(());
     }
-    if room.resize(count, 0).is_err() {
+    let kept = room.len() - from;
+    if keep_from(room, from, count).is_err() {
         room.clear();
         return Err(BatchFault::Memory);
     }
-    if disk.read_at(place, room).is_err() {
+    if disk
+        .read_at(place + kept as u64, &mut room[kept..])
+        .is_err()
+    {
         room.clear();
         return Err(BatchFault::DiskFault);
     }
     Ok(())
+}
+
+// Moves the octets from an index on to the front, and makes room for others behind them: so many in
+// all.
+fn keep_from(room: &mut Vec<u8>, from: usize, count: usize) -> Result<(), AllocError>
+    requires within { from ≤ length room.old.items }
+    requires fits { length room.old.items - from ≤ count }
+    ensures kept { OnOk result (take (length room.old.items - from) room.new.items
+        ≡ drop from room.old.items) }
+    ensures size { OnOk result (length room.new.items ≡ count) }
+{
+    room.copy_within(from.., 0);
+    room.resize(count, 0)
 }

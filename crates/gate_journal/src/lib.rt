@@ -11,9 +11,9 @@
 // An append costs four calls of the disk, and copies each octet of the batch once. A recovery costs
 // one sync and one read of the whole file; it goes over what stands before each frame's octets
 // twice, and copies a frame's octets once, into the entry that keeps them. Meanwhile the file is
-// held in memory. `Batches` reads a file batch by batch, with a mebibyte of it in memory, or one
-// batch where that has more, and lends its entries: it copies nothing, and takes no memory but that
-// room.
+// held in memory. `Batches` reads a file batch by batch, each octet once, and lends its entries. It
+// takes memory for 131,072 octets, or for one batch where that has more, and copies no octet but
+// what is left of a piece there, to its front.
 #![tactic(auto)]
 
 mod batch;
