@@ -5,7 +5,7 @@ use octet_core::{FailingCalls, Faults, MemorySink};
 use std::alloc::{AllocError, Global};
 use std::test::Fail;
 
-// A batch has nine frames of the most octets: two batches have more than is read at once.
+// A batch has nine frames of the most octets: more than is read at once.
 const FRAMES: usize = 9;
 
 const OCTETS: usize = 65_536;
@@ -68,14 +68,15 @@ fn list(alloc: Global, failing: &[u64], slips_at: u64) -> Result<(u8, Vec<u8>), 
     Ok((exit, Vec::from_slice(alloc, output.written())?))
 }
 
-// Each reading takes two reads, and the one that says where the file is at fault another one.
+// Each reading takes three reads, the third for the second batch, and the one that says where the
+// file is at fault another one.
 #[test]
 fn a_list_ends_where_its_disk_fails_or_changes(rt: HostRuntime) -> Result<(), Fail> {
     let table: [(&[u64], u64, u8, usize, &[u8]); 4] = [
-        (&[4], 5, 8, 1, b"disk fault\n"),
-        (&[], 4, 5, 1, b"archive refused 590028\n"),
-        (&[], 2, 5, 0, b"archive refused 590035\n"),
-        (&[3], 2, 8, 0, b"disk fault\n"),
+        (&[6], 7, 8, 1, b"disk fault\n"),
+        (&[], 6, 5, 1, b"archive refused 590028\n"),
+        (&[], 3, 5, 0, b"archive refused 590035\n"),
+        (&[4], 3, 8, 0, b"disk fault\n"),
     ];
     for (failing, slips_at, status, batches, last) in table {
         let (exit, text) = list(rt.alloc(), failing, slips_at)?;
