@@ -1,4 +1,3 @@
-pub mod Each
 pub mod Readable
 pub mod Rounds
 pub mod NextLook

@@ -1,10 +1,10 @@
 -- The octets of a message, item by item.
-use Rattle.std.proofs.Common.{◌≡◌, ℕ, zero, suc, ◌+◌, ◌≤◌, ◌<◌, List, [], ◌∷◌, ◌++◌, length, map}
-use Rattle.std.proofs.Common.{take}
-use Rattle.std.proofs.Common.{get_or, refl, sym, ap, subst, ◌∙◌, arith}
+use Rattle.std.proofs.Common.{◌≡◌, ℕ, ◌+◌, ◌≤◌, ◌<◌, List, [], ◌∷◌, ◌++◌, length, map, take, get_or}
+use Rattle.std.proofs.Common.{refl, ap, arith}
 use Rattle.std.specs.List.{flat_map, AllByRecursion}
 use Rattle.std.proofs.lemmas.Grind.{flat_map-append}
-use Rattle.std.proofs.lemmas.List.{append-nil, take_more}
+use Rattle.std.proofs.lemmas.List.{append-nil, take_more, get_or-map, length-map}
+use Rattle.std.proofs.lemmas.List.Elements.{All-get_or, All-from_recursion}
 use Rattle.std.proofs.lemmas.List.Folds.{length-flat_map-take}
 use Rattle.ber_core.specs.Spelling.{canonical}
 use Rattle.return_pdu.specs.Items.{items_spelled}
@@ -28,26 +28,21 @@ spelled-is (item ∷ items) = ap (λ rest. octets_of item ++ rest) (spelled-is i
 pub spelled_more : (items : List Item) (i : ℕ) (item : Item) → i < length items
     → item ≡ get_or items i item
     → spelled (take (i + 1) items) ≡ spelled (take i items) ++ octets_of item
-spelled_more items i item below here =
-    ap spelled (take_more items i item below)
-    ∙ flat_map-append octets_of (take i items) (get_or items i item ∷ [])
-    ∙ ap (λ last. spelled (take i items) ++ last) (append-nil (octets_of (get_or items i item)))
-    ∙ ap (λ x. spelled (take i items) ++ octets_of x) (sym here)
+spelled_more items i item below here = cc (
+  take_more items i item below,
+  flat_map-append octets_of (take i items) (get_or items i item ∷ []),
+  append-nil (octets_of (get_or items i item)),
+)
 
 pub spelled_room : (items : List Item) (i : ℕ) (item : Item) → i < length items
     → item ≡ get_or items i item
     → length (spelled (take i items)) + length (octets_of item) ≤ length (spelled items)
 spelled_room items i item below here =
-    subst (λ x. length (spelled (take i items)) + length (octets_of x) ≤ length (spelled items))
-    (sym here) (length-flat_map-take octets_of items i item below)
+    rw (← here) at (length-flat_map-take octets_of items i item below)
 
 pub handed_at : (items : List Item) (i : ℕ) (item : Item) → AllByRecursion IsHanded (items_of items)
     → i < length items → item ≡ get_or items i item → IsHanded (item_of item)
-handed_at items i item all below here = subst (λ x. IsHanded (item_of x)) (sym here)
-    (at items i all below)
-  where
-    at : (items : List Item) (i : ℕ) → AllByRecursion IsHanded (items_of items) → i < length items
-        → IsHanded (item_of (get_or items i item))
-    at [] i all below = absurd (omega arith)
-    at (first ∷ items) zero all below = all.0
-    at (first ∷ items) (suc i) all below = at items i all.1 (omega arith)
+handed_at items i item all below here =
+    rw (get_or-map item_of items i item (item_of item) below, ← here) at
+    (All-get_or IsHanded (items_of items) i (item_of item) (omega (arith, length-map items item_of))
+    (All-from_recursion IsHanded (items_of items) all))

@@ -28,6 +28,7 @@ pub fn a_start_is_read()
 
 /// A START of the desk hands over at most as many buffers as there are entries, and one more with
 /// the end of data.
+#[tactic(auto, using(crate::proofs::Rounds::few_told))]
 pub fn a_start_has_few_buffers()
     ensures { (entries : List Entry) (first last : Cds) (quality : ℕ)
         → length (told_desk entries first last quality) ≤ length entries + 1 }

@@ -7,6 +7,7 @@ ghost use Rattle.return_pdu.specs.Items.{items_spelled};
 ghost use Rattle.return_pdu.specs.TransferItem as pdu;
 ghost use Rattle.return_pdu.specs.Seen as seen;
 ghost use Rattle.frame_select.specs.Item.{item_of, items_of};
+ghost use Rattle.station_desk.specs.declared.limits.TheConstants.{BUFFER_ITEMS};
 ghost use Rattle.station_desk.specs.Readable.{IsHanded};
 ghost use Rattle.station_desk.specs.Told.{item_tree, message_octets};
 
@@ -23,7 +24,7 @@ const PDU: u8 = 1;
 
 /// The message (CCSDS 913.1-B) of a transfer buffer of RAF with these items.
 pub fn message(alloc: Global, items: &[Item]) -> Result<Writer, Memory>
-    requires few { length items.now ≤ 2 }
+    requires few { length items.now ≤ BUFFER_ITEMS }
     requires handed { AllByRecursion IsHanded (items_of items.now) }
     ensures { IfOk result (λ writer. writer.octets ≡ message_octets (items_of items.now)) }
 {
@@ -41,7 +42,7 @@ pub fn message(alloc: Global, items: &[Item]) -> Result<Writer, Memory>
 
 // How many octets the items have.
 fn content_length(items: &[Item]) -> usize
-    requires few { length items.now ≤ 2 }
+    requires few { length items.now ≤ BUFFER_ITEMS }
     requires handed { AllByRecursion IsHanded (items_of items.now) }
     ensures exact { result ≡ length (items_spelled (map item_tree (items_of items.now))) }
     ensures small { result ≤ 131672 }
