@@ -8,7 +8,7 @@ import sys
 import tempfile
 import time
 
-RUNS = 7
+RUNS = 21
 CIRCLE = bytes(range(256)) * 6
 
 
