@@ -4,9 +4,9 @@ use Rattle.std.proofs.Common.{ap, ◌∙◌, subst}
 use Rattle.std.proofs.lemmas.List.{take_more, map-append}
 use Rattle.record_form.specs.declared.entry.Entry as code
 use Rattle.record_form.specs.Entry.{entry_of, entries_of}
-use Rattle.archive_index.specs.Kept.{Kept, Indexes}
+use Rattle.archive_index.specs.IndexState.{IndexState, Indexes}
 
-pub one_more : (index : Kept) (entries : List code.Entry) (i : ℕ) (entry : code.Entry)
+pub one_more : (index : IndexState) (entries : List code.Entry) (i : ℕ) (entry : code.Entry)
     → i < length entries → entry ≡ get_or entries i entry
     → Indexes index (entries_of (take i entries) ++ entry_of entry ∷ [])
     → Indexes index (entries_of (take (i + 1) entries))

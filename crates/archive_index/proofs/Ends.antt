@@ -6,7 +6,7 @@ use Rattle.std.specs.Option.{option_map_or}
 use Rattle.std.proofs.lemmas.Bool.Decides.{nat_tests}
 use Rattle.archive_terms.specs.Archive.{Entry, frame_time, seal_time, is_closed}
 use Rattle.archive_terms.specs.Selection.{Selection, is_frame_from, is_started, is_stop_closed}
-use Rattle.archive_index.specs.Kept.{end_with, end_of}
+use Rattle.archive_index.specs.IndexState.{end_with, end_of}
 
 or_false : (b : Bool) → (b || false) ≡ b
 or_false true = refl

@@ -10,7 +10,7 @@ use Rattle.archive_terms.specs.Archive.{Entry}
 use Rattle.archive_terms.specs.Selection.{Selection}
 use Rattle.archive_terms.specs.Delivery.{archived, archived_items, frame_octets}
 use Rattle.archive_terms.specs.Continuity.{continuity_of, told_items}
-use Rattle.archive_terms.specs.Placed.{Told}
+use Rattle.archive_terms.specs.Placed.{ToldItem}
 use Rattle.archive_terms.specs.Glimpse.{given, lengths_of, picked_from, given_of, place_behind}
 use Rattle.frame_select.specs.Item.{said_of}
 use Rattle.archive_index.specs.declared.cursor.Cursor.{Cursor}
@@ -120,11 +120,11 @@ given_of-give entries s c =
 abbrev pub remaining : List Entry → Selection → Cursor → List (ℕ × Entry)
 remaining entries s c = give c.room c.octets (picked_from entries s c.place)
 
-abbrev pub said_items : List Entry → Option ℕ → List (ℕ × Entry) → List Told
+abbrev pub said_items : List Entry → Option ℕ → List (ℕ × Entry) → List ToldItem
 said_items entries since given = map said_of (told_items entries since (archived_items given))
 
 -- all that is wanted is what was given and what remains
-pub record Remains (entries : List Entry) (s : Selection) (whole : Cursor) (items : List Told)
+pub record Remains (entries : List Entry) (s : Selection) (whole : Cursor) (items : List ToldItem)
     (now : Cursor) : Type 0 where
   pub told : said_items entries whole.since (remaining entries s whole)
       ≡ items ++ said_items entries now.since (remaining entries s now)
@@ -146,8 +146,8 @@ open_where room octets = grind (arith, nat_tests)
 shut_where : (room octets : ℕ) → (room == 0 || octets == 0) ≡ true → is_open room octets ≡ false
 shut_where room octets = grind (arith, nat_tests)
 
-pub remains_behind : (entries : List Entry) (s : Selection) (whole now : Cursor) (items : List Told)
-    (place : ℕ) (e : Entry) (item : Told)
+pub remains_behind : (entries : List Entry) (s : Selection) (whole now : Cursor)
+    (items : List ToldItem) (place : ℕ) (e : Entry) (item : ToldItem)
     → Remains entries s whole items now → is_full now ≡ false
     → picked_from entries s now.place ≡ (place, e) ∷ picked_from entries s (place + 1)
     → item ≡ said_of (archived place e, continuity_of entries (now.since, archived place e))
@@ -173,7 +173,7 @@ remains_behind entries s whole now items place e item rest room first is = recor
         ∙ ap (λ b. cond b ((place, e) ∷ later) []) (open_where now.room now.octets room)
 
 -- what was given is all where nothing remains
-gives_where : (entries : List Entry) (s : Selection) (whole now : Cursor) (items : List Told)
+gives_where : (entries : List Entry) (s : Selection) (whole now : Cursor) (items : List ToldItem)
     (b : Bool)
     → Remains entries s whole items now → remaining entries s now ≡ []
     → nat_lt 0 (length (picked_from entries s now.place)) ≡ b
@@ -191,7 +191,7 @@ gives_where entries s whole now items b rest none more =
           );
     }
 
-pub gives_full : (entries : List Entry) (s : Selection) (whole now : Cursor) (items : List Told)
+pub gives_full : (entries : List Entry) (s : Selection) (whole now : Cursor) (items : List ToldItem)
     (place : ℕ) (e : Entry)
     → Remains entries s whole items now → is_full now ≡ true
     → picked_from entries s now.place ≡ (place, e) ∷ picked_from entries s (place + 1)
@@ -206,7 +206,7 @@ gives_full entries s whole now items place e rest full first =
     gives_where entries s whole now items true rest none (ap (λ p. nat_lt 0 (length p)) first
     ∙ some)
 
-pub gives_all : (entries : List Entry) (s : Selection) (whole now : Cursor) (items : List Told)
+pub gives_all : (entries : List Entry) (s : Selection) (whole now : Cursor) (items : List ToldItem)
     → Remains entries s whole items now → picked_from entries s now.place ≡ []
     → Gives entries (wanted_of s whole) (record { items = items; next = now.place; more = false })
 gives_all entries s whole now items rest none =

@@ -2,18 +2,18 @@
 use Rattle.std.proofs.Common.{◌≡◌, ℕ, Bool, List, length, ap, sym, ◌∙◌}
 use Rattle.archive_terms.specs.Archive.{Entry}
 use Rattle.archive_terms.specs.Selection.{Selection, is_stop_closed}
-use Rattle.archive_terms.specs.Placed.{Told}
+use Rattle.archive_terms.specs.Placed.{ToldItem}
 use Rattle.archive_terms.specs.Glimpse.{Locks, locks, wants_items, glimpse}
 use Rattle.archive_terms.specs.Glimpse as terms
 use Rattle.frame_select.specs.Glimpse.{locks_of, as_said}
 use Rattle.archive_index.specs.declared.cursor.Cursor.{Cursor}
 use Rattle.archive_index.specs.declared.look.Given.{Given}
 use Rattle.archive_index.specs.declared.totals.Totals.{Totals}
-use Rattle.archive_index.specs.Kept.{totals_of, has_closed}
+use Rattle.archive_index.specs.IndexState.{totals_of, has_closed}
 use Rattle.archive_index.specs.Look.{Gives, wanted_of}
 use Rattle.archive_index.proofs.Ends.{is_stop_closed-ends}
 
-same_glimpse : (f g n m p q : ℕ) (is js : List Told) (a b c d : Bool) (k l : Locks)
+same_glimpse : (f g n m p q : ℕ) (is js : List ToldItem) (a b c d : Bool) (k l : Locks)
     → f ≡ g → is ≡ js → n ≡ m → a ≡ b → c ≡ d → k ≡ l → p ≡ q →
     let x : terms.Glimpse = record {
       front = f;

@@ -15,13 +15,14 @@ use Rattle.archive_terms.specs.Continuity.{lost_of, lost_between, lost_up_to, ga
 use Rattle.archive_terms.specs.declared.limits.TheConstants.{GREATEST_LOST}
 use Rattle.archive_index.specs.declared.mark.Mark as code
 use Rattle.archive_index.specs.declared.totals.Totals.{Totals}
-use Rattle.archive_index.specs.Kept.{Mark, Kept, Indexes, mark_of, marks_behind, mark_seen}
-use Rattle.archive_index.specs.Kept.{kind_seen, kind_of, totals_of, totals_with}
+use Rattle.archive_index.specs.IndexState.{Mark, IndexState, Indexes, mark_of, marks_behind}
+use Rattle.archive_index.specs.IndexState.{mark_seen}
+use Rattle.archive_index.specs.IndexState.{kind_seen, kind_of, totals_of, totals_with}
 use Rattle.archive_index.proofs.Marks.{marks-push, marks-take, length-marks, mark_there, lost_small}
 use Rattle.archive_index.proofs.Marks.{totals-push, lost_bound}
 
 -- the program's marks and totals, as contracts see an index of them
-abbrev pub seen : List code.Mark → Totals → Kept
+abbrev pub seen : List code.Mark → Totals → IndexState
 seen marks totals = record { marks = map mark_seen marks; totals = totals }
 
 pub record Stands (marks : List code.Mark) (totals : Totals) (entries : List Entry) : Type 0 where
@@ -30,7 +31,7 @@ pub record Stands (marks : List code.Mark) (totals : Totals) (entries : List Ent
   pub valid : list_all is_valid entries ≡ true
   pub count : length marks ≡ length entries
 
-pub stands : (marks : List code.Mark) (totals : Totals) (index : Kept) (entries : List Entry)
+pub stands : (marks : List code.Mark) (totals : Totals) (index : IndexState) (entries : List Entry)
     → seen marks totals ≡ index → Indexes index entries → Stands marks totals entries
 stands marks totals index entries same indexes =
     let kept : seen marks totals ≡ record {
@@ -53,8 +54,9 @@ indexes_of marks totals entries marks_are totals_are valid =
     record { kept = same marks_are totals_are; valid = valid }
   where
     same : {ms : List Mark} → ms ≡ marks_behind [] entries → totals ≡ totals_of entries →
-        let a : Kept = record { marks = ms; totals = totals } in
-        let b : Kept = record { marks = marks_behind [] entries; totals = totals_of entries } in
+        let a : IndexState = record { marks = ms; totals = totals } in
+        let b : IndexState =
+        record { marks = marks_behind [] entries; totals = totals_of entries } in
         a ≡ b
     same p q = cc
 
@@ -126,7 +128,7 @@ all_of_front (suc n) (e ∷ entries) valid =
     and_from (is_valid e) (list_all is_valid (take n entries)) parts.0
     (all_of_front n entries parts.1)
 
-pub indexes_cut : (marks front : List code.Mark) (t u : Totals) (index : Kept)
+pub indexes_cut : (marks front : List code.Mark) (t u : Totals) (index : IndexState)
     (entries : List Entry) (n : ℕ)
     → seen marks t ≡ index → Indexes index entries → front ≡ take n marks
     → u ≡ totals_of (take n entries)
@@ -138,15 +140,15 @@ indexes_cut marks front t u index entries n same indexes is totals =
     ∙ marks-take [] entries n)
     totals (all_of_front n entries st.valid)
 
-pub totals_within : (marks : List code.Mark) (t : Totals) (index : Kept) (entries : List Entry)
-    (place : ℕ) (m : code.Mark)
+pub totals_within : (marks : List code.Mark) (t : Totals) (index : IndexState)
+    (entries : List Entry) (place : ℕ) (m : code.Mark)
     → seen marks t ≡ index → Indexes index entries → place < length marks → m ≡ get_or marks place m
     → m.before ≡ totals_of (take place entries)
 totals_within marks t index entries place m same indexes below read =
     ap (λ m. m.before) (mark_stands marks t entries (stands marks t index entries same indexes)
     place m below read).2
 
-pub totals_past : (marks : List code.Mark) (t : Totals) (index : Kept) (entries : List Entry)
+pub totals_past : (marks : List code.Mark) (t : Totals) (index : IndexState) (entries : List Entry)
     (place : ℕ)
     → seen marks t ≡ index → Indexes index entries → length marks ≤ place
     → t ≡ totals_of (take place entries)
@@ -154,7 +156,7 @@ totals_past marks t index entries place same indexes past =
     let st : Stands marks t entries = stands marks t index entries same indexes in
     st.totals_are ∙ ap totals_of (sym (take_all place entries (omega (arith, st.count))))
 
-pub indexes_push : (marks more : List code.Mark) (m : code.Mark) (t u : Totals) (index : Kept)
+pub indexes_push : (marks more : List code.Mark) (m : code.Mark) (t u : Totals) (index : IndexState)
     (entries : List Entry) (e : Entry)
     → seen marks t ≡ index → Indexes index entries → IsTrue (is_valid e) → length marks < 2 ^ 64
     → more ≡ marks ++ m ∷ [] → kind_seen m.kind ≡ kind_of e → m.before ≡ t → u ≡ totals_with t e

@@ -2,7 +2,7 @@ pub mod Ends
 pub mod Orders
 pub mod Marks
 pub mod Picks
-pub mod Told
+pub mod NoticeTotals
 pub mod Indexed
 pub mod Giving
 pub mod Entries

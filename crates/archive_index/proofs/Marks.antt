@@ -11,8 +11,8 @@ use Rattle.archive_terms.specs.Continuity.{lost_of}
 use Rattle.archive_terms.specs.Glimpse.{all_locks, locks_after, production_after}
 use Rattle.archive_terms.specs.declared.limits.TheConstants.{GREATEST_LOST}
 use Rattle.archive_index.specs.declared.totals.Totals.{Totals}
-use Rattle.archive_index.specs.Kept.{mark_of, marks_behind, end_with, lock_list, lost_with}
-use Rattle.archive_index.specs.Kept.{totals_of, totals_with}
+use Rattle.archive_index.specs.IndexState.{mark_of, marks_behind, end_with, lock_list, lost_with}
+use Rattle.archive_index.specs.IndexState.{totals_of, totals_with}
 
 pub marks-push : (before entries : List Entry) (e : Entry)
     → marks_behind before (entries ++ e ∷ [])

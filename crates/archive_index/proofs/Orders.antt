@@ -8,7 +8,7 @@ use Rattle.std.proofs.lemmas.Bool.Decides.{nat_tests}
 use Rattle.cds_time.specs.Moment.{moment_of}
 use Rattle.archive_terms.specs.Archive.{Entry, frame, loss_of_sync, production, seal, frame_time}
 use Rattle.archive_terms.specs.Archive.{seal_time, is_from, is_above, keeps_order, may_precede}
-use Rattle.archive_index.specs.Kept.{end_of, totals_of, is_in_order}
+use Rattle.archive_index.specs.IndexState.{end_of, totals_of, is_in_order}
 use Rattle.archive_index.proofs.Ends.{is_at_least, below_end_of}
 
 swap : (a b p q : Bool) → ((not a && not b) && (not p && not q)) ≡ (not (a || p) && not (b || q))

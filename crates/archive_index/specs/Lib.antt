@@ -1,3 +1,3 @@
 pub mod Next
-pub mod Kept
+pub mod IndexState
 pub mod Look

@@ -9,7 +9,7 @@ ghost use Rattle.archive_terms.specs.Continuity.{gap};
 ghost use Rattle.record_form.specs.Entry.{entry_of};
 ghost use Rattle.frame_select.specs.Selection.{selection_of};
 ghost use Rattle.archive_index.specs.Next.{next_picked};
-ghost use Rattle.archive_index.specs.Kept.{Indexes, totals_of};
+ghost use Rattle.archive_index.specs.IndexState.{Indexes, totals_of};
 
 use crate::mark::{Kind, Mark};
 use crate::totals::{NONE, Totals};
@@ -32,9 +32,9 @@ pub struct Index {
 
 impl Model for Index {
     ghost use Rattle.std.specs.Prelude.{map, vec_items};
-    ghost use Rattle.archive_index.specs.Kept.{Kept, mark_seen};
+    ghost use Rattle.archive_index.specs.IndexState.{IndexState, mark_seen};
 
-    ghost Value = { Kept };
+    ghost Value = { IndexState };
 
     ghost view = { λ index. record {
       marks = map mark_seen (vec_items index.marks);

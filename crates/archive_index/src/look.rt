@@ -10,7 +10,7 @@ ghost use Rattle.frame_select.specs.Selection.{selection_of};
 ghost use Rattle.frame_select.specs.Item.{item_of, said_of};
 ghost use Rattle.frame_select.specs.Want.{want_of};
 ghost use Rattle.frame_select.specs.Glimpse.{glimpse_of, as_said};
-ghost use Rattle.archive_index.specs.Kept.{Indexes};
+ghost use Rattle.archive_index.specs.IndexState.{Indexes};
 ghost use Rattle.archive_index.specs.Look.{is_told_of, Gives, wanted_of};
 
 use crate::cursor::Cursor;
@@ -79,13 +79,13 @@ impl Index {
         alloc: Global,
         entries: &[Entry],
         selection: &Selection,
-        wanted: Cursor,
+        first: Cursor,
     ) -> Result<Given, Memory>
         requires { Indexes self.now (entries_of entries.now) }
         ensures { IfOk result (Gives (entries_of entries.now)
-            (wanted_of (selection_of selection.now) wanted)) }
+            (wanted_of (selection_of selection.now) first)) }
     {
-        let mut cursor = wanted;
+        let mut cursor = first;
         let mut items = Items::new(alloc);
         while let Some(place) = self.after(selection, cursor.place) {
             if cursor.is_full() {

@@ -25,7 +25,7 @@ pub(crate) enum Kind {
 }
 
 impl Kind {
-    ghost use Rattle.archive_index.specs.Kept.{kind_of, kind_seen};
+    ghost use Rattle.archive_index.specs.IndexState.{kind_of, kind_seen};
 
     pub(crate) fn of(entry: &Entry) -> Kind
         ensures { kind_seen result ≡ kind_of (entry_of entry.now) }
@@ -56,7 +56,7 @@ pub(crate) struct Mark {
 }
 
 impl Mark {
-    ghost use Rattle.archive_index.specs.Kept.{mark_of, mark_seen, tells};
+    ghost use Rattle.archive_index.specs.IndexState.{mark_of, mark_seen, tells};
 
     // Whether a selection picks the entry, which stands at this place.
     pub(crate) fn is_picked(&self, selection: &Selection, place: u64) -> bool

@@ -33,7 +33,8 @@ pub(crate) const NONE: Totals = Totals {
 };
 
 impl Totals {
-    ghost use Rattle.archive_index.specs.Kept.{totals_with, has_started, has_closed, is_in_order};
+    ghost use Rattle.archive_index.specs.IndexState.{totals_with, has_started, has_closed};
+    ghost use Rattle.archive_index.specs.IndexState.{is_in_order};
 
     // With one entry more behind them.
     pub(crate) fn with(&self, entry: &Entry) -> Totals

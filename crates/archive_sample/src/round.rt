@@ -83,26 +83,26 @@ pub fn after_round(timely: bool, link: Link, before: &Delivery, next: &Delivery)
 }
 
 /// The delivery after the answer to its buffer.
-pub fn answered(timely: bool, answer: Answer, offered: &Delivery) -> Delivery
-    requires { offered.now.settled + offered.now.held < 2 ^ 64 }
+pub fn answered(timely: bool, answer: Answer, delivery: &Delivery) -> Delivery
+    requires { delivery.now.settled + delivery.now.held < 2 ^ 64 }
     ensures { (t : Terms) → is_timely t.mode ≡ timely
-        → delivery_of result ≡ answered t (answer_of answer) (delivery_of offered.now) }
+        → delivery_of result ≡ answered t (answer_of answer) (delivery_of delivery.now) }
 {
     match answer {
-        Answer::Whole => taken_whole(offered),
-        Answer::Stalled => stalled(timely, offered),
-        Answer::Failed => *offered,
+        Answer::Whole => taken_whole(delivery),
+        Answer::Stalled => stalled(timely, delivery),
+        Answer::Failed => *delivery,
     }
 }
 
 // An offer that was taken whole: a backlog in it is no longer owed, and end of data ends the
 // delivery.
-fn taken_whole(offered: &Delivery) -> Delivery
-    requires { offered.now.settled + offered.now.held < 2 ^ 64 }
-    ensures { delivery_of result ≡ taken_whole (delivery_of offered.now) }
+fn taken_whole(delivery: &Delivery) -> Delivery
+    requires { delivery.now.settled + delivery.now.held < 2 ^ 64 }
+    ensures { delivery_of result ≡ taken_whole (delivery_of delivery.now) }
 {
-    let mut after = released(offered);
-    match offered.head {
+    let mut after = released(delivery);
+    match delivery.head {
         Some(Head::Backlog) => after.owed = false,
         Some(Head::EndOfData) => after.ended = true,
         None => {}
@@ -111,31 +111,31 @@ fn taken_whole(offered: &Delivery) -> Delivery
 }
 
 // A stalled offer: a timely delivery discards a buffer that has a picked entry, and owes a backlog.
-fn stalled(timely: bool, offered: &Delivery) -> Delivery
-    requires { offered.now.settled + offered.now.held < 2 ^ 64 }
+fn stalled(timely: bool, delivery: &Delivery) -> Delivery
+    requires { delivery.now.settled + delivery.now.held < 2 ^ 64 }
     ensures { (mode : Mode) → is_timely mode ≡ timely
-        → delivery_of result ≡ stalled mode (delivery_of offered.now) }
+        → delivery_of result ≡ stalled mode (delivery_of delivery.now) }
 {
-    if !timely || offered.held == 0 {
-        return *offered;
+    if !timely || delivery.held == 0 {
+        return *delivery;
     }
-    let mut after = released(offered);
+    let mut after = released(delivery);
     after.owed = true;
     after
 }
 
 // The held buffer is settled.
-fn released(offered: &Delivery) -> Delivery
-    requires { offered.now.settled + offered.now.held < 2 ^ 64 }
-    ensures { delivery_of result ≡ released (delivery_of offered.now) }
+fn released(delivery: &Delivery) -> Delivery
+    requires { delivery.now.settled + delivery.now.held < 2 ^ 64 }
+    ensures { delivery_of result ≡ released (delivery_of delivery.now) }
 {
     Delivery {
-        settled: offered.settled + u64::from(offered.held),
+        settled: delivery.settled + u64::from(delivery.held),
         held: 0,
         head: None,
-        owed: offered.owed,
+        owed: delivery.owed,
         fixed: false,
-        since: offered.since,
-        ended: offered.ended,
+        since: delivery.since,
+        ended: delivery.ended,
     }
 }

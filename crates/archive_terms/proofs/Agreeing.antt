@@ -21,7 +21,8 @@ use Rattle.archive_terms.specs.Rounds.{answered, fate, after_round, outcome, out
 use Rattle.archive_terms.specs.Rounds.{handed_buffer, handed_buffers, FrontsRise}
 use Rattle.archive_terms.specs.Continuity.{told_items, told_buffers}
 use Rattle.archive_terms.specs.Glimpse.{glimpse}
-use Rattle.archive_terms.specs.Placed.{Told, items_of, Placed, placed_at_start, with_head, want_of}
+use Rattle.archive_terms.specs.Placed.{ToldItem, items_of, Placed, placed_at_start, with_head}
+use Rattle.archive_terms.specs.Placed.{want_of}
 use Rattle.archive_terms.specs.Placed.{with_items, is_all_put, with_end_alone, fixed_where_due}
 use Rattle.archive_terms.specs.Placed.{placed_step, placed_answered, placed_at_round}
 use Rattle.archive_terms.specs.Placed.{placed_answer_at, placed_after_round, placed_fate}
@@ -33,7 +34,7 @@ use Rattle.archive_terms.proofs.States.{State, going, owing, telling, ending, ov
 use Rattle.archive_terms.proofs.States.{State-stepped, State-answered}
 use Rattle.archive_terms.proofs.Histories.{none_archived, some_held}
 use Rattle.archive_terms.proofs.Prefixes.{no_end}
-use Rattle.archive_terms.proofs.Told.{stand_before, items_stay, held_stand}
+use Rattle.archive_terms.proofs.ToldBuffers.{stand_before, items_stay, held_stand}
 use Rattle.archive_terms.proofs.Waiting.{from_place, all_from_first, waits_grow}
 use Rattle.archive_terms.proofs.Runs.{front_grows, is_archive-take, held_within, State-longer}
 use Rattle.archive_terms.proofs.Agreement.{Agrees, items_of-told, held_is_empty, end_same}
@@ -69,7 +70,7 @@ module _ (t : Terms) (a : List Entry) (now : ℕ) (p : Placed) where
       }
 
   -- the buffer that is held after filling, with end of data where it stands alone
-  agrees_held : (front head : Option Item) (n since : ℕ) (owed : Bool) (held : List Told)
+  agrees_held : (front head : Option Item) (n since : ℕ) (owed : Bool) (held : List ToldItem)
       → 0 < t.size → Filled t a now p front n → p.owed ≡ owed → p.ended ≡ false
       → put.since ≡ since
       → held ≡ told_items a p.last (option_to_list head
@@ -483,7 +484,7 @@ ends_same f g false xs ys none same = same
 pub record Same (t : Terms) (entries : List Entry) (rounds : List Round) (p : Placed)
     (d : Delivery) : Type 0 where
   pub steps : map (λ x. x.0) (placed_outcomes t entries rounds p) ≡ outcomes t entries rounds d
-  pub told : filter_map (λ (x : Outcome × Option (List Told)). x.1)
+  pub told : filter_map (λ (x : Outcome × Option (List ToldItem)). x.1)
       (placed_outcomes t entries rounds p)
       ≡ told_buffers entries p.last (handed_buffers (outcomes t entries rounds d))
 
@@ -523,13 +524,13 @@ same_rounds t entries f (r ∷ rounds) p d some archive rise both =
     after : Option Answer → Placed
     after x = option_map_or (λ y. placed_answered t y q) x q
 
-    did : Option Answer → Outcome × Option (List Told)
+    did : Option Answer → Outcome × Option (List ToldItem)
     did x = (
       option_map_or (λ y. placed_fate t y (items_of q.held)) x nothing,
       option_map_or (λ y. told_where y q.held) x None,
     )
 
-    does : Option Answer → List (Outcome × Option (List Told))
+    does : Option Answer → List (Outcome × Option (List ToldItem))
     does x = did x ∷ cond (is_failed r.link x) [] (placed_outcomes t entries rounds (after x))
 
     one_more : Both t entries r.front q e
@@ -549,9 +550,9 @@ same_rounds t entries f (r ∷ rounds) p d some archive rise both =
               (placed_outcomes t entries rounds (after answer))
               (outcomes t entries rounds (after_round t entries r d)) refl further.steps));
           told =
-              ap (λ x. filter_map (λ (y : Outcome × Option (List Told)). y.1) (does x)) same
+              ap (λ x. filter_map (λ (y : Outcome × Option (List ToldItem)). y.1) (does x)) same
               ∙ ap (cons_option (did answer).1) (ends_same
-              (filter_map (λ (y : Outcome × Option (List Told)). y.1))
+              (filter_map (λ (y : Outcome × Option (List ToldItem)). y.1))
               (λ ys. told_buffers entries (after answer).last (handed_buffers ys)) failed_at
               (placed_outcomes t entries rounds (after answer))
               (outcomes t entries rounds (after_round t entries r d)) refl further.told)

@@ -22,7 +22,7 @@ use Rattle.archive_terms.specs.Placed.{items_of, Placed, with_head, want_of, tak
 use Rattle.archive_terms.specs.Placed.{is_all_put}
 use Rattle.archive_terms.proofs.Buffers.{InLimits, room, entries_of-archived, nothing_complete}
 use Rattle.archive_terms.proofs.Places.{RisesTo, places_of, picked_rises}
-use Rattle.archive_terms.proofs.Told.{told-append}
+use Rattle.archive_terms.proofs.ToldBuffers.{told-append}
 use Rattle.archive_terms.proofs.Waiting.{from_place, behind_to, waits_behind, left_rises}
 use Rattle.archive_terms.proofs.Fills.{front_length, look, look-le, enough_given, held_taken}
 use Rattle.archive_terms.proofs.Fills.{given_fills}

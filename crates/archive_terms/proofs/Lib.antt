@@ -12,7 +12,7 @@ pub mod Prefixes
 pub mod OfflineRounds
 pub mod Gaps
 pub mod FewFrames
-pub mod Told
+pub mod ToldBuffers
 pub mod Links
 pub mod Counts
 pub mod Waiting

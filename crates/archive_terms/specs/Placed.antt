@@ -16,10 +16,10 @@ use Rattle.archive_terms.specs.Glimpse.{glimpse}
 use Rattle.archive_terms.specs.declared.limits.TheConstants.{FULL_BUFFER}
 
 -- an item as it is told
-abbrev pub Told : Type 0
-Told = Item × Option ℤ
+abbrev pub ToldItem : Type 0
+ToldItem = Item × Option ℤ
 
-abbrev pub items_of : List Told → List Item
+abbrev pub items_of : List ToldItem → List Item
 items_of told = map (λ x. x.0) told
 
 -- the place behind the last picked entry that was put; the place of the last frame that was handed
@@ -28,7 +28,7 @@ items_of told = map (λ x. x.0) told
 pub record Placed : Type 0 where
   pub place : ℕ
   pub last : Option ℕ
-  pub held : List Told
+  pub held : List ToldItem
   pub owed : Bool
   pub fixed : Bool
   pub since : ℕ
@@ -48,7 +48,7 @@ placed_at_start t =
     }
 
 -- where nothing is held and a backlog is owed, it is the head
-abbrev pub with_head : Placed → List Told
+abbrev pub with_head : Placed → List ToldItem
 with_head p = if p.owed && length p.held == 0 then (backlog, None) ∷ [] else p.held
 
 -- what it wants of the next look: nothing where a buffer is fixed or it ended
@@ -142,11 +142,11 @@ placed_fate t stall items = if is_timely t.mode && list_any is_archived items th
     else kept items
 placed_fate t fail items = failed items
 
-abbrev pub told_where : Answer → List Told → Option (List Told)
+abbrev pub told_where : Answer → List ToldItem → Option (List ToldItem)
 told_where whole told = Some told
 told_where _ told = None
 
-abbrev pub placed_outcome : Terms → List Entry → Round → Placed → Outcome × Option (List Told)
+abbrev pub placed_outcome : Terms → List Entry → Round → Placed → Outcome × Option (List ToldItem)
 placed_outcome t entries r p =
     let after = placed_at_round t entries r p in (
       option_map_or (λ answer. placed_fate t answer (items_of after.held))
@@ -156,7 +156,7 @@ placed_outcome t entries r p =
 
 -- over a list of rounds, up to the first in which the link failed
 abbrev pub placed_outcomes : Terms → List Entry → List Round → Placed
-    → List (Outcome × Option (List Told))
+    → List (Outcome × Option (List ToldItem))
 placed_outcomes t entries [] p = []
 placed_outcomes t entries (r ∷ rounds) p =
     placed_outcome t entries r p

@@ -35,7 +35,7 @@ ghost use Rattle.archive_terms.specs.Continuity.{continuity, continuities, told_
 ghost use Rattle.archive_terms.specs.Continuity.{told_buffers, gap, gaps, lost_of, lost_up_to};
 ghost use Rattle.archive_terms.specs.Continuity.{lost_between};
 ghost use Rattle.archive_terms.specs.Glimpse.{given, wants_front, all_locks, glimpse};
-ghost use Rattle.archive_terms.specs.Placed.{Told, placed_at_start, placed_outcomes};
+ghost use Rattle.archive_terms.specs.Placed.{ToldItem, placed_at_start, placed_outcomes};
 ghost use Rattle.archive_terms.specs.Examples.{time_of, day_time, small_frame, first, second};
 ghost use Rattle.archive_terms.specs.Examples.{third, sealed, mixed, lossy, lossiest, noted};
 ghost use Rattle.archive_terms.specs.Examples.{wanted_from, of_channel, with_notices, from_to};
@@ -261,7 +261,7 @@ pub fn places_are_counts()
     ensures told { (t : Terms) (entries : List Entry) (rounds : List Round)
         → 0 < t.size → IsArchive entries → t.selection.first ≤ length entries
         → FrontsRise t.selection.first rounds
-        → filter_map (λ (x : Outcome × Option (List Told)). x.1)
+        → filter_map (λ (x : Outcome × Option (List ToldItem)). x.1)
         (placed_outcomes t entries rounds (placed_at_start t))
         ≡ told_buffers entries None (handed_buffers (outcomes t entries rounds started)) }
 {}

@@ -18,7 +18,7 @@ use Rattle.assoc_core.specs.declared.bind_fault.BindFault.TheVariants.{Inconsist
 use Rattle.assoc_core.specs.Bind.{Ask, type_of, is_type, instance_place, wanted, is_owned_by, Check}
 use Rattle.assoc_core.specs.Bind.{checks, first_fault, place_unless, bind_answer}
 use Rattle.assoc_core.specs.Laws.{MayBind}
-use Rattle.assoc_core.proofs.Told.{same_number, differ, is_false, no_failure}
+use Rattle.assoc_core.proofs.Tests.{same_number, differ, is_false, no_failure}
 
 -- the checks up to the last one
 pub record PassesUpTo (site : Site) (ask : Ask) (peer place : ℕ) (instance : Instance) : Type

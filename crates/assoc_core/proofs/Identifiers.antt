@@ -3,7 +3,7 @@ use Rattle.std.proofs.Common.{◌≡◌, ◌↔◌, Bool, true, false, IsTrue, L
 use Rattle.sle_common.specs.declared.instance_id.InstancePart.{InstancePart}
 use Rattle.station_config.specs.Drafts.{same_id}
 use Rattle.station_config.specs.Identity.{same_id_decides}
-use Rattle.assoc_core.proofs.Told.{differ, is_false}
+use Rattle.assoc_core.proofs.Tests.{differ, is_false}
 
 -- a test that tells whether identifiers are equal
 pub told : (test : Bool) (a b : List InstancePart) → IsTrue test ↔ (a ≡ b) → test ≡ same_id a b

@@ -1,4 +1,4 @@
-pub mod Told
+pub mod Tests
 pub mod Secrets
 pub mod Identifiers
 pub mod Checks

@@ -16,7 +16,7 @@ use Rattle.assoc_core.specs.Association.{is_in_place, goes_on, after_step, step 
 use Rattle.assoc_core.specs.Run.{Turn, after_turn, after, Played, plays, is_pass, passed_kind}
 use Rattle.assoc_core.specs.Run.{passed, is_of_bound, MayLead, AreLed}
 use Rattle.assoc_core.specs.Laws.{IsContextFirst, IsBindOf, AnyByRecursion, IsBoundBy}
-use Rattle.assoc_core.proofs.Told.{differ, is_false}
+use Rattle.assoc_core.proofs.Tests.{differ, is_false}
 use Rattle.assoc_core.proofs.Steps.{passes, opens, closed, IsOpened, opened_stays, closing_stays}
 use Rattle.assoc_core.proofs.Steps.{was_bound, somebody, nobody}
 

@@ -26,7 +26,7 @@ use Rattle.assoc_core.specs.Access.{may_send, is_admitted}
 use Rattle.assoc_core.specs.Association.{is_decoded, is_in_place, refusal, goes_on, step as step_of}
 use Rattle.assoc_core.specs.Run.{is_of_bound}
 use Rattle.assoc_core.specs.Laws.{HasSender}
-use Rattle.assoc_core.proofs.Told.{differ}
+use Rattle.assoc_core.proofs.Tests.{differ}
 
 -- what becomes of a message by the three tests
 abbrev judged : Bool → Bool → Bool → Kind → Step

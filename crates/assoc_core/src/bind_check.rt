@@ -78,17 +78,17 @@ fn has_version(versions: &[u8], version: u16) -> bool
 }
 
 // The place of the instance that a BIND names.
-fn place_of(instances: &[Instance], wanted: &InstanceRef<'_>) -> Option<usize>
-    ensures { result ≡ instance_place instances.now (parts_of wanted.now) }
+fn place_of(instances: &[Instance], reference: &InstanceRef<'_>) -> Option<usize>
+    ensures { result ≡ instance_place instances.now (parts_of reference.now) }
 {
     instances
         .iter()
-        .position(|instance| names(wanted, &instance.id))
+        .position(|instance| names(reference, &instance.id))
 }
 
 // Whether a BIND names this identifier.
-fn names(wanted: &InstanceRef<'_>, id: &InstanceId) -> bool
-    ensures { result ≡ same_id (parts_of wanted.now) id.now }
+fn names(reference: &InstanceRef<'_>, id: &InstanceId) -> bool
+    ensures { result ≡ same_id (parts_of reference.now) id.now }
 {
-    wanted.names(id)
+    reference.names(id)
 }

@@ -44,10 +44,10 @@ fn feed(feeder: &mut Feeder, octets: &[u8]) -> u64 {
 }
 
 // Copies the octets piece by piece to one place.
-fn copy(kept: &mut Vec<u8>, octets: &[u8]) -> Result<(), AllocError> {
+fn copy(into: &mut Vec<u8>, octets: &[u8]) -> Result<(), AllocError> {
     for piece in octets.chunks(PIECE) {
-        kept.clear();
-        kept.extend_from_slice(piece)?;
+        into.clear();
+        into.extend_from_slice(piece)?;
     }
     Ok(())
 }

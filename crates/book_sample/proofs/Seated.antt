@@ -1,6 +1,6 @@
 -- What seated workers did, and the lists that were joined.
 use Rattle.std.proofs.Common.{◌≡◌, List, [], ◌∷◌, ◌++◌, map, refl, ap, sym, subst, ◌∙◌}
-use Rattle.turn_lock.specs.Known.{Known, Lock}
+use Rattle.turn_lock.specs.PassState.{PassState, Lock}
 use Rattle.turn_lock.specs.declared.view.Mark.{Mark}
 use Rattle.station_book.specs.State.{Opening, Event}
 use Rattle.book_sample.specs.Jobs.{call_of}

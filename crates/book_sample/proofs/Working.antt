@@ -3,7 +3,7 @@ use Rattle.std.proofs.Common.{◌≡◌, ◌≢◌, ℕ, ◌+◌, ◌<◌, ◌�
 use Rattle.std.proofs.Common.{length-append, map, Some, refl, ap, sym, subst, ◌∙◌, append_assoc}
 use Rattle.std.proofs.Common.{append-nil, arith}
 use Rattle.std.proofs.lemmas.List.{map-append}
-use Rattle.turn_lock.specs.Known.{Known, Lock}
+use Rattle.turn_lock.specs.PassState.{PassState, Lock}
 use Rattle.turn_lock.specs.Own.{mark}
 use Rattle.turn_lock.specs.declared.view.Mark.{Mark}
 use Rattle.turn_lock.specs.declared.pass.Standing.TheVariants.{Ready}
@@ -15,8 +15,8 @@ use Rattle.book_sample.specs.declared.job.Job.{Job}
 use Rattle.book_sample.specs.declared.job.Outcome.{Outcome}
 
 module _ (lock : Lock Opening) (door reading : ℕ) where
-  pub worked_nothing : (pass : Known Event Opening) → pass.lock ≡ Some lock → pass.standing ≡ Ready
-      → Worked lock door reading [] [] pass pass
+  pub worked_nothing : (pass : PassState Event Opening) → pass.lock ≡ Some lock → pass.standing
+      ≡ Ready → Worked lock door reading [] [] pass pass
   worked_nothing pass l r = record {
     lock_is = l;
     ready = r;
@@ -29,7 +29,7 @@ module _ (lock : Lock Opening) (door reading : ℕ) where
   }
 
   pub worked_more : (done : List Job) (outcomes : List Outcome) (job : Job) (outcome : Outcome)
-      (p q r : Known Event Opening)
+      (p q r : PassState Event Opening)
       → Worked lock door reading done outcomes p q
       → MadeOne lock.origin (call_of door reading job) outcome q r
       → (r.lock ≡ q.lock) × (r.standing ≡ Ready) × (r.joined ≡ q.joined)
@@ -54,7 +54,7 @@ module _ (lock : Lock Opening) (door reading : ℕ) where
       }
 
   -- a turn was left
-  pub worked_still : (done : List Job) (outcomes : List Outcome) (p q r : Known Event Opening)
+  pub worked_still : (done : List Job) (outcomes : List Outcome) (p q r : PassState Event Opening)
       → Worked lock door reading done outcomes p q → r.own ≡ q.own
       → (r.lock ≡ q.lock) × (r.standing ≡ Ready) × (r.joined ≡ q.joined)
       → IsLegal (opened lock.origin) r.seen
@@ -73,14 +73,14 @@ module _ (lock : Lock Opening) (door reading : ℕ) where
 
   -- so far these jobs were done, and the others are still to be
   pub record Working (jobs done rest : List Job) (outcomes : List Outcome)
-      (start pass : Known Event Opening) : Type 0 where
+      (start pass : PassState Event Opening) : Type 0 where
     pub split : jobs ≡ done ++ rest
     pub worked : Worked lock door reading done outcomes start pass
     pub turns : pass.left + pass.entered ≡ start.left + start.entered
     pub enough : length rest ≤ pass.left
 
   pub working_more : (jobs done rest more : List Job) (outcomes : List Outcome) (job : Job)
-      (outcome : Outcome) (start q r : Known Event Opening)
+      (outcome : Outcome) (start q r : PassState Event Opening)
       → Working jobs done rest outcomes start q → rest ≡ job ∷ more
       → MadeOne lock.origin (call_of door reading job) outcome q r
       → (r.lock ≡ q.lock) × (r.standing ≡ Ready) × (r.joined ≡ q.joined)

@@ -1,7 +1,7 @@
 -- What a worker did.
 use Rattle.std.specs.Prelude.{◌≡◌, ℕ, ◌+◌, List, [], ◌∷◌, ◌++◌, length, map, Some}
 use mathlib.Core.List.{IsPrefix}
-use Rattle.turn_lock.specs.Known.{Known, Lock}
+use Rattle.turn_lock.specs.PassState.{PassState, Lock}
 use Rattle.turn_lock.specs.Own.{mark}
 use Rattle.turn_lock.specs.declared.view.Mark.{Mark}
 use Rattle.turn_lock.specs.declared.pass.Standing.TheVariants.{Ready}
@@ -18,7 +18,7 @@ called o before call = event_at (replay (opened o) before) call
 -- the pass made one call, with this outcome, after the events of some list that begins with all
 -- that it had seen
 pub record MadeOne (o : Opening) (call : Call) (outcome : Outcome)
-    (old new : Known Event Opening) : Type 0 where
+    (old new : PassState Event Opening) : Type 0 where
   pub before : List Event
   pub later : IsPrefix old.seen before
   pub seen : new.seen ≡ before ++ called o before call ∷ []
@@ -34,7 +34,7 @@ outcomes_of ms = map (λ m. outcome_of m.event.reply) ms
 -- the pass's own events gained those of these jobs, in order, with these outcomes, one for each
 -- turn
 pub record Worked (lock : Lock Opening) (door reading : ℕ) (done : List Job)
-    (outcomes : List Outcome) (old new : Known Event Opening) : Type 0 where
+    (outcomes : List Outcome) (old new : PassState Event Opening) : Type 0 where
   pub lock_is : new.lock ≡ Some lock
   pub ready : new.standing ≡ Ready
   pub joined : new.joined ≡ old.joined
@@ -46,7 +46,7 @@ pub record Worked (lock : Lock Opening) (door reading : ℕ) (done : List Job)
 
 -- the pass did the first of these jobs, and has the turns that it had
 pub record HasWorked (lock : Lock Opening) (door reading : ℕ) (jobs : List Job)
-    (outcomes : List Outcome) (old new : Known Event Opening) : Type 0 where
+    (outcomes : List Outcome) (old new : PassState Event Opening) : Type 0 where
   pub done : List Job
   pub rest : List Job
   pub split : jobs ≡ done ++ rest

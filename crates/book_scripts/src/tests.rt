@@ -2,16 +2,16 @@
 //
 // A line of a script is a reading, a door, a call with its numbers, `=` and the answer. Both the
 // book and the plain program have to give these answers.
+use book_desk::BookDesk;
 use call::{Desk, call_of};
-use kept::Kept;
 use octet_core::Memory;
 use plain::Plain;
 use std::alloc::{AllocError, Global};
 use std::process::Abort;
 use std::test::Fail;
 
+mod book_desk;
 mod call;
-mod kept;
 mod plain;
 mod random;
 mod workers;
@@ -35,7 +35,7 @@ fn wrong_line<'a, D: Desk>(
 
 // The book answers a script so, and the plain program too.
 fn both_play(rt: &impl Abort, alloc: Global, script: &str) -> Result<(), AllocError> {
-    let mut book = Kept::new(alloc).map_err(AllocError::from)?;
+    let mut book = BookDesk::new(alloc).map_err(AllocError::from)?;
     assert_eq!(rt; wrong_line(alloc, &mut book, script)?, None);
     let mut plain = Plain::new(alloc);
     assert_eq!(rt; wrong_line(alloc, &mut plain, script)?, None);

@@ -6,16 +6,16 @@ use std::alloc::Global;
 use std::str;
 use std::test::Fail;
 use words::{
-    Fixed, Known, Last, Many, Maybe, Nothing, Octet, Then, Time, Unread, Word, Words, WriteWords,
-    read_line, read_row, read_word, write_line,
+    Fixed, FixedText, Last, Many, Maybe, Nothing, Octet, Then, Time, Unread, Word, Words,
+    WriteWords, read_line, read_row, read_word, write_line,
 };
 
 // What was written again: nothing where it is as it was read.
-fn otherwise(alloc: Global, text: &[u8], written: &[u8]) -> Result<String, Fail> {
-    let told = if written == text {
+fn otherwise(alloc: Global, text: &[u8], back: &[u8]) -> Result<String, Fail> {
+    let told = if back == text {
         ""
     } else {
-        str::from_utf8(written).unwrap_or("no text")
+        str::from_utf8(back).unwrap_or("no text")
     };
     Ok(String::from_str(alloc, told)?)
 }
@@ -54,7 +54,7 @@ pub fn parts_text(alloc: Global, text: &[u8]) -> Result<String, Fail> {
 /// The first word of a line.
 pub struct Mark;
 
-impl Known for Mark {
+impl FixedText for Mark {
     ghost TEXT = { codes "mark" };
 
     fn text() -> &'static [u8] {

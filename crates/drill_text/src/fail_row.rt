@@ -1,12 +1,12 @@
 // Whether a radiation fails, as a row of one word at most.
 
 use std::alloc::Global;
-use words::{Fixed, Known, Maybe, Unread, Words};
+use words::{Fixed, FixedText, Maybe, Unread, Words};
 
 /// The word `fail`.
 pub struct Fail;
 
-impl Known for Fail {
+impl FixedText for Fail {
     ghost use Rattle.std.specs.Prelude.{codes};
 
     ghost TEXT = { codes "fail" };

@@ -127,10 +127,10 @@ impl<'a> Element<'a> for Notification {
     }
 }
 
-fn number_of(wanted: bool) -> i128
-    ensures { result ≡ pos (of_wanted wanted) }
+fn number_of(is_wanted: bool) -> i128
+    ensures { result ≡ pos (of_wanted is_wanted) }
 {
-    if wanted { 0 } else { 1 }
+    if is_wanted { 0 } else { 1 }
 }
 
 /// A CLTU: 1 to 65536 octets.

@@ -10,12 +10,12 @@ use Rattle.disk_model.specs.Moments.{IsImageOf, HoldsThroughout}
 use Rattle.gate_journal.specs.File.{StandsFor, StandsAt, entries_octets}
 use Rattle.disk_model.specs.declared.call.Call.{Call}
 use Rattle.disk_model.specs.Calls.{FailedAtOne}
-use Rattle.gate_journal.specs.Kept.{JournalState, Keeps, IsOldOrNew, appending}
-use Rattle.gate_journal.specs.Kept as journal
+use Rattle.gate_journal.specs.JournalState.{JournalState, Keeps, IsOldOrNew, appending}
+use Rattle.gate_journal.specs.JournalState as journal
 use Rattle.gate_journal.specs.declared.fault.JournalFault.{JournalFault}
 use Rattle.gate_journal.specs.declared.order.Times.{Times}
 use Rattle.frame_archive.specs.State.{ArchiveState, failed_batch, times_of, wanted}
-use Rattle.frame_archive.specs.Held.{Agrees, Acknowledges, IsSound}
+use Rattle.frame_archive.specs.Acknowledges.{Agrees, Acknowledges, IsSound}
 use Rattle.frame_archive.specs.Faults.{IsUnread, opening_fault}
 
 pub agrees_alone : (entries : List Entry) → IsArchive entries

@@ -15,10 +15,10 @@ use Rattle.record_form.specs.Spelling.{entry_octets}
 use Rattle.gate_journal.specs.File.{entries_octets}
 use Rattle.gate_journal.specs.declared.order.Times.{Times}
 use Rattle.disk_model.specs.Images.{Pending}
-use Rattle.gate_journal.specs.Kept.{JournalState, Keeps, IsOldOrNew}
+use Rattle.gate_journal.specs.JournalState.{JournalState, Keeps, IsOldOrNew}
 use Rattle.frame_archive.specs.State.{ArchiveState, times_of, times_after, wanted}
 use Rattle.frame_archive.specs.State.{need}
-use Rattle.frame_archive.specs.Held.{Agrees, Acknowledges, IsSound}
+use Rattle.frame_archive.specs.Acknowledges.{Agrees, Acknowledges, IsSound}
 use Rattle.frame_archive.proofs.LastTimes.{times_of-push}
 
 -- what follows from a refusal that didn't come

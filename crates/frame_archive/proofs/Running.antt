@@ -6,9 +6,9 @@ use Rattle.archive_terms.specs.Archive.{Entry}
 use Rattle.disk_model.specs.Images.{Pending}
 use Rattle.disk_model.specs.Moments.{IsImageOf}
 use Rattle.gate_journal.specs.File.{StandsFor}
-use Rattle.gate_journal.specs.Kept.{IsOldOrNew}
+use Rattle.gate_journal.specs.JournalState.{IsOldOrNew}
 use Rattle.frame_archive.specs.State.{ArchiveState, failed_batch, with_failed}
-use Rattle.frame_archive.specs.Held.{Acknowledges}
+use Rattle.frame_archive.specs.Acknowledges.{Acknowledges}
 use Rattle.frame_archive.specs.Run.{Course, acknowledged, given, with_unsettled, Run, opened}
 use Rattle.frame_archive.specs.Run.{offered, stored, failed, reopened, IsOf}
 

@@ -1,4 +1,4 @@
 pub mod State
-pub mod Held
+pub mod Acknowledges
 pub mod Faults
 pub mod Run

@@ -4,7 +4,7 @@ use Rattle.std.specs.Prelude.{ℕ, ◌≡◌, Option, List, [], ◌++◌, length
 use Rattle.archive_terms.specs.Archive.{Entry}
 use Rattle.disk_model.specs.Images.{Pending}
 use Rattle.frame_archive.specs.State.{ArchiveState, failed_batch, with_failed}
-use Rattle.frame_archive.specs.Held.{Acknowledges}
+use Rattle.frame_archive.specs.Acknowledges.{Acknowledges}
 
 -- The entries that the file was opened with, those acknowledged since, by a store or as landed, and
 -- those given to a store that failed, which no reopen has told as landed or lost yet.

@@ -13,10 +13,10 @@ ghost use Rattle.disk_model.specs.MemoryDisk.{steered, restarted, pending_of, co
 ghost use Rattle.disk_model.specs.declared.call.Call.TheVariants.{Sync};
 ghost use Rattle.record_form.specs.Entry.{entry_of};
 ghost use Rattle.gate_journal.specs.File.{StandsFor};
-ghost use Rattle.gate_journal.specs.Kept.{IsOldOrNew, IsAtRest, appending};
+ghost use Rattle.gate_journal.specs.JournalState.{IsOldOrNew, IsAtRest, appending};
 ghost use Rattle.frame_archive.specs.State.{times_of, at_rest, failed_batch, need, free, refusal};
 ghost use Rattle.frame_archive.specs.State.{with_waiting, with_stored, with_failed};
-ghost use Rattle.frame_archive.specs.Held.{Acknowledges, Uses};
+ghost use Rattle.frame_archive.specs.Acknowledges.{Acknowledges, Uses};
 ghost use Rattle.frame_archive.specs.Faults.{IsRefusal, IsUnread, RefusesDisk, RefusesReopen};
 ghost use Rattle.frame_archive.specs.Faults.{IsOfRecovery, opening_fault};
 ghost use Rattle.frame_archive.specs.declared.fault.ArchiveFault.TheVariants as ArchiveFault;
@@ -79,7 +79,7 @@ pub struct FrameArchive<D: Disk> {
 
 impl<D: Disk> Model for FrameArchive<D> {
     ghost use Rattle.frame_archive.specs.State.{ArchiveState};
-    ghost use Rattle.frame_archive.specs.Held.{IsSound};
+    ghost use Rattle.frame_archive.specs.Acknowledges.{IsSound};
 
     ghost Value = { ArchiveState D };
 
@@ -447,34 +447,34 @@ impl FrameArchive<MemoryDisk> {
 }
 
 // How many of the entries of a store that failed the file holds: all or none.
-fn landed(count: u64, failed: usize, found: u64) -> Result<usize, ArchiveFault>
-    ensures none { IfOk result (λ landed. found ≡ count + landed) }
-    ensures whole { IfOk result (λ landed. (landed ≡ 0) ⊎ (landed ≡ failed)) }
-    ensures changed { IfErr result (λ fault. fault ≡ ArchiveFault.Changed count found) }
-    ensures neither { OnErr result (¬ (found ≡ count)) }
-    ensures nor { OnErr result (¬ (found ≡ count + failed)) }
+fn landed(count: u64, batch: usize, entries: u64) -> Result<usize, ArchiveFault>
+    ensures none { IfOk result (λ landed. entries ≡ count + landed) }
+    ensures whole { IfOk result (λ landed. (landed ≡ 0) ⊎ (landed ≡ batch)) }
+    ensures changed { IfErr result (λ fault. fault ≡ ArchiveFault.Changed count entries) }
+    ensures neither { OnErr result (¬ (entries ≡ count)) }
+    ensures nor { OnErr result (¬ (entries ≡ count + batch)) }
 {
-    if found == count {
+    if entries == count {
         return Ok(0);
     }
-    if found.checked_sub(count) == Some(failed as u64) {
-        return Ok(failed);
+    if entries.checked_sub(count) == Some(batch as u64) {
+        return Ok(batch);
     }
     Err(ArchiveFault::Changed {
         expected: count,
-        found,
+        found: entries,
     })
 }
 
 // Takes off the entries behind those that landed.
-fn lost(waiting: &mut Entries, landed: usize) -> Result<Entries, ArchiveFault>
-    requires { landed ≤ length waiting.old }
-    ensures landed { OnOk result (waiting.new ≡ take landed waiting.old) }
-    ensures lost { IfOk result (λ lost. lost ≡ drop landed waiting.old) }
+fn lost(waiting: &mut Entries, count: usize) -> Result<Entries, ArchiveFault>
+    requires { count ≤ length waiting.old }
+    ensures landed { OnOk result (waiting.new ≡ take count waiting.old) }
+    ensures lost { IfOk result (λ lost. lost ≡ drop count waiting.old) }
     ensures still { OnErr result (waiting.new ≡ waiting.old) }
     ensures memory { IfErr result (λ fault. fault ≡ ArchiveFault.Memory) }
 {
-    match waiting.split_off(landed) {
+    match waiting.split_off(count) {
         Ok(lost) => Ok(lost),
         Err(_) => Err(ArchiveFault::Memory),
     }

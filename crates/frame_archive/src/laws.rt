@@ -4,9 +4,9 @@ ghost use Rattle.std.specs.Prelude.{◌≡◌, ℕ, List};
 ghost use Rattle.archive_terms.specs.Archive.{Entry};
 ghost use Rattle.disk_model.specs.Moments.{IsImageOf};
 ghost use Rattle.gate_journal.specs.File.{StandsFor};
-ghost use Rattle.gate_journal.specs.Kept.{IsOldOrNew};
+ghost use Rattle.gate_journal.specs.JournalState.{IsOldOrNew};
 ghost use Rattle.frame_archive.specs.State.{ArchiveState};
-ghost use Rattle.frame_archive.specs.Held.{Acknowledges};
+ghost use Rattle.frame_archive.specs.Acknowledges.{Acknowledges};
 ghost use Rattle.frame_archive.specs.Run.{Course, Run, IsOf, with_unsettled};
 
 use disk_model::Disk;

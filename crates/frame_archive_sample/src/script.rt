@@ -116,9 +116,9 @@ fn told_fault(alloc: Global, fault: ArchiveFault) -> Result<String, AllocError> 
     format!(in alloc; "{fault}; ")
 }
 
-fn told_stored(alloc: Global, stored: &Stored) -> Result<String, AllocError> {
-    let count = stored.count;
-    let numbers = numbers(alloc, &stored.entries)?;
+fn told_stored(alloc: Global, batch: &Stored) -> Result<String, AllocError> {
+    let count = batch.count;
+    let numbers = numbers(alloc, &batch.entries)?;
     format!(in alloc; "stored {count}:{numbers}; ")
 }
 

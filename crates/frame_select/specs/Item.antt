@@ -3,13 +3,13 @@ use Rattle.std.specs.Prelude.{Some, None, List, map}
 use Rattle.archive_terms.specs.Archive.{frame, loss_of_sync, production}
 use Rattle.archive_terms.specs.Archive as archive
 use Rattle.archive_terms.specs.Delivery.{archived, backlog, end_of_data}
-use Rattle.archive_terms.specs.Placed.{Told}
+use Rattle.archive_terms.specs.Placed.{ToldItem}
 use Rattle.frame_select.specs.declared.item.Item.{Item}
 use Rattle.frame_select.specs.declared.item.Item.TheVariants.{Frame, Loss, Production, Backlog}
 use Rattle.frame_select.specs.declared.item.Item.TheVariants.{EndOfData}
 
 -- an item says a frame's continuity, and not how many frames were lost before it
-abbrev pub item_of : Item → Told
+abbrev pub item_of : Item → ToldItem
 item_of (Frame place ert quality antenna continuity octets) = (
   archived place (frame (record {
     ert = ert;
@@ -33,7 +33,7 @@ item_of (Production place status) = (archived place (production status), None)
 item_of Backlog = (backlog, None)
 item_of EndOfData = (end_of_data, None)
 
-abbrev pub items_of : List Item → List Told
+abbrev pub items_of : List Item → List ToldItem
 items_of items = map item_of items
 
 -- what an item says of a picked entry
@@ -41,6 +41,6 @@ abbrev pub without_lost : archive.Entry → archive.Entry
 without_lost (frame f) = frame (record f { lost = 0 })
 without_lost entry = entry
 
-abbrev pub said_of : Told → Told
+abbrev pub said_of : ToldItem → ToldItem
 said_of (archived place entry, continuity) = (archived place (without_lost entry), continuity)
 said_of told = told

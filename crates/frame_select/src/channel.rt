@@ -45,13 +45,13 @@ fn aos_channel(first: u8, second: u8) -> Gvcid
 }
 
 // Whether a channel is the wanted one, or any of the wanted master channel.
-pub(crate) fn is_of_channel(wanted: &Gvcid, found: &Gvcid) -> bool
-    ensures { result ≡ is_of_channel (id_of wanted.now) (id_of found.now) }
+pub(crate) fn is_of_channel(choice: &Gvcid, frame: &Gvcid) -> bool
+    ensures { result ≡ is_of_channel (id_of choice.now) (id_of frame.now) }
 {
-    let is_within = match (wanted.channel, found.channel) {
+    let is_within = match (choice.channel, frame.channel) {
         (Channel::Master, _) => true,
-        (Channel::Virtual(wanted), Channel::Virtual(found)) => wanted == found,
+        (Channel::Virtual(one), Channel::Virtual(other)) => one == other,
         (Channel::Virtual(_), Channel::Master) => false,
     };
-    wanted.spacecraft == found.spacecraft && wanted.version == found.version && is_within
+    choice.spacecraft == frame.spacecraft && choice.version == frame.version && is_within
 }

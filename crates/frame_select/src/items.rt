@@ -15,10 +15,10 @@ pub struct Items {
 
 impl Model for Items {
     ghost use Rattle.std.specs.Prelude.{List, vec_items};
-    ghost use Rattle.archive_terms.specs.Placed.{Told};
+    ghost use Rattle.archive_terms.specs.Placed.{ToldItem};
     ghost use Rattle.frame_select.specs.Item.{items_of};
 
-    ghost Value = { List Told };
+    ghost Value = { List ToldItem };
 
     ghost view = { λ items. items_of (vec_items items.held) };
 }

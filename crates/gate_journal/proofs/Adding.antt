@@ -15,7 +15,7 @@ use Rattle.disk_model.specs.Images.{is_written, written_and_synced}
 use Rattle.disk_model.specs.Moments.{IsImageOf}
 use Rattle.gate_journal.specs.File.{header, gated, batch_octets, IsBatch, Leads, StandsAt}
 use Rattle.gate_journal.specs.File.{StandsFor}
-use Rattle.gate_journal.specs.Kept.{Keeps, IsAtRest, IsOldOrNew, IsReady, closed_batch}
+use Rattle.gate_journal.specs.JournalState.{Keeps, IsAtRest, IsOldOrNew, IsReady, closed_batch}
 use Rattle.gate_journal.proofs.Growth.{all-append, gated_more, joined_more}
 use Rattle.gate_journal.proofs.Unique.{stands_for_one}
 

@@ -16,7 +16,7 @@ use Rattle.gate_journal.specs.File.{StandsAt, entries_octets, batch_octets}
 use Rattle.gate_journal.specs.Order.{Knows}
 use Rattle.gate_journal.specs.Passing.{PassedGate}
 use Rattle.gate_journal.specs.Reading.{LedTo, gate_at, count_at}
-use Rattle.gate_journal.specs.Batches.{BatchesState, Passed, StandsForSome, HoldsBatch}
+use Rattle.gate_journal.specs.Batches.{BatchesState, HasPassed, StandsForSome, HoldsBatch}
 use Rattle.gate_journal.specs.Batches.{entries_in, batch_in}
 use Rattle.gate_journal.proofs.Growth.{Grows, Opened, opened, led_more, shut_there, stands_shut}
 use Rattle.gate_journal.proofs.Again.{behind_led, entries_behind, all_behind, not_past}
@@ -83,7 +83,7 @@ read_as_it_is law grows back entries after file gate end all archive e =
 pub record Sliced (pending : Option Pending) (entries : List Entry) (start at : ℕ) (times : Times)
     (slice : List ℕ) (last : List Entry) : Type 0 where
   pub within : at ≤ length slice
-  pub passed : Passed pending entries (standing start at times slice last)
+  pub passed : HasPassed pending entries (standing start at times slice last)
 
 -- as it is once the next batch was brought into memory
 pub sliced : {pending : Option Pending} {entries : List Entry} {old now : BatchesState}
@@ -91,10 +91,10 @@ pub sliced : {pending : Option Pending} {entries : List Entry} {old now : Batche
     → now.gate ≡ old.gate → now.times ≡ old.times
     → (Reads pending old.start old.room → Reads pending now.start now.room)
     → standing start at times room last ≡ now → slice ≡ room → at ≤ length room
-    → Passed pending entries old → Sliced pending entries start at times slice last
+    → HasPassed pending entries old → Sliced pending entries start at times slice last
 sliced {pending} {entries} at gate times room is same within passed = record {
   within = rw same within;
-  passed = rw same (subst (Passed pending entries) (sym is) (record {
+  passed = rw same (subst (HasPassed pending entries) (sym is) (record {
     knows = rw times passed.knows;
     led = rw gate passed.led;
     room = room passed.room;
@@ -120,7 +120,7 @@ module _ (law : ReadWhereSpelled) (grows : Grows) {pending : Option Pending} {en
       → IfSome pending (λ told. StandsAt entries (start + at) told.content)
   shut_next e = by_told pending there.passed
     where
-      by_told : (p : Option Pending) → Passed p entries (standing start at times room last)
+      by_told : (p : Option Pending) → HasPassed p entries (standing start at times room last)
           → IfSome p (λ told. StandsAt entries (start + at) told.content)
       by_told None has = tt
       by_told (Some told) has =
@@ -133,7 +133,7 @@ module _ (law : ReadWhereSpelled) (grows : Grows) {pending : Option Pending} {en
     pub batch_next : (new : Option Pending) (after : List Entry) (next : Times) (end : ℕ)
         → new ≡ pending → gate_at entries room at ≡ Ok (Some (after, end)) → end ≤ length room
         → Knows after (Some next)
-        → Passed new (entries ++ batch_in room (Some at))
+        → HasPassed new (entries ++ batch_in room (Some at))
         (standing start end next room (batch_in room (Some at)))
     batch_next new after next end same e inside knows =
         let after_is : after ≡ entries ++ batch_in room (Some at) =
@@ -144,7 +144,7 @@ module _ (law : ReadWhereSpelled) (grows : Grows) {pending : Option Pending} {en
           room = there.passed.room;
         })
       where
-        led_by : (p : Option Pending) → Passed p entries (standing start at times room last)
+        led_by : (p : Option Pending) → HasPassed p entries (standing start at times room last)
             → IfSome p (λ told. LedTo (start + end) after told.content)
         led_by None has = tt
         led_by (Some told) has =
@@ -163,7 +163,7 @@ module _ (law : ReadWhereSpelled) (grows : Grows) {pending : Option Pending} {en
     none_next extent fault size holds e stands = by_told pending size there.passed stands
       where
         by_told : (p : Option Pending) → IfSome p (λ told. extent ≡ length told.content)
-            → Passed p entries (standing start at times room last) → StandsForSome p → ⊥
+            → HasPassed p entries (standing start at times room last) → StandsForSome p → ⊥
         by_told None size has stands = stands
         by_told (Some told) size has stands =
             let whole = stands.0 in

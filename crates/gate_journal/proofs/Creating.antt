@@ -7,7 +7,7 @@ use Rattle.disk_model.specs.Images.{Pending, all_synced, overwritten, with_range
 use Rattle.disk_model.specs.Images.{written_and_synced}
 use Rattle.disk_model.specs.Moments.{IsImageOf}
 use Rattle.gate_journal.specs.File.{header, StandsAt}
-use Rattle.gate_journal.specs.Kept.{Keeps, IsAtRest, IsShort}
+use Rattle.gate_journal.specs.JournalState.{Keeps, IsAtRest, IsShort}
 
 abbrev pub new_octets : List ℕ
 new_octets = header ++ 0 ∷ []

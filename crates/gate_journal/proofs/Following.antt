@@ -7,7 +7,7 @@ use Rattle.archive_terms.specs.Archive.{Entry, IsArchive, is_storable, is_ordere
 use Rattle.record_form.specs.Reading.{ReadBack}
 use Rattle.disk_model.specs.Images.{Pending}
 use Rattle.gate_journal.specs.File.{StandsAt}
-use Rattle.gate_journal.specs.Kept.{Keeps}
+use Rattle.gate_journal.specs.JournalState.{Keeps}
 use Rattle.gate_journal.proofs.Unique.{stands_for_one}
 
 both : (a b : Bool) → (a && b) ≡ true → (a ≡ true) × (b ≡ true)

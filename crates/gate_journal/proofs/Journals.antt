@@ -9,8 +9,8 @@ use Rattle.gate_journal.specs.declared.fault.JournalFault.{JournalFault}
 use Rattle.gate_journal.specs.declared.fault.JournalFault.TheVariants.{NotJournal, Damaged, Full}
 use Rattle.gate_journal.specs.declared.fault.JournalFault.TheVariants.{DiskFault, Stale, Memory}
 use Rattle.gate_journal.specs.Reading.{Refuses}
-use Rattle.gate_journal.specs.Kept.{JournalState, RefusesDisk, appending, appending_octets}
-use Rattle.gate_journal.specs.Kept.{closed_batch}
+use Rattle.gate_journal.specs.JournalState.{JournalState, RefusesDisk, appending, appending_octets}
+use Rattle.gate_journal.specs.JournalState.{closed_batch}
 
 -- the calls of octets that are a batch
 pub failed_as : {D : Type 0} (makes fails : D → Call → D

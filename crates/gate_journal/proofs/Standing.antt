@@ -9,7 +9,7 @@ use Rattle.gate_journal.specs.declared.fault.JournalFault.TheVariants.{NotJourna
 use Rattle.gate_journal.specs.declared.fault.JournalFault.TheVariants.{DiskFault, Stale, Memory}
 use Rattle.gate_journal.specs.File.{StandsFor, StandsAt}
 use Rattle.gate_journal.specs.Reading.{Refuses, IsDamagedAt, IsNoJournal}
-use Rattle.gate_journal.specs.Kept.{IsUnread}
+use Rattle.gate_journal.specs.JournalState.{IsUnread}
 
 module _ (damaged : (place there : ℕ) (entries : List Entry) (file : List ℕ) → AreOctets file
     → IsDamagedAt place file → StandsAt entries there file → ⊥)

@@ -21,9 +21,10 @@ use Rattle.disk_model.specs.declared.orders.Pick.{Pick}
 use Rattle.disk_model.specs.declared.orders.Pick.TheVariants.{Old, New, Torn}
 use Rattle.disk_model.specs.declared.orders.Stop.{Stop}
 use Rattle.gate_journal.specs.File.{IsBatch, StandsAt, StandsFor, entries_octets}
-use Rattle.gate_journal.specs.Kept.{Keeps, IsAtRest, IsReady, IsToStop, StopsIn, KeepsOnRestart}
-use Rattle.gate_journal.specs.Kept.{appending, closed_batch, entries_left}
-use Rattle.gate_journal.specs.Kept.{leaves_batch, HasBatch, IsToFail, FailsIn, holds_batch}
+use Rattle.gate_journal.specs.JournalState.{Keeps, IsAtRest, IsReady, IsToStop, StopsIn}
+use Rattle.gate_journal.specs.JournalState.{KeepsOnRestart}
+use Rattle.gate_journal.specs.JournalState.{appending, closed_batch, entries_left}
+use Rattle.gate_journal.specs.JournalState.{leaves_batch, HasBatch, IsToFail, FailsIn, holds_batch}
 use Rattle.gate_journal.proofs.Adding.{gate_over, stands_gated, stands_old, stands_whole, with_gate}
 use Rattle.gate_journal.proofs.Adding.{written}
 use Rattle.gate_journal.proofs.Following.{follows_kept}

@@ -22,8 +22,8 @@ pub record BatchesState : Type 0 where
 
 -- These entries were read of the file of a disk. They are an archive, whatever the disk tells;
 -- where it tells, they stand in front of the gate, and what is in memory stands in the file.
-pub record Passed (pending : Option Pending) (entries : List Entry) (batches : BatchesState) : Type
-    0 where
+pub record HasPassed (pending : Option Pending) (entries : List Entry)
+    (batches : BatchesState) : Type 0 where
   pub knows : Knows entries (Some batches.times)
   pub led : IfSome pending (λ told. LedTo batches.gate entries told.content)
   pub room : Reads pending batches.start batches.room

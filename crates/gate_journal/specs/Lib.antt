@@ -1,6 +1,6 @@
 pub mod File
 pub mod Reading
-pub mod Kept
+pub mod JournalState
 pub mod Order
 pub mod Passing
 pub mod Batches

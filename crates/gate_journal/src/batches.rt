@@ -6,8 +6,8 @@ ghost use Rattle.octet_core.specs.Fault.{Rose};
 ghost use Rattle.archive_terms.specs.Archive.{Entry};
 ghost use Rattle.disk_model.specs.Moments.{Reads};
 ghost use Rattle.gate_journal.specs.File.{StandsAt};
-ghost use Rattle.gate_journal.specs.Kept.{OnlyReads};
-ghost use Rattle.gate_journal.specs.Batches.{Passed, StandsForSome, HoldsBatch};
+ghost use Rattle.gate_journal.specs.JournalState.{OnlyReads};
+ghost use Rattle.gate_journal.specs.Batches.{HasPassed, StandsForSome, HoldsBatch};
 ghost use Rattle.gate_journal.specs.declared.batch_fault.BatchFault.TheVariants.{Unfit, DiskFault};
 
 use crate::batch::Batch;
@@ -58,7 +58,7 @@ impl Model for Batches {
 impl Batches {
     /// A reading of the file of a disk, before its first batch. It costs one read.
     pub fn open<D: Disk>(alloc: Global, disk: &mut D) -> Result<Batches, BatchFault>
-        ensures passed { IfOk result (λ batches. Passed (D.pending disk.old) [] batches) }
+        ensures passed { IfOk result (λ batches. HasPassed (D.pending disk.old) [] batches) }
         ensures none { IfOk result (λ batches. batches.batch ≡ []) }
         ensures unfit { IsErrOf result Unfit → ¬ StandsForSome (D.pending disk.old) }
         ensures same { IsErrOf result DiskFault ⊎ (disk.new ≡ disk.old) }
@@ -88,16 +88,16 @@ impl Batches {
     /// isn't yet in memory. It copies no octet but what is left of a piece there, to its front.
     pub fn next<D: Disk>(&mut self, disk: &mut D) -> Result<bool, BatchFault>
         ensures batch { IfOk result (λ more. IsTrue more → (entries : List Entry)
-            → Passed (D.pending disk.old) entries self.old
-            → Passed (D.pending disk.new) (entries ++ self.new.batch) self.new) }
+            → HasPassed (D.pending disk.old) entries self.old
+            → HasPassed (D.pending disk.new) (entries ++ self.new.batch) self.new) }
         ensures on { IfOk result (λ more. IsTrue more → self.old.gate < self.new.gate) }
         ensures shut { IfOk result (λ more. IsFalse more → (entries : List Entry)
-            → Passed (D.pending disk.old) entries self.old → IfSome (D.pending disk.old)
+            → HasPassed (D.pending disk.old) entries self.old → IfSome (D.pending disk.old)
             (λ told. StandsAt entries self.old.gate told.content)) }
         ensures none { IfOk result (λ more. IsFalse more → self.new.batch ≡ []) }
         ensures stays { IfOk result (λ more. IsFalse more → self.new.gate ≡ self.old.gate) }
         ensures unfit { IsErrOf result Unfit → (entries : List Entry)
-            → Passed (D.pending disk.old) entries self.old
+            → HasPassed (D.pending disk.old) entries self.old
             → ¬ StandsForSome (D.pending disk.old) }
         ensures refused { OnErr result (self.new.gate ≡ self.old.gate) }
         ensures bound { self.new.gate < 2 ^ 64 }

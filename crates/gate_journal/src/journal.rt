@@ -12,9 +12,11 @@ ghost use Rattle.disk_model.specs.Calls.{AllMade, FailedAtOne, RunsCalls};
 ghost use Rattle.disk_model.specs.MemoryDisk.{steered, restarted, pending_of, content_of};
 ghost use Rattle.disk_model.specs.declared.call.Call.TheVariants.{Write, Sync};
 ghost use Rattle.gate_journal.specs.File.{StandsFor, StandsAt, entries_octets};
-ghost use Rattle.gate_journal.specs.Kept.{Keeps, IsAtRest, IsOldOrNew, IsReady, IsShort, OnlyReads};
-ghost use Rattle.gate_journal.specs.Kept.{RefusesDisk, appending, appending_octets, creating};
-ghost use Rattle.gate_journal.specs.Kept.{IsUnread};
+ghost use Rattle.gate_journal.specs.JournalState.{Keeps, IsAtRest, IsOldOrNew, IsReady, IsShort};
+ghost use Rattle.gate_journal.specs.JournalState.{OnlyReads};
+ghost use Rattle.gate_journal.specs.JournalState.{RefusesDisk, appending, appending_octets};
+ghost use Rattle.gate_journal.specs.JournalState.{creating};
+ghost use Rattle.gate_journal.specs.JournalState.{IsUnread};
 ghost use Rattle.gate_journal.specs.declared.fault.JournalFault.TheVariants as JournalFault;
 
 use crate::loading::{HEADER, load};
@@ -44,7 +46,7 @@ pub struct Journal<D: Disk> {
 
 impl<D: Disk> Model for Journal<D> {
     ghost use Rattle.std.specs.Prelude.{◌≡◌, ◌+◌, ◌^◌, ◌<◌, false};
-    ghost use Rattle.gate_journal.specs.Kept.{JournalState, IsAtRest};
+    ghost use Rattle.gate_journal.specs.JournalState.{JournalState, IsAtRest};
 
     ghost Value = { JournalState D };
 

@@ -15,9 +15,10 @@ ghost use Rattle.disk_model.specs.declared.orders.Stop.{Stop};
 ghost use Rattle.gate_journal.specs.File.{IsBatch, StandsFor, StandsAt};
 ghost use Rattle.record_form.specs.Reading.{AreOctets};
 ghost use Rattle.gate_journal.specs.Reading.{IsDamagedAt, IsNoJournal, LedTo};
-ghost use Rattle.gate_journal.specs.Kept.{Keeps, IsAtRest, IsToStop, StopsIn, KeepsOnRestart};
-ghost use Rattle.gate_journal.specs.Kept.{appending, entries_left, leaves_batch, HasBatch};
-ghost use Rattle.gate_journal.specs.Kept.{IsToFail, FailsIn, holds_batch};
+ghost use Rattle.gate_journal.specs.JournalState.{Keeps, IsAtRest, IsToStop, StopsIn};
+ghost use Rattle.gate_journal.specs.JournalState.{KeepsOnRestart};
+ghost use Rattle.gate_journal.specs.JournalState.{appending, entries_left, leaves_batch, HasBatch};
+ghost use Rattle.gate_journal.specs.JournalState.{IsToFail, FailsIn, holds_batch};
 
 /// A file stands for one list of entries at most, and its gate stands at one place.
 pub fn a_file_stands_for_one_list()

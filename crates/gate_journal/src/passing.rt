@@ -70,20 +70,20 @@ fn pass_batch(times: Times, file: &[u8], place: usize) -> Result<(Times, usize),
 // What a batch that states where its entries end comes to: where they end elsewhere, or are at
 // fault, the lesser of the two places is named.
 fn ended(
-    stated: u64,
-    passed: Result<(Times, usize), JournalFault>,
+    length: u64,
+    pass: Result<(Times, usize), JournalFault>,
 ) -> Result<(Times, usize), JournalFault>
-    ensures exact { result ≡ ending_at stated passed }
-    ensures same { IfOk result (λ p. passed ≡ Ok p) }
+    ensures exact { result ≡ ending_at length pass }
+    ensures same { IfOk result (λ p. pass ≡ Ok p) }
 {
-    match passed {
-        Ok((_, end)) if end as u64 != stated => Err(JournalFault::Damaged {
-            place: (end as u64).min(stated),
+    match pass {
+        Ok((_, end)) if end as u64 != length => Err(JournalFault::Damaged {
+            place: (end as u64).min(length),
         }),
         Err(JournalFault::Damaged { place }) => Err(JournalFault::Damaged {
-            place: place.min(stated),
+            place: place.min(length),
         }),
-        passed => passed,
+        pass => pass,
     }
 }
 

@@ -5,7 +5,7 @@ ghost use Rattle.archive_terms.specs.Archive.{is_storable};
 ghost use Rattle.record_form.specs.declared.writing.TheConstants.{LONGEST_ENTRY};
 ghost use Rattle.record_form.specs.Entry.{entry_of, entries_of};
 ghost use Rattle.gate_journal.specs.File.{entries_octets};
-ghost use Rattle.gate_journal.specs.Kept.{closed_batch};
+ghost use Rattle.gate_journal.specs.JournalState.{closed_batch};
 
 use crate::CLOSED;
 use octet_core::Octets;

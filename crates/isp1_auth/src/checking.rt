@@ -50,15 +50,15 @@ fn check_used(secret: &Secret<'_>, octets: &[u8], now: u128) -> Result<(), AuthF
 }
 
 // Whether the digests are equal. All octets are compared, also those behind one that differs.
-fn is_equal(digest: &[u8], protected: &[u8]) -> bool
-    ensures { result ≡ pointwise nat_eq digest.now protected.now }
+fn is_equal(digest: &[u8], the_protected: &[u8]) -> bool
+    ensures { result ≡ pointwise nat_eq digest.now the_protected.now }
 {
-    if digest.len() != protected.len() {
+    if digest.len() != the_protected.len() {
         return false;
     }
     let mut equal = true;
     for i in 0..digest.len() {
-        equal &= digest[i] == protected[i];
+        equal &= digest[i] == the_protected[i];
     }
     equal
 }

@@ -57,11 +57,11 @@ fn signed(secret: &Secret<'_>, time: &[u8; 8], number: u32) -> BlockWriter<96>
 
 // The number of the sequence's content octets.
 #[tactic(auto, using(ber_core::specs::Parts::lengths))]
-fn fields_length(secret: &Secret<'_>, time: &[u8; 8], number: u32, protected: &[u8]) -> usize
-    requires { protected.now ≡ digest secret.now time.now number }
+fn fields_length(secret: &Secret<'_>, time: &[u8; 8], number: u32, the_protected: &[u8]) -> usize
+    requires { the_protected.now ≡ digest secret.now time.now number }
     ensures { result ≡ length (canonical_all (fields.trees (claim secret.now time.now number))) }
 {
     element_length(&[0x04], time.len())
         + element_length(&[0x02], integer_length(i128::from(number)))
-        + element_length(&[0x04], protected.len())
+        + element_length(&[0x04], the_protected.len())
 }

@@ -49,13 +49,13 @@ pub(crate) fn further(place: u64, octets: usize) -> u64
 }
 
 // Where octets that came first differ from those that are wanted.
-fn first_difference(octets: &[u8], wanted: &[u8]) -> Option<usize>
-    ensures first { result ≡ first_difference octets.now wanted.now }
-    ensures within { IfSome result (λ i. i < length wanted.now) }
+fn first_difference(octets: &[u8], pattern: &[u8]) -> Option<usize>
+    ensures first { result ≡ first_difference octets.now pattern.now }
+    ensures within { IfSome result (λ i. i < length pattern.now) }
 {
     octets
         .iter()
-        .zip(wanted)
+        .zip(pattern)
         .position(|(octet, want)| octet != want)
 }
 

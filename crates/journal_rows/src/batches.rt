@@ -34,11 +34,11 @@ fn keep(alloc: Global, batch: Batch<'_>, entries: &mut Entries) -> Result<(), Me
 }
 
 // The same, and tells how many these are.
-fn keep_counted(alloc: Global, batch: Batch<'_>, read: &mut Read) -> Result<(), Memory> {
-    let before = read.entries.len();
-    keep(alloc, batch, &mut read.entries)?;
-    let count = read.entries.len().saturating_sub(before);
-    read.counts.push(count)?;
+fn keep_counted(alloc: Global, batch: Batch<'_>, so_far: &mut Read) -> Result<(), Memory> {
+    let before = so_far.entries.len();
+    keep(alloc, batch, &mut so_far.entries)?;
+    let count = so_far.entries.len().saturating_sub(before);
+    so_far.counts.push(count)?;
     Ok(())
 }
 

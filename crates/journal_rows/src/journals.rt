@@ -1,7 +1,7 @@
 // Journals on disks in memory, and what is recovered from them and appended.
 ghost use Rattle.std.specs.Prelude.{Some, IfOk};
 ghost use Rattle.disk_model.specs.MemoryDisk.{pending_of};
-ghost use Rattle.gate_journal.specs.Kept.{Keeps};
+ghost use Rattle.gate_journal.specs.JournalState.{Keeps};
 
 use cds_time::{Cds, Rest};
 use disk_model::MemoryDisk;
@@ -58,14 +58,14 @@ pub fn load(alloc: Global, file: &[u8]) -> Result<(Journal<MemoryDisk>, Entries)
 /// Appends a batch to what is stored, where it may follow.
 pub fn append(
     journal: &mut Journal<MemoryDisk>,
-    stored: &Entries,
+    before: &Entries,
     batch: &Entries,
     capacity: u64,
 ) -> Result<(), JournalFault>
-    requires { Keeps (Some (pending_of journal.old.disk)) stored.now }
+    requires { Keeps (Some (pending_of journal.old.disk)) before.now }
 {
     laws::a_batch_may_follow();
-    if batch.len() < 1 || batch.len() > 256 || capacity > CAPACITY || !follows(stored, batch) {
+    if batch.len() < 1 || batch.len() > 256 || capacity > CAPACITY || !follows(before, batch) {
         return Err(JournalFault::Memory);
     }
     journal.append(batch, capacity)

@@ -5,7 +5,7 @@
 // number of the frame that `append` appends may stand orders, which the disk gets just before.
 ghost use Rattle.std.specs.Prelude.{Some};
 ghost use Rattle.disk_model.specs.MemoryDisk.{pending_of};
-ghost use Rattle.gate_journal.specs.Kept.{Keeps};
+ghost use Rattle.gate_journal.specs.JournalState.{Keeps};
 
 use crate::journals::{CAPACITY, append, frame, frames};
 use disk_model::{Call, Disk, Event, MemoryDisk, Orders, Pick, Stop};
@@ -140,8 +140,8 @@ fn hex_of(alloc: Global, octets: &[u8]) -> Result<String, AllocError> {
 }
 
 // Frames by their numbers, behind how many octets the file uses.
-fn told_frames(alloc: Global, used: u64, entries: &Entries) -> Result<String, AllocError> {
-    let mut text = format!(in alloc; "{used}:")?;
+fn told_frames(alloc: Global, size: u64, entries: &Entries) -> Result<String, AllocError> {
+    let mut text = format!(in alloc; "{size}:")?;
     for entry in entries.as_slice() {
         text.push_str(told_frame(alloc, entry)?.as_str())?;
     }
@@ -196,17 +196,17 @@ fn append_frame(alloc: Global, disk: MemoryDisk, words: &str) -> Answered {
 fn append_by(
     alloc: Global,
     journal: &mut Journal<MemoryDisk>,
-    stored: &Entries,
+    before: &Entries,
     words: &str,
 ) -> Result<String, AllocError>
-    requires { Keeps (Some (pending_of journal.old.disk)) stored.now }
+    requires { Keeps (Some (pending_of journal.old.disk)) before.now }
 {
     let (number, words) = split(words);
     if words != "" {
         journal.steer(orders(alloc, words)?);
     }
     let batch = frames(alloc, &[number.parse().unwrap_or(0)])?;
-    match append(journal, stored, &batch, CAPACITY) {
+    match append(journal, before, &batch, CAPACITY) {
         Ok(()) => format!(in alloc; "{}", journal.used()),
         Err(fault) => format!(in alloc; "{fault}"),
     }

@@ -96,14 +96,14 @@ fn push_timed(
     batch: &mut Entries,
     time: Cds,
     quality: u8,
-    lost: u32,
+    gap: u32,
     lengths: (usize, usize),
 ) -> Result<(), Memory> {
     batch.push(Entry::Frame {
         ert: time,
         quality,
         antenna: octets(alloc, 0, lengths.0)?,
-        lost,
+        lost: gap,
         octets: octets(alloc, 0xff, lengths.1)?,
     })?;
     batch.push(Entry::Seal { at: time })

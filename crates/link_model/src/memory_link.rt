@@ -225,14 +225,14 @@ impl MemoryLink {
     }
 
     // Keeps a poll with what it heard.
-    fn keep_poll(&mut self, answer: Poll, filled: &[u8])
-        requires { IsWithin answer (length filled.now) }
+    fn keep_poll(&mut self, answer: Poll, space: &[u8])
+        requires { IsWithin answer (length space.now) }
         ensures told { Tells self.old.told self.new.told
-            (Polled (length filled.now) (heard_of answer filled.now) ∷ []) }
+            (Polled (length space.now) (heard_of answer space.now) ∷ []) }
         ensures rest { self.new ≡ record self.old { told = self.new.told } }
     {
         let heard = match answer {
-            Poll::Arrived(count) => match Octets::copy_of(self.alloc, &filled[..count]) {
+            Poll::Arrived(count) => match Octets::copy_of(self.alloc, &space[..count]) {
                 Ok(octets) => Heard::Arrived(octets),
                 Err(_) => {
                     self.tells = false;
@@ -244,7 +244,7 @@ impl MemoryLink {
             Poll::Failed => Heard::Failed,
         };
         self.keep(Call::Polled {
-            space: filled.len(),
+            space: space.len(),
             heard,
         });
     }

@@ -47,8 +47,8 @@ fn first_undone<'a>(
 }
 
 // All lines of this script are done, and it says this.
-fn says(rt: &impl Abort, alloc: Global, script: &str, said: &str) -> Result<(), AllocError> {
-    ends_at(rt, alloc, script, None, said)
+fn says(rt: &impl Abort, alloc: Global, script: &str, text: &str) -> Result<(), AllocError> {
+    ends_at(rt, alloc, script, None, text)
 }
 
 // A script says this up to its first line that isn't done.
@@ -57,12 +57,12 @@ fn ends_at(
     alloc: Global,
     script: &str,
     undone: Option<&str>,
-    said: &str,
+    text: &str,
 ) -> Result<(), AllocError> {
     let site = site_of(alloc)?;
     let mut station = Station::new(alloc, &site)?;
     assert_eq!(rt; first_undone(&mut station, &site, script), Ok(undone));
-    assert_eq!(rt; station.said(), said.as_bytes());
+    assert_eq!(rt; station.said(), text.as_bytes());
     Ok(())
 }
 

@@ -3,12 +3,12 @@ use Rattle.std.proofs.Common.{◌≡◌, ℕ, ◌+◌, true, false, List, [], �
 use Rattle.std.proofs.Common.{map, Some, None, refl, ap, sym, subst, ◌∙◌, append_assoc, append-nil}
 use Rattle.std.proofs.Common.{arith}
 use Rattle.std.proofs.lemmas.List.{map-append}
-use Rattle.turn_lock.specs.Known.{Known, Lock}
+use Rattle.turn_lock.specs.PassState.{PassState, Lock}
 use Rattle.turn_lock.specs.Own.{mark}
 use Rattle.turn_lock.specs.declared.view.Mark.{Mark}
 use Rattle.turn_lock.specs.declared.pass.Standing.TheVariants.{Ready}
 use Rattle.lock_sample.specs.Ledger.{opened, IsLegal}
-use Rattle.lock_sample.specs.Told.{Told, Adds}
+use Rattle.lock_sample.specs.DeskReport.{DeskReport, Adds}
 use Rattle.lock_sample.specs.Served.{booked, MadeOne, AreOf, answers_of, readings_of, replies_of}
 use Rattle.lock_sample.specs.Served.{Served, HasServed}
 use Rattle.lock_sample.specs.declared.account.Opening.{Opening}
@@ -22,7 +22,7 @@ are_of_last : (clerk : ℕ) (ms : List (Mark Booking)) (m : Mark Booking) → Ar
 are_of_last clerk [] m all now = (now, tt)
 are_of_last clerk (x ∷ ms) m all now = (all.0, are_of_last clerk ms m all.1 now)
 
-pub served_nothing : (clerk : ℕ) (own : List (Mark Booking)) (told : Told)
+pub served_nothing : (clerk : ℕ) (own : List (Mark Booking)) (told : DeskReport)
     → Served clerk true own own told told
 served_nothing clerk own told = record {
   gained = [];
@@ -33,7 +33,7 @@ served_nothing clerk own told = record {
 
 -- one order more was answered
 served_more : (clerk reading : ℕ) (o : Order) (reply : Reply) (own own₁ own₂ : List (Mark Booking))
-    (a b c d : Told) (m : Mark Booking)
+    (a b c d : DeskReport) (m : Mark Booking)
     → Served clerk true own own₁ a b → Adds b c (Some o ∷ []) (reading ∷ []) []
     → Adds c d [] [] (reply ∷ []) → own₂ ≡ own₁ ++ m ∷ []
     → m.event.clerk ≡ clerk → m.event.reading ≡ reading → m.event.order ≡ o → m.event.reply ≡ reply
@@ -67,7 +67,7 @@ served_more clerk reading o reply own own₁ own₂ a b c d m so asked took adds
     }
 
 -- the desk was closed
-served_end : (clerk : ℕ) (own own' : List (Mark Booking)) (a b c : Told)
+served_end : (clerk : ℕ) (own own' : List (Mark Booking)) (a b c : DeskReport)
     → Served clerk true own own' a b → Adds b c (None ∷ []) [] [] → Served clerk false own own' a c
 served_end clerk own own' a b c so closed =
     let ms = so.gained in
@@ -88,8 +88,8 @@ served_end clerk own own' a b c so closed =
     }
 
 -- so far a clerk served its desk, whose turns weren't spent
-pub record Serving (lock : Lock Opening) (clerk : ℕ) (old new : Known Booking Opening)
-    (before after : Told) : Type 0 where
+pub record Serving (lock : Lock Opening) (clerk : ℕ) (old new : PassState Booking Opening)
+    (before after : DeskReport) : Type 0 where
   pub lock_is : new.lock ≡ Some lock
   pub ready : new.standing ≡ Ready
   pub joined : new.joined ≡ old.joined
@@ -98,7 +98,8 @@ pub record Serving (lock : Lock Opening) (clerk : ℕ) (old new : Known Booking 
   pub served : Served clerk true old.own new.own before after
   pub legal : IsLegal (opened lock.origin) old.seen → IsLegal (opened lock.origin) new.seen
 
-pub serving_nothing : (lock : Lock Opening) (clerk : ℕ) (pass : Known Booking Opening) (told : Told)
+pub serving_nothing : (lock : Lock Opening) (clerk : ℕ) (pass : PassState Booking Opening)
+    (told : DeskReport)
     → pass.lock ≡ Some lock → pass.standing ≡ Ready → Serving lock clerk pass pass told told
 serving_nothing lock clerk pass told l r = record {
   lock_is = l;
@@ -111,7 +112,7 @@ serving_nothing lock clerk pass told l r = record {
 }
 
 pub serving_more : (lock : Lock Opening) (clerk reading : ℕ) (o : Order) (reply : Reply)
-    (p q r : Known Booking Opening) (a b c d : Told)
+    (p q r : PassState Booking Opening) (a b c d : DeskReport)
     → Serving lock clerk p q a b → Adds b c (Some o ∷ []) (reading ∷ []) []
     → Adds c d [] [] (reply ∷ []) → MadeOne lock.origin clerk reading o reply q r
     → (r.lock ≡ q.lock) × (r.standing ≡ Ready) × (r.joined ≡ q.joined)
@@ -131,8 +132,8 @@ serving_more lock clerk reading o reply p q r a b c d so asked took made still t
       legal = λ _. legal;
     }
 
-pub serving_spent : (lock : Lock Opening) (clerk : ℕ) (p q : Known Booking Opening) (a b : Told)
-    → Serving lock clerk p q a b → q.left ≡ 0 → HasServed lock clerk true p q a b
+pub serving_spent : (lock : Lock Opening) (clerk : ℕ) (p q : PassState Booking Opening)
+    (a b : DeskReport) → Serving lock clerk p q a b → q.left ≡ 0 → HasServed lock clerk true p q a b
 serving_spent lock clerk p q a b so none = record {
   lock_is = so.lock_is;
   ready = so.ready;
@@ -144,7 +145,8 @@ serving_spent lock clerk p q a b so none = record {
   legal = so.legal;
 }
 
-pub serving_end : (lock : Lock Opening) (clerk : ℕ) (p q : Known Booking Opening) (a b c : Told)
+pub serving_end : (lock : Lock Opening) (clerk : ℕ) (p q : PassState Booking Opening)
+    (a b c : DeskReport)
     → Serving lock clerk p q a b → Adds b c (None ∷ []) [] [] → HasServed lock clerk false p q a c
 serving_end lock clerk p q a b c so closed = record {
   lock_is = so.lock_is;

@@ -6,12 +6,12 @@ use Rattle.std.proofs.Common.{◌≡◌, ℕ, zero, suc, ◌+◌, ◌-◌, ◌*�
 use Rattle.std.proofs.Common.{length, All, refl, ap, ap₂, sym, subst, ◌∙◌, append_assoc, add-mul}
 use Rattle.std.proofs.Common.{one-mul}
 use Rattle.std.proofs.lemmas.List.{map-append}
-use Rattle.turn_lock.specs.Known.{Known, Lock}
+use Rattle.turn_lock.specs.PassState.{PassState, Lock}
 use Rattle.turn_lock.specs.Steps.{longer}
 use Rattle.lock_sample.specs.Served.{AtDesk, Served, Each}
 use Rattle.lock_sample.specs.Team.{IsVacant, IsIdle, owns_of, turns_of, Did, EachDid, Gathered}
 use Rattle.lock_sample.specs.Team.{Seating}
-use Rattle.lock_sample.specs.Told.{Told}
+use Rattle.lock_sample.specs.DeskReport.{DeskReport}
 use Rattle.lock_sample.specs.declared.account.Opening.{Opening}
 use Rattle.lock_sample.specs.declared.booking.Booking.{Booking}
 use Rattle.lock_sample.specs.declared.seat.Seat.{Seat}
@@ -33,7 +33,7 @@ all_push P (y ∷ xs) x all p = all_cons P y (xs ++ x ∷ []) (all 0 y (omega ar
     (all_push P xs x (all_tail P y xs all) p)
 
 -- a clerk that began with nothing has what it did as its own
-did_at : (lock : Lock Opening) (turns n : ℕ) (s s' : Seat) (before after : Told)
+did_at : (lock : Lock Opening) (turns n : ℕ) (s s' : Seat) (before after : DeskReport)
     → IsVacant lock turns s → AtDesk lock n s s' before after → Did n turns s'.pass.own before after
 did_at lock turns n s s' before after vacant at =
     let none = ap (λ xs. length xs) vacant.0.2 in
@@ -44,7 +44,7 @@ did_at lock turns n s s' before after vacant at =
       all_turns = λ e. omega (arith, none, at.each_turn, at.turns, vacant.1, vacant.2, at.ended e);
     }
 
-module _ {D : Type 0} (told : D → Told) (lock : Lock Opening) (turns : ℕ) where
+module _ {D : Type 0} (told : D → DeskReport) (lock : Lock Opening) (turns : ℕ) where
   abbrev AtDesks : ℕ → List Seat → List Seat → List D → List D → Type 0
   AtDesks n ss ss' ds ds' = Each (λ k s s' d d'. AtDesk lock k s s' (told d) (told d')) n ss ss' ds
       ds'
@@ -95,8 +95,8 @@ turns_append [] ys = omega arith
 turns_append (x ∷ xs) ys = let rest = turns_append xs ys in omega (arith, rest)
 
 -- one pass more was joined
-pub gathered_more : (lock : Lock Opening) (seats : List Seat) (start : Known Booking Opening)
-    (done rest more : List Seat) (s : Seat) (pass pass' : Known Booking Opening)
+pub gathered_more : (lock : Lock Opening) (seats : List Seat) (start : PassState Booking Opening)
+    (done rest more : List Seat) (s : Seat) (pass pass' : PassState Booking Opening)
     → Gathered lock seats start done rest pass → rest ≡ s ∷ more
     → pass' ≡ record pass {
       left = pass.left + s.pass.left;
@@ -108,19 +108,19 @@ pub gathered_more : (lock : Lock Opening) (seats : List Seat) (start : Known Boo
 gathered_more lock seats start done rest more s pass pass' so e j =
     let all = subst (λ (r : List Seat). All (λ x. IsIdle lock x) r) e so.idle in
     let here = all 0 s (omega arith) in
-    let left = ap (λ (p : Known Booking Opening). p.left) j in
-    let entered = ap (λ (p : Known Booking Opening). p.entered) j in
+    let left = ap (λ (p : PassState Booking Opening). p.left) j in
+    let entered = ap (λ (p : PassState Booking Opening). p.entered) j in
     let sum = turns_append done (s ∷ []) in
     let before = so.turns in
     record {
       ready = (
-        ap (λ (p : Known Booking Opening). p.lock) j ∙ so.ready.0,
-        ap (λ (p : Known Booking Opening). p.standing) j ∙ so.ready.1,
+        ap (λ (p : PassState Booking Opening). p.lock) j ∙ so.ready.0,
+        ap (λ (p : PassState Booking Opening). p.standing) j ∙ so.ready.1,
       );
-      own = ap (λ (p : Known Booking Opening). p.own) j ∙ so.own;
+      own = ap (λ (p : PassState Booking Opening). p.own) j ∙ so.own;
       idle = all_tail (λ x. IsIdle lock x) s more all;
       split = so.split ∙ (ap (λ r. done ++ r) e ∙ sym (append_assoc done (s ∷ []) more));
-      joined = ap (λ (p : Known Booking Opening). p.joined) j
+      joined = ap (λ (p : PassState Booking Opening). p.joined) j
           ∙ (ap (λ x. pass.joined ++ s.pass.own ∷ x) here.2
           ∙ (ap (λ x. x ++ s.pass.own ∷ []) so.joined
           ∙ (append_assoc start.joined (owns_of done) (s.pass.own ∷ [])
@@ -138,23 +138,23 @@ spent n p t left lt h =
     omega (arith, more, both, one)
 
 -- one seat more got its turns
-pub seating_more : (lock : Lock Opening) (start : Known Booking Opening) (count turns place : ℕ)
-    (seats : List Seat) (s : Seat) (pass pass' : Known Booking Opening)
+pub seating_more : (lock : Lock Opening) (start : PassState Booking Opening) (count turns place : ℕ)
+    (seats : List Seat) (s : Seat) (pass pass' : PassState Booking Opening)
     → Seating lock start count turns place seats pass → place < count → IsVacant lock turns s
     → pass' ≡ record pass { left = pass.left - turns }
     → Seating lock start count turns (place + 1) (seats ++ s ∷ []) pass'
 seating_more lock start count turns place seats s pass pass' so lt vacant e =
     let enough = spent count place turns pass.left lt so.enough in
-    let left' = ap (λ (p : Known Booking Opening). p.left) e in
-    let entered' = ap (λ (p : Known Booking Opening). p.entered) e in
+    let left' = ap (λ (p : PassState Booking Opening). p.left) e in
+    let entered' = ap (λ (p : PassState Booking Opening). p.entered) e in
     let sum = turns_append seats (s ∷ []) in
     let before = so.kept in
     record {
       main = (
-        ap (λ (p : Known Booking Opening). p.lock) e ∙ so.main.0,
-        ap (λ (p : Known Booking Opening). p.standing) e ∙ so.main.1,
-        ap (λ (p : Known Booking Opening). p.own) e ∙ so.main.2,
-        ap (λ (p : Known Booking Opening). p.joined) e ∙ so.main.3,
+        ap (λ (p : PassState Booking Opening). p.lock) e ∙ so.main.0,
+        ap (λ (p : PassState Booking Opening). p.standing) e ∙ so.main.1,
+        ap (λ (p : PassState Booking Opening). p.own) e ∙ so.main.2,
+        ap (λ (p : PassState Booking Opening). p.joined) e ∙ so.main.3,
       );
       enough = omega (arith, enough, left');
       vacant = all_push (λ x. IsVacant lock turns x) seats s so.vacant vacant;

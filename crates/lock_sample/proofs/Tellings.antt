@@ -1,7 +1,7 @@
 -- What was told before, and then more.
 use Rattle.std.proofs.Common.{ℕ, List, [], ◌++◌, Option, Some, None, ap, sym, ◌∙◌, append_assoc}
 use Rattle.std.proofs.Common.{append-nil}
-use Rattle.lock_sample.specs.Told.{Tells, Told, Adds}
+use Rattle.lock_sample.specs.DeskReport.{Tells, DeskReport, Adds}
 use Rattle.lock_sample.specs.declared.order.Order.{Order}
 use Rattle.lock_sample.specs.declared.order.Reply.{Reply}
 
@@ -16,14 +16,14 @@ tells_on before None (Some t) xs ys a b = absurd b
 tells_on None (Some u) (Some t) xs ys a b = absurd a
 tells_on (Some w) (Some u) (Some t) xs ys a b = b ∙ (ap (λ x. x ++ ys) a ∙ append_assoc w xs ys)
 
-pub adds_nothing : (told : Told) → Adds told told [] [] []
+pub adds_nothing : (told : DeskReport) → Adds told told [] [] []
 adds_nothing told = record {
   gave = tells_nothing told.answers;
   read = tells_nothing told.readings;
   took = tells_nothing told.replies;
 }
 
-pub adds_on : (before between after : Told) (xs ys : List (Option Order)) (rs ts : List ℕ)
+pub adds_on : (before between after : DeskReport) (xs ys : List (Option Order)) (rs ts : List ℕ)
     (ps qs : List Reply) → Adds before between xs rs ps → Adds between after ys ts qs
     → Adds before after (xs ++ ys) (rs ++ ts) (ps ++ qs)
 adds_on before between after xs ys rs ts ps qs a b = record {

@@ -1,5 +1,5 @@
 pub mod State
 pub mod Ledger
-pub mod Told
+pub mod DeskReport
 pub mod Served
 pub mod Team

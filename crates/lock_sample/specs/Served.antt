@@ -2,12 +2,12 @@
 use Rattle.std.specs.Prelude.{◌≡◌, ℕ, ◌+◌, Bool, true, List, [], ◌∷◌, ◌++◌, length, map}
 use Rattle.std.specs.Prelude.{if◌then◌else◌, Option, Some, None}
 use mathlib.Core.List.{IsPrefix}
-use Rattle.turn_lock.specs.Known.{Known, Lock}
+use Rattle.turn_lock.specs.PassState.{PassState, Lock}
 use Rattle.turn_lock.specs.Own.{mark}
 use Rattle.turn_lock.specs.declared.view.Mark.{Mark}
 use Rattle.turn_lock.specs.declared.pass.Standing.TheVariants.{Ready}
 use Rattle.lock_sample.specs.Ledger.{opened, replay, booking_at, IsLegal}
-use Rattle.lock_sample.specs.Told.{Told, Adds}
+use Rattle.lock_sample.specs.DeskReport.{DeskReport, Adds}
 use Rattle.lock_sample.specs.declared.account.Opening.{Opening}
 use Rattle.lock_sample.specs.declared.booking.Booking.{Booking}
 use Rattle.lock_sample.specs.declared.order.Order.{Order}
@@ -21,7 +21,7 @@ booked o before clerk reading order = booking_at (replay (opened o) before) cler
 -- the pass made one call and got its reply, after the events of some list that begins with all that
 -- it had seen
 pub record MadeOne (o : Opening) (clerk reading : ℕ) (order : Order) (reply : Reply)
-    (old new : Known Booking Opening) : Type 0 where
+    (old new : PassState Booking Opening) : Type 0 where
   pub before : List Booking
   pub later : IsPrefix old.seen before
   pub seen : new.seen ≡ before ++ booked o before clerk reading order ∷ []
@@ -46,7 +46,7 @@ replies_of ms = map (λ m. m.event.reply) ms
 -- the clerk's own events gained those of all orders that the desk gave, with the readings that it
 -- gave and the replies that it took; and the desk was closed, or the turns were spent
 pub record Served (clerk : ℕ) (spent : Bool) (own own' : List (Mark Booking))
-    (before after : Told) : Type 0 where
+    (before after : DeskReport) : Type 0 where
   pub gained : List (Mark Booking)
   pub adds : own' ≡ own ++ gained
   pub clerks : AreOf clerk gained
@@ -55,7 +55,7 @@ pub record Served (clerk : ℕ) (spent : Bool) (own own' : List (Mark Booking))
 -- the clerk with this pass served a desk: the pass is as before but for what it saw, its own
 -- events, and one turn for each of these
 pub record HasServed (lock : Lock Opening) (clerk : ℕ) (spent : Bool)
-    (old new : Known Booking Opening) (before after : Told) : Type 0 where
+    (old new : PassState Booking Opening) (before after : DeskReport) : Type 0 where
   pub lock_is : new.lock ≡ Some lock
   pub ready : new.standing ≡ Ready
   pub joined : new.joined ≡ old.joined
@@ -69,7 +69,7 @@ pub record HasServed (lock : Lock Opening) (clerk : ℕ) (spent : Bool)
 abbrev pub IsSeated : Lock Opening → Seat → Type 0
 IsSeated lock s = (s.pass.lock ≡ Some lock) × (s.pass.standing ≡ Ready)
 
-abbrev pub AtDesk : Lock Opening → ℕ → Seat → Seat → Told → Told → Type 0
+abbrev pub AtDesk : Lock Opening → ℕ → Seat → Seat → DeskReport → DeskReport → Type 0
 AtDesk lock clerk s s' before after = HasServed lock clerk s'.spent s.pass s'.pass before after
 
 -- the relation holds of each seat and the desk at its place, with the clerk's number, which goes up
@@ -82,7 +82,7 @@ Each rel n (s ∷ ss) (s' ∷ ss') (d ∷ ds) (d' ∷ ds') = rel n s s' d d'
 Each rel n _ _ _ _ = ⊥
 
 -- each seat's clerk served the desk at its place, from the number `first` on
-abbrev pub EachServed : {D : Type 0} → (D → Told) → Lock Opening → ℕ → List Seat → List Seat
+abbrev pub EachServed : {D : Type 0} → (D → DeskReport) → Lock Opening → ℕ → List Seat → List Seat
     → List D → List D → Type 0
 EachServed told lock first ss ss' ds ds' = Each
     (λ n s s' d d'. AtDesk lock n s s' (told d) (told d')) first ss ss' ds ds'

@@ -1,21 +1,21 @@
 -- What a team of clerks did. This product's own.
 use Rattle.std.specs.Prelude.{◌≡◌, ℕ, ◌+◌, ◌-◌, ◌*◌, ◌≤◌, Bool, true, List, [], ◌∷◌, ◌++◌, length}
 use Rattle.std.specs.Prelude.{map, All, Some}
-use Rattle.turn_lock.specs.Known.{Known, Lock}
+use Rattle.turn_lock.specs.PassState.{PassState, Lock}
 use Rattle.turn_lock.specs.declared.view.Mark.{Mark}
 use Rattle.turn_lock.specs.declared.pass.Standing.TheVariants.{Ready}
 use Rattle.lock_sample.specs.Served.{Served}
-use Rattle.lock_sample.specs.Told.{Told}
+use Rattle.lock_sample.specs.DeskReport.{DeskReport}
 use Rattle.lock_sample.specs.declared.account.Opening.{Opening}
 use Rattle.lock_sample.specs.declared.booking.Booking.{Booking}
 use Rattle.lock_sample.specs.declared.seat.Seat.{Seat}
 
 -- the pass is of this lock, and has no open turn
-abbrev pub IsReady : Lock Opening → Known Booking Opening → Type 0
+abbrev pub IsReady : Lock Opening → PassState Booking Opening → Type 0
 IsReady lock p = (p.lock ≡ Some lock) × (p.standing ≡ Ready)
 
 -- and it has done nothing
-abbrev pub IsFresh : Lock Opening → Known Booking Opening → Type 0
+abbrev pub IsFresh : Lock Opening → PassState Booking Opening → Type 0
 IsFresh lock p = (p.lock ≡ Some lock) × (p.standing ≡ Ready) × (p.own ≡ []) × (p.joined ≡ [])
 
 -- the seat's pass has all its turns still
@@ -36,7 +36,8 @@ turns_of (s ∷ ss) = s.pass.left + s.pass.entered + turns_of ss
 
 -- a clerk's own events are those of all orders that its desk gave, until it was closed, or the
 -- clerk had made so many calls
-pub record Did (clerk turns : ℕ) (own : List (Mark Booking)) (before after : Told) : Type 0 where
+pub record Did (clerk turns : ℕ) (own : List (Mark Booking))
+    (before after : DeskReport) : Type 0 where
   pub spent : Bool
   pub served : Served clerk spent [] own before after
   pub within : length own ≤ turns
@@ -44,7 +45,7 @@ pub record Did (clerk turns : ℕ) (own : List (Mark Booking)) (before after : T
 
 -- the relation holds of each list and the desk at its place, with the clerk's number, which goes up
 -- from n on
-abbrev pub EachDid : {D : Type 0} → (D → Told) → ℕ → ℕ → List (List (Mark Booking)) → List D
+abbrev pub EachDid : {D : Type 0} → (D → DeskReport) → ℕ → ℕ → List (List (Mark Booking)) → List D
     → List D → Type 0
 EachDid told turns n [] [] [] = Unit {0}
 EachDid told turns n (own ∷ owns) (d ∷ ds) (d' ∷ ds') = Did n turns own (told d) (told d')
@@ -52,8 +53,8 @@ EachDid told turns n (own ∷ owns) (d ∷ ds) (d' ∷ ds') = Did n turns own (t
 EachDid told turns n _ _ _ = ⊥
 
 -- so far the passes of the first seats were joined into the pass, and the others are still to be
-pub record Gathered (lock : Lock Opening) (seats : List Seat) (start : Known Booking Opening)
-    (done rest : List Seat) (pass : Known Booking Opening) : Type 0 where
+pub record Gathered (lock : Lock Opening) (seats : List Seat) (start : PassState Booking Opening)
+    (done rest : List Seat) (pass : PassState Booking Opening) : Type 0 where
   pub ready : IsReady lock pass
   pub own : pass.own ≡ start.own
   pub idle : All (λ s. IsIdle lock s) rest
@@ -62,8 +63,8 @@ pub record Gathered (lock : Lock Opening) (seats : List Seat) (start : Known Boo
   pub turns : pass.left + pass.entered ≡ start.left + start.entered + turns_of done
 
 -- so far `place` of `count` seats got their turns from the pass
-pub record Seating (lock : Lock Opening) (start : Known Booking Opening) (count turns place : ℕ)
-    (seats : List Seat) (pass : Known Booking Opening) : Type 0 where
+pub record Seating (lock : Lock Opening) (start : PassState Booking Opening) (count turns place : ℕ)
+    (seats : List Seat) (pass : PassState Booking Opening) : Type 0 where
   pub main : IsFresh lock pass
   pub enough : (count - place) * turns ≤ pass.left
   pub vacant : All (λ s. IsVacant lock turns s) seats

@@ -1,6 +1,6 @@
 // Where orders come from, and what a clerk works at.
 ghost use Rattle.std.specs.Prelude.{[], ◌∷◌};
-ghost use Rattle.lock_sample.specs.Told.{Tells, Adds, order_of, reading_of, told_of};
+ghost use Rattle.lock_sample.specs.DeskReport.{Tells, Adds, order_of, reading_of, told_of};
 
 use crate::order::{Order, Reply};
 
@@ -38,9 +38,9 @@ pub trait Clock {
 
 /// What one clerk works at, whatever it is made of.
 pub trait Desk {
-    ghost use Rattle.lock_sample.specs.Told.{Told};
+    ghost use Rattle.lock_sample.specs.DeskReport.{DeskReport};
 
-    ghost told: { Self → Told };
+    ghost told: { Self → DeskReport };
 
     /// The next order and when it came, or none: the desk is closed.
     fn next(&mut self) -> Option<(u64, Order)>

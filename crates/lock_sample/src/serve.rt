@@ -2,7 +2,7 @@
 ghost use Rattle.std.specs.Prelude.{◌≡◌, ◌+◌, ◌^◌, ◌≤◌, length, All};
 ghost use Rattle.std.specs.Thread.{IsSync};
 ghost use Rattle.turn_lock.specs.declared.pass.Standing.TheVariants.{Ready};
-ghost use Rattle.lock_sample.specs.Told.{told_of};
+ghost use Rattle.lock_sample.specs.DeskReport.{told_of};
 ghost use Rattle.lock_sample.specs.Served.{HasServed, IsSeated, AtDesk, EachServed};
 
 use crate::account::Account;

@@ -10,7 +10,7 @@ use Rattle.gate_journal.specs.declared.batch_fault.BatchFault.{BatchFault}
 use Rattle.gate_journal.specs.declared.batch_fault.BatchFault.TheVariants as batches
 use Rattle.gate_journal.specs.File.{StandsFor, StandsAt}
 use Rattle.gate_journal.specs.Reading.{LedTo}
-use Rattle.gate_journal.specs.Batches.{BatchesState, Passed, StandsForSome}
+use Rattle.gate_journal.specs.Batches.{BatchesState, HasPassed, StandsForSome}
 use Rattle.drill_text.specs.Reading.{entry_text}
 use Rattle.station_law.specs.Output.{Wrote}
 use Rattle.station_law.specs.Steps.{Behind, behind_as, step_on, stopped_by, stopped_before}
@@ -29,7 +29,7 @@ on_err (Err error) fact = fact
 pub record Going (pending : Option Pending) (start now : Option (List ℕ)) (f g : ℕ)
     (batches : BatchesState) (block : List ℕ) : Type 0 where
   pub entries : List Entry
-  pub passed : Passed pending entries batches
+  pub passed : HasPassed pending entries batches
   pub behind : Behind start now f g (entries_text entries) block
 
 -- ---- what was read
@@ -39,7 +39,7 @@ pub front_read : ((front entries : List Entry) (gate place : ℕ) (file : List �
     → LedTo gate front file → StandsAt entries place file
     → (rest : List Entry) × (entries ≡ front ++ rest))
     → (pending : Option Pending) (entries : List Entry) (now : BatchesState)
-    → IfSome pending (λ _. StandsForSome pending) → Passed pending entries now
+    → IfSome pending (λ _. StandsForSome pending) → HasPassed pending entries now
     → IsFrontOf pending entries
 front_read law None entries now whole passed = tt
 front_read law (Some told) entries now whole passed =

@@ -8,7 +8,7 @@ pub mod Outcomes
 pub mod Promises
 pub mod Lists
 pub mod Gathering
-pub mod Listed
+pub mod ListOutcomes
 pub mod Frames
 pub mod Blocks
 pub mod Rehearsals

@@ -15,7 +15,7 @@ use Rattle.archive_terms.specs.Delivery.{Item, all_items}
 use Rattle.archive_terms.specs.Rounds.{to_hand_over}
 use Rattle.station_desk.specs.Start.{moment}
 use Rattle.station_law.specs.State.{start as new_world}
-use Rattle.station_desk.specs.Told.{Told, buffer_message}
+use Rattle.station_desk.specs.ToldBuffer.{ToldBuffer, buffer_message}
 use Rattle.station_law.specs.Said.{Handed, handed, texts, handed_by}
 use Rattle.archive_terms.specs.Continuity.{told_buffers}
 use Rattle.station_law.specs.Sound.{IsRight, AreRight, items_of, handed_items}
@@ -29,7 +29,8 @@ use Rattle.provider_cli.specs.declared.status.Status.TheVariants.{ReadFault, Wri
 use Rattle.provider_cli.specs.declared.status.Status.TheVariants.{InputTooLong, Memory}
 use Rattle.provider_cli.specs.declared.status.Status.TheVariants.{ArchiveRefused, DiskFault}
 use Rattle.provider_cli.specs.Drilled.{GainsAll, GainsSome, HasText, text_by, status_by, ended}
-use Rattle.provider_cli.specs.Drilled.{Ended, ran, cut_off, given_up, unread, too_long, never}
+use Rattle.provider_cli.specs.Drilled.{DrillOutcome, ran, cut_off, given_up, unread, too_long}
+use Rattle.provider_cli.specs.Drilled.{never}
 use Rattle.provider_cli.specs.Drilled.{Drilled, Completes}
 use Rattle.provider_cli.specs.Headline.{HasHeadline, terms_of, IsDelivered, HasRun, IsSent, sent}
 use Rattle.provider_cli.specs.Headline.{IsStreamed, IsReadOf, items_in, StaysRight}
@@ -153,7 +154,7 @@ module _ (laws : Laws) (script : List ℕ) (s : Start) (is : IsStartOf script s)
 
   -- ---- where its messages stand
 
-  messages_sent : (told : List Told)
+  messages_sent : (told : List ToldBuffer)
       → texts (map (handed 0) told) ≡ flat_map sent (map buffer_message told)
   messages_sent [] = refl
   messages_sent (buffer ∷ told) =
@@ -183,7 +184,7 @@ module _ (laws : Laws) (script : List ℕ) (s : Start) (is : IsStartOf script s)
       (transcript_from step_text (length s.earlier + 2) (world_at s) s.later))
 
 -- the exact text, as what was written where lines were run
-written_as : (script : List ℕ) (before after : Outside) (how : Ended) (text : List ℕ)
+written_as : (script : List ℕ) (before after : Outside) (how : DrillOutcome) (text : List ℕ)
     → before.left ≡ Some script → text_by script ≡ text
     → HasText before after how → HasRun before after text how
 written_as script before after ran text tells is has =

@@ -9,7 +9,7 @@ use Rattle.provider_cli.specs.Archives.{unasked, IsInit, IsList}
 use Rattle.provider_cli.specs.Command.{NeedsDisk, code}
 use Rattle.provider_cli.specs.Outside.{Outside}
 use Rattle.provider_cli.specs.Provided.{IsProvided}
-use Rattle.provider_cli.proofs.Listed.{unlisted, closes_unwritten}
+use Rattle.provider_cli.proofs.ListOutcomes.{unlisted, closes_unwritten}
 
 module _ {D : Type 0} (pending : D → Option Pending) (extent moment : D → ℕ)
     (images_since : D → ℕ → List ℕ → Type 0) (faults : D → ℕ)

@@ -14,7 +14,7 @@ use Rattle.gate_journal.specs.declared.fault.JournalFault.TheVariants as refusal
 use Rattle.gate_journal.specs.declared.batch_fault.BatchFault.{BatchFault}
 use Rattle.gate_journal.specs.declared.batch_fault.BatchFault.TheVariants as batches
 use Rattle.gate_journal.specs.File.{StandsFor}
-use Rattle.gate_journal.specs.Kept.{Keeps}
+use Rattle.gate_journal.specs.JournalState.{Keeps}
 use Rattle.gate_journal.specs.Reading.{IsNoJournal, IsDamagedAt}
 use Rattle.drill_text.specs.Reading.{entry_text}
 use Rattle.station_law.specs.Output.{Wrote}
@@ -34,19 +34,19 @@ refused_line place = codes "archive refused " ++ decimal place ++ 10 ∷ []
 -- ---- a new archive file
 
 -- the file was made, it wasn't empty, the disk failed, or memory was refused before its first call
-pub data Made : Type 0 where
-  made : Made
-  occupied : Made
-  failed : Made
-  unasked : Made
+pub data InitOutcome : Type 0 where
+  made : InitOutcome
+  occupied : InitOutcome
+  failed : InitOutcome
+  unasked : InitOutcome
 
-abbrev pub made_text : Made → List ℕ
+abbrev pub made_text : InitOutcome → List ℕ
 made_text made = codes "made" ++ 10 ∷ []
 made_text occupied = codes "archive refused 0" ++ 10 ∷ []
 made_text failed = codes "disk fault" ++ 10 ∷ []
 made_text unasked = []
 
-abbrev pub made_status : Made → Status
+abbrev pub made_status : InitOutcome → Status
 made_status made = ends.Done
 made_status occupied = ends.ArchiveRefused
 made_status failed = ends.DiskFault
@@ -54,8 +54,8 @@ made_status unasked = ends.Memory
 
 -- A file is made on an empty disk alone, whose one image then stands for no entries; a disk that
 -- isn't empty is as it was; and one that failed was empty.
-abbrev pub LeavesMade : {D : Type 0} → (D → Option Pending) → (D → ℕ) → (D → ℕ) → D → D → Made
-    → Type 0
+abbrev pub LeavesMade : {D : Type 0} → (D → Option Pending) → (D → ℕ) → (D → ℕ) → D → D
+    → InitOutcome → Type 0
 LeavesMade pending extent faults old new made =
     (extent old ≡ 0) × IfSome (pending old) (λ _. Keeps (pending new) [])
 LeavesMade pending extent faults old new occupied = (0 < extent old) × (new ≡ old)
@@ -65,7 +65,7 @@ LeavesMade pending extent faults old new unasked = new ≡ old
 -- what `init` promises of a disk and an output, by its exit code
 pub record IsInit {D : Type 0} (pending : D → Option Pending) (extent faults : D → ℕ) (old new : D)
     (before after : Option (List ℕ)) (faults_before faults_after exit : ℕ) : Type 0 where
-  pub how : Made
+  pub how : InitOutcome
   pub leaves : LeavesMade pending extent faults old new how
   pub closes : Closes before after faults_before faults_after (made_text how) (made_status how) exit
 
@@ -94,17 +94,17 @@ pub record Empties (before after : Option (List ℕ)) (faults_before faults_afte
 -- before all was read. Or, while the file was read again for their lines, behind those of these
 -- entries the disk failed, memory was refused or the output failed, or the file was at this place
 -- no longer of its form.
-pub data Listed : Type 0 where
-  listed : List Entry → Listed
-  refused : ℕ → Listed
-  failed : Listed
-  unread : Listed
-  failed_behind : List Entry → Listed
-  stopped_behind : List Entry → Listed
-  changed_behind : List Entry → ℕ → Listed
+pub data ListOutcome : Type 0 where
+  listed : List Entry → ListOutcome
+  refused : ℕ → ListOutcome
+  failed : ListOutcome
+  unread : ListOutcome
+  failed_behind : List Entry → ListOutcome
+  stopped_behind : List Entry → ListOutcome
+  changed_behind : List Entry → ℕ → ListOutcome
 
 -- what a reading of the whole file that is refused tells
-abbrev pub listed_by : JournalFault → Listed
+abbrev pub listed_by : JournalFault → ListOutcome
 listed_by (refusals.NotJournal place) = refused place
 listed_by (refusals.Damaged place) = refused place
 listed_by refusals.DiskFault = failed
@@ -119,7 +119,7 @@ IsOfReading fault = Unit {0}
 abbrev pub fault_line : List ℕ
 fault_line = codes "disk fault" ++ 10 ∷ []
 
-abbrev pub listed_text : Listed → List ℕ
+abbrev pub listed_text : ListOutcome → List ℕ
 listed_text (listed entries) = entries_text entries
 listed_text (refused place) = refused_line place
 listed_text failed = fault_line
@@ -128,7 +128,7 @@ listed_text (failed_behind entries) = entries_text entries ++ fault_line
 listed_text (stopped_behind entries) = entries_text entries
 listed_text (changed_behind entries place) = entries_text entries ++ refused_line place
 
-abbrev pub listed_status : Listed → Status
+abbrev pub listed_status : ListOutcome → Status
 listed_status (listed entries) = ends.Done
 listed_status (refused place) = ends.ArchiveRefused
 listed_status failed = ends.DiskFault
@@ -145,7 +145,8 @@ IsFrontOf pending front = IfSome pending (λ told. (rest : List Entry)
 -- The entries are those that the file stands for, and its one image stands for them then; a place
 -- is that of the file's first fault; a disk failed only where its count of faults rose; and a file
 -- that tells its octets isn't another one when it is read again.
-abbrev pub LeavesListed : {D : Type 0} → (D → Option Pending) → (D → ℕ) → D → D → Listed → Type 0
+abbrev pub LeavesListed : {D : Type 0} → (D → Option Pending) → (D → ℕ) → D → D → ListOutcome
+    → Type 0
 LeavesListed pending faults old new (listed entries) =
     IfSome (pending old) (λ told. StandsFor entries told.content × Keeps (pending new) entries)
 LeavesListed pending faults old new (refused place) =
@@ -158,7 +159,7 @@ LeavesListed pending faults old new (stopped_behind entries) = IsFrontOf (pendin
 LeavesListed pending faults old new (changed_behind entries place) = pending old ≡ None
 
 -- the lines ended for the disk, the output or memory, and not for what the file holds
-abbrev pub IsCutShort : Listed → Type 0
+abbrev pub IsCutShort : ListOutcome → Type 0
 IsCutShort (failed_behind entries) = Unit {0}
 IsCutShort (stopped_behind entries) = Unit {0}
 IsCutShort how = ⊥
@@ -168,7 +169,7 @@ IsCutShort how = ⊥
 pub record IsList {D : Type 0} (pending : D → Option Pending) (moment : D → ℕ)
     (images_since : D → ℕ → List ℕ → Type 0) (faults : D → ℕ) (old new : D)
     (before after : Option (List ℕ)) (faults_before faults_after exit : ℕ) : Type 0 where
-  pub how : Listed
+  pub how : ListOutcome
   pub leaves : LeavesListed pending faults old new how
   pub complete : (entries : List Entry)
       → IsSomeAnd (pending old) (λ told. StandsFor entries told.content)

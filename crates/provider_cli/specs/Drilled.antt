@@ -34,15 +34,15 @@ GainsLine before after line =
 
 -- The script was run to its end; the output failed, or memory was refused, while it ran or before;
 -- the input failed, or holds too much, and nothing was run; or a drill doesn't end so.
-pub data Ended : Type 0 where
-  ran : Ended
-  cut_off : Ended
-  given_up : Ended
-  unread : Ended
-  too_long : Ended
-  never : Ended
+pub data DrillOutcome : Type 0 where
+  ran : DrillOutcome
+  cut_off : DrillOutcome
+  given_up : DrillOutcome
+  unread : DrillOutcome
+  too_long : DrillOutcome
+  never : DrillOutcome
 
-abbrev pub ended : Status → Ended
+abbrev pub ended : Status → DrillOutcome
 ended Done = ran
 ended BadLine = ran
 ended BadSite = ran
@@ -56,7 +56,7 @@ ended ArchiveRefused = never
 ended DiskFault = never
 
 -- What was written: the script's text, or what begins it; or a line, which stands alone.
-abbrev pub HasText : Outside → Outside → Ended → Type 0
+abbrev pub HasText : Outside → Outside → DrillOutcome → Type 0
 HasText before after ran = IfSome before.left (λ script. GainsAll before after (text_by script))
 HasText before after cut_off =
     IfSome before.left (λ script. GainsSome before after (text_by script))
@@ -67,13 +67,13 @@ HasText before after too_long = GainsLine before after (codes "input too long" +
 HasText before after never = ⊥
 
 -- how often a read failed, by the input's count of faults
-abbrev pub HasReads : Outside → Outside → Ended → Type 0
+abbrev pub HasReads : Outside → Outside → DrillOutcome → Type 0
 HasReads before after unread = after.read_faults ≡ count_up before.read_faults
 HasReads before after _ = after.read_faults ≡ before.read_faults
 
 -- How often a write failed, by the output's count of faults: of a line that stands alone once or
 -- never.
-abbrev pub HasWrites : Outside → Outside → Ended → Type 0
+abbrev pub HasWrites : Outside → Outside → DrillOutcome → Type 0
 HasWrites before after cut_off = after.write_faults ≡ count_up before.write_faults
 HasWrites before after unread =
     (after.write_faults ≡ before.write_faults) ⊎ (after.write_faults ≡ count_up before.write_faults)
@@ -83,7 +83,7 @@ HasWrites before after _ = after.write_faults ≡ before.write_faults
 
 -- What the script is: one that isn't too long and ends with this status, one that isn't too long,
 -- or one that is.
-abbrev pub HasScript : Outside → Status → Ended → Type 0
+abbrev pub HasScript : Outside → Status → DrillOutcome → Type 0
 HasScript before status ran =
     IfSome before.left
     (λ script. (length script ≤ most_octets) × (status_by script ≡ status))

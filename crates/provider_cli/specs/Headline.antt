@@ -24,7 +24,8 @@ use Rattle.provider_cli.specs.Outside.{Outside}
 use Rattle.provider_cli.specs.Start.{Start, world_at, archive_at, archive_then, buffers_of}
 use Rattle.provider_cli.specs.Start.{told_by, messages_by, messages_of}
 use Rattle.station_desk.specs.Readable.{AreReadable}
-use Rattle.provider_cli.specs.Drilled.{GainsAll, GainsSome, Ended, ran, cut_off, given_up, ended}
+use Rattle.provider_cli.specs.Drilled.{GainsAll, GainsSome, DrillOutcome, ran, cut_off, given_up}
+use Rattle.provider_cli.specs.Drilled.{ended}
 
 -- What station_law promises of any lines holds of those that run: at each line behind others in
 -- order, whatever its form is.
@@ -54,7 +55,7 @@ IsDelivered s =
     ≡ take (length moments) (buffers_of s)
 
 -- Where lines were run, all of a text is written, or what begins it.
-abbrev pub HasRun : Outside → Outside → List ℕ → Ended → Type 0
+abbrev pub HasRun : Outside → Outside → List ℕ → DrillOutcome → Type 0
 HasRun before after text ran = GainsAll before after text
 HasRun before after text cut_off = GainsSome before after text
 HasRun before after text given_up = GainsSome before after text

@@ -16,7 +16,7 @@ use Rattle.station_config.specs.declared.site.Site.{Site}
 use Rattle.station_law.specs.Store.{Store}
 use Rattle.station_desk.specs.Start.{moment}
 use Rattle.station_law.specs.State.{start as new_world}
-use Rattle.station_desk.specs.Told.{Told, buffer_message}
+use Rattle.station_desk.specs.ToldBuffer.{ToldBuffer, buffer_message}
 use Rattle.station_law.specs.Said.{Handed, handed_by}
 use Rattle.station_desk.specs.Readable.{AreReadable}
 use Rattle.station_law.specs.Sound.{items_of}
@@ -51,7 +51,7 @@ pub record Laws : Type 0 where
       ≡ desk_buffers entries start stop quality
   pub readable : (entries : List Entry) (start stop : Cds) (quality : ℕ) → IsArchive entries
       → AreReadable (told_desk entries start stop quality)
-  pub messages : (told : List Told) → AreReadable told
+  pub messages : (told : List ToldBuffer) → AreReadable told
       → AllByRecursion IsMessage (map buffer_message told)
   pub connections : AreSessions reading
   pub streams : (place : ℕ) (messages : List Content) → AllByRecursion IsMessage messages

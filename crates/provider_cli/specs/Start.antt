@@ -11,7 +11,7 @@ use Rattle.drill_text.specs.Reading.{reading}
 use Rattle.drill_text.specs.declared.script_line.ScriptLine.TheVariants.{Desk}
 use Rattle.station_desk.specs.Start.{moment}
 use Rattle.station_law.specs.State.{State, start as new_world}
-use Rattle.station_desk.specs.Told.{Told, buffer_message}
+use Rattle.station_desk.specs.ToldBuffer.{ToldBuffer, buffer_message}
 use Rattle.station_desk.specs.Start.{desk_buffers}
 use Rattle.station_law.specs.Lines.{step_text}
 use Rattle.station_law.specs.Runs.{after, in_order}
@@ -56,7 +56,7 @@ archive_then s lines = (after step_text (world_at s) lines).store.published
 abbrev pub buffers_of : Start → List (List Item)
 buffers_of s = desk_buffers (archive_at s) s.start s.stop s.quality
 
-abbrev pub told_by : List Entry → Start → List Told
+abbrev pub told_by : List Entry → Start → List ToldBuffer
 told_by archive s = told_buffers archive None (buffers_of s)
 
 abbrev pub messages_by : List Entry → Start → List Content

@@ -4,7 +4,7 @@ ghost use Rattle.octet_core.specs.Fault.{Rose};
 ghost use Rattle.std.specs.List.{list_all};
 ghost use Rattle.archive_terms.specs.Archive.{is_storable};
 ghost use Rattle.disk_model.specs.Images.{all_synced};
-ghost use Rattle.gate_journal.specs.Kept.{OnlyReads};
+ghost use Rattle.gate_journal.specs.JournalState.{OnlyReads};
 ghost use Rattle.gate_journal.specs.Batches.{StandsForSome};
 ghost use Rattle.gate_journal.specs.declared.batch_fault.BatchFault.TheVariants as BatchFault;
 ghost use Rattle.provider_cli.specs.Command.{Closes, closed, code};
@@ -150,10 +150,10 @@ fn tell<O: Sink>(line: &[u8], own: Status, output: &mut O) -> u8
 }
 
 // The exit code of a command that has a status of its own, where its text was written.
-fn close(written: Result<(), Stop>, own: Status) -> u8
-    ensures { result ≡ code (closed written own) }
+fn close(outcome: Result<(), Stop>, own: Status) -> u8
+    ensures { result ≡ code (closed outcome own) }
 {
-    let status = match written {
+    let status = match outcome {
         Ok(()) => own,
         Err(Stop::WriteFault) => Status::WriteFault,
         Err(Stop::Memory) => Status::Memory,

@@ -62,19 +62,19 @@ fn append_frame(
     ert: Cds,
     quality: u8,
     antenna: &[u8],
-    lost: u32,
+    gap: u32,
     octets: &[u8],
     into: &mut Vec<u8>,
 ) -> Result<(), AllocError>
-    requires { IsTrue (is_storable (entry_of (Frame ert quality antenna.now lost octets.now))) }
+    requires { IsTrue (is_storable (entry_of (Frame ert quality antenna.now gap octets.now))) }
     ensures { OnOk result (into.new.items ≡ into.old.items
-        ++ entry_text (Frame ert quality antenna.now lost octets.now)) }
+        ++ entry_text (Frame ert quality antenna.now gap octets.now)) }
 {
     laws::slice(antenna);
     into.extend_from_slice(b"frame")?;
     TimeAndQuality::put(b' ', (&ert, &quality), into)?;
     LentOctets::put(b' ', antenna, into)?;
-    Lost::put(b' ', &lost, into)?;
+    Lost::put(b' ', &gap, into)?;
     into.push(b' ')?;
     append_digits(octets, into)?;
     into.push(b'\n')?;

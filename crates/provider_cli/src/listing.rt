@@ -7,7 +7,7 @@ ghost use Rattle.archive_terms.specs.Archive.{is_storable};
 ghost use Rattle.record_form.specs.Entry.{entries_of};
 ghost use Rattle.record_form.specs.Lent.{lent_entry};
 ghost use Rattle.drill_text.specs.Reading.{entry_text};
-ghost use Rattle.gate_journal.specs.Kept.{OnlyReads};
+ghost use Rattle.gate_journal.specs.JournalState.{OnlyReads};
 ghost use Rattle.gate_journal.specs.Batches.{StandsForSome};
 ghost use Rattle.station_law.specs.Output.{Wrote};
 ghost use Rattle.station_law.specs.Steps.{Behind};

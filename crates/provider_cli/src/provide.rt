@@ -35,11 +35,11 @@ pub struct Equipment<I, O, D> {
 pub fn provide_on<I: Source, O: Sink, D: Disk>(
     alloc: Global,
     words: &[&str],
-    found: io::Result<Option<D>>,
+    opening: io::Result<Option<D>>,
     kit: &mut Equipment<I, O, D>,
 ) -> u8
-    requires { IfOk found (λ disk. NeedsDisk (asked words.now) → IsSome disk) }
-    ensures provided { IfOk found (λ disk. IsProvided
+    requires { IfOk opening (λ disk. NeedsDisk (asked words.now) → IsSome disk) }
+    ensures provided { IfOk opening (λ disk. IsProvided
         D.pending D.extent D.moment D.images_since D.faults
         (asked words.now) disk kit.new.disk
         (showing (I.left kit.old.input) (I.faults kit.old.input)
@@ -47,12 +47,12 @@ pub fn provide_on<I: Source, O: Sink, D: Disk>(
         (showing (I.left kit.new.input) (I.faults kit.new.input)
         (O.written kit.new.output) (O.faults kit.new.output))
         result) }
-    ensures told { IfErr found (λ error. IsNoDisk (error_kind error)
+    ensures told { IfErr opening (λ error. IsNoDisk (error_kind error)
         (O.written kit.old.output) (O.written kit.new.output)
         (O.faults kit.old.output) (O.faults kit.new.output) result) }
-    ensures unread { OnErr found (kit.new.input ≡ kit.old.input) }
+    ensures unread { OnErr opening (kit.new.input ≡ kit.old.input) }
 {
-    match found {
+    match opening {
         Ok(disk) => {
             kit.disk = disk;
             provide(alloc, words, kit)

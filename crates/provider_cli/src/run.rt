@@ -120,15 +120,15 @@ fn run_line<O: Sink>(
 fn tell_bad_line<O: Sink>(
     alloc: Global,
     number: u32,
-    done: StepDone,
+    step: StepDone,
     output: &mut O,
 ) -> Result<(), Stop>
     ensures written { Wrote (O.written output.old) (O.written output.new)
         (O.faults output.old) (O.faults output.new)
-        (text_behind done number []) result }
-    ensures quiet { OnErr result (done ≡ StepDone.WrongState) }
+        (text_behind step number []) result }
+    ensures quiet { OnErr result (step ≡ StepDone.WrongState) }
 {
-    match done {
+    match step {
         StepDone::WrongState => put_bad_line(alloc, number, output),
         StepDone::Fine | StepDone::Full => Ok(()),
     }

@@ -331,7 +331,7 @@ pub fn compare(
     rt: &impl Abort,
     alloc: Global,
     seed: u64,
-    made: &mut [bool; 6],
+    kinds: &mut [bool; 6],
 ) -> Result<(), AllocError> {
     let mut queue = Queue::new(alloc, 40, 12).map_err(AllocError::from)?;
     let mut plain = Plain::new(alloc, 40, 12);
@@ -344,7 +344,7 @@ pub fn compare(
     for _ in 0..40 {
         assert_eq!(rt; queue.notice(), plain.notice(), "{seed}");
     }
-    for (kind, made) in made.iter_mut().enumerate() {
+    for (kind, made) in kinds.iter_mut().enumerate() {
         *made |= plain.made.get(kind) == Some(&true);
     }
     Ok(())

@@ -76,8 +76,8 @@ fn told_room(alloc: Global, room: Result<Room, CltuFault>) -> Result<String, All
     }
 }
 
-fn told_taken(alloc: Global, taken: Taken) -> Result<String, AllocError> {
-    match taken {
+fn told_taken(alloc: Global, answer: Taken) -> Result<String, AllocError> {
+    match answer {
         Taken::Idle => format!(in alloc; "idle"),
         Taken::Waits { until } => format!(in alloc; "waits {}", until.wrapping_sub(DAY)),
         Taken::Expired { id } => format!(in alloc; "expired {id}"),

@@ -1,6 +1,6 @@
 pub mod Octets
 pub mod Archives
 pub mod Lengths
-pub mod Told
+pub mod Tallies
 pub mod Started
 pub mod Script

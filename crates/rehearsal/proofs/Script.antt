@@ -20,7 +20,7 @@ use Rattle.station_law.specs.Store.{Store, blank}
 use Rattle.station_law.specs.Doors.{Doors, anew}
 use Rattle.station_desk.specs.Start.{moment}
 use Rattle.station_law.specs.State.{State, start}
-use Rattle.station_desk.specs.Told.{Told}
+use Rattle.station_desk.specs.ToldBuffer.{ToldBuffer}
 use Rattle.station_law.specs.Said.{Said, begun, handed, texts}
 use Rattle.station_law.specs.Entries.{need, used, free, stores}
 use Rattle.station_law.specs.Lines.{step, recorded, doors_behind}
@@ -133,7 +133,7 @@ module _ (n : ℕ) (few : n ≤ 20000) where
 
 -- ---- the START
 
-texts_handed : (buffers : List Told) → texts (map (handed 0) buffers) ≡ flat_map sent buffers
+texts_handed : (buffers : List ToldBuffer) → texts (map (handed 0) buffers) ≡ flat_map sent buffers
 texts_handed [] = refl
 texts_handed (buffer ∷ buffers) = ap (λ rest. sent buffer ++ rest) (texts_handed buffers)
 

@@ -9,15 +9,15 @@ use Rattle.std.specs.List.{count_by, list_any}
 use Rattle.sha1.specs.Sha1.{Holds}
 use Rattle.frame_select.specs.declared.item.Item.{Item}
 use Rattle.frame_select.specs.Item.{items_of, item_of, said_of}
-use Rattle.station_desk.specs.Told.{Told, message_octets}
+use Rattle.station_desk.specs.ToldBuffer.{ToldBuffer, message_octets}
 use Rattle.station_desk.specs.Cursor.{Cursor, at_next, current}
 use Rattle.rehearsal.specs.declared.tally.Tally.{Tally}
 use Rattle.rehearsal.specs.Counts.{Counts, tells_frame, tells_end}
-use Rattle.rehearsal.proofs.Told.{count_said, any_said, said_frame, said_end, counts_more}
-use Rattle.rehearsal.proofs.Told.{frames_in, has_frame, ends_in}
+use Rattle.rehearsal.proofs.Tallies.{count_said, any_said, said_frame, said_end, counts_more}
+use Rattle.rehearsal.proofs.Tallies.{frames_in, has_frame, ends_in}
 
 -- the buffers so far are counted
-pub record HasCounted (told : List Told) (cursor : Cursor) (tally : Tally) : Type 0 where
+pub record HasCounted (told : List ToldBuffer) (cursor : Cursor) (tally : Tally) : Type 0 where
   pub of_told : cursor.buffers ≡ told
   pub within : cursor.count ≤ length told
   pub counts : Counts tally (take cursor.count told)
@@ -38,8 +38,8 @@ few_of test items few = omega (
 )
 
 -- where a next one is found, it is the one behind those so far
-pub next_count : (told : List Told) (old new : Cursor) → old.buffers ≡ told → new ≡ at_next old
-    → new.has_current ≡ true
+pub next_count : (told : List ToldBuffer) (old new : Cursor) → old.buffers ≡ told → new
+    ≡ at_next old → new.has_current ≡ true
     → (new.buffers ≡ told) × (new.count ≡ old.count + 1) × (old.count < length told)
 next_count told old new is next has =
     let more : nat_lt old.count (length old.buffers) ≡ true =
@@ -52,7 +52,7 @@ next_count told old new is next has =
       grind (arith, nat_tests),
     )
 
-pub counted_more : (told : List Told) (old new : Cursor) (before after : Tally)
+pub counted_more : (told : List ToldBuffer) (old new : Cursor) (before after : Tally)
     (items : List Item) (message : List ℕ) → HasCounted told old before → new ≡ at_next old
     → new.has_current ≡ true → items_of items ≡ map said_of (current new) → length items ≤ 2
     → message ≡ message_octets (current new)
@@ -66,16 +66,16 @@ counted_more told old new before after items message counted next has said few s
     let is = next_count told old new counted.of_told next has in
     let place : new.count - 1 ≡ old.count = omega (arith, is.1) in
     let here : current new ≡ get_or told old.count [] =
-    ap (λ (bs : List Told). get_or bs (new.count - 1) []) is.0
+    ap (λ (bs : List ToldBuffer). get_or bs (new.count - 1) []) is.0
     ∙ ap (λ (i : ℕ). get_or told i []) place in
-    let buffer : Told = get_or told old.count [] in
+    let buffer : ToldBuffer = get_or told old.count [] in
     let same : items_of items ≡ map said_of buffer = said ∙ ap (map said_of) here in
     let more : take new.count told ≡ take old.count told ++ buffer ∷ [] =
     ap (λ (n : ℕ). take n told) is.1 ∙ take_more told old.count [] is.2 in
     let f : count_by tells_frame (items_of items) ≡ frames_in buffer =
     ap (count_by tells_frame) same ∙ count_said tells_frame said_frame buffer in
     let b : cond (list_any tells_frame (items_of items)) 1 0 ≡ has_frame buffer =
-    ap (λ (xs : Told). cond {A = ℕ} (list_any tells_frame xs) 1 0) same
+    ap (λ (xs : ToldBuffer). cond {A = ℕ} (list_any tells_frame xs) 1 0) same
     ∙ ap (λ (x : Bool). cond {A = ℕ} x 1 0) (any_said buffer) in
     let e : count_by tells_end (items_of items) ≡ ends_in buffer =
     ap (count_by tells_end) same ∙ count_said tells_end said_end buffer in

@@ -4,13 +4,13 @@ use Rattle.std.specs.Fmt.{decimal}
 use Rattle.hex.specs.Hex.{encode_lower}
 use Rattle.sha1.specs.Sha1.{sha1}
 use Rattle.archive_terms.specs.Archive.{Entry}
-use Rattle.station_desk.specs.Told.{Told}
+use Rattle.station_desk.specs.ToldBuffer.{ToldBuffer}
 use Rattle.station_desk.specs.Start.{told_desk}
 use Rattle.rehearsal.specs.Frames.{time_at, frames_stored, archive}
 use Rattle.rehearsal.specs.Counts.{frames_sent, buffers_sent, ends_sent, octets_sent}
 
 -- the buffers of the desk's START for the good frames, from the first one's time to the last one's
-abbrev pub told : ℕ → List Told
+abbrev pub told : ℕ → List ToldBuffer
 told n = told_desk (archive n) (time_at 0) (time_at (n - 1)) 0
 
 -- a line: a word, and what it tells
@@ -27,7 +27,7 @@ lines stored sent buffers ends digest =
     ++ line (codes "digest") (encode_lower digest)
 
 -- what is told of an archive and of the buffers that were handed over of it
-abbrev pub report : List Entry → List Told → List ℕ
+abbrev pub report : List Entry → List ToldBuffer → List ℕ
 report entries told = lines (frames_stored entries) (frames_sent told) (buffers_sent told)
     (ends_sent told) (sha1 (octets_sent told))
 

@@ -7,7 +7,7 @@ use Rattle.drill_text.specs.declared.script_line.ScriptLine.{ScriptLine}
 use Rattle.drill_text.specs.declared.script_line.ScriptLine.TheVariants.{Offer, Desk}
 use Rattle.station_config.specs.declared.site.Site.{Site}
 use Rattle.station_law.specs.State.{start}
-use Rattle.station_desk.specs.Told.{Told, message_octets}
+use Rattle.station_desk.specs.ToldBuffer.{ToldBuffer, message_octets}
 use Rattle.station_law.specs.Said.{sent_text}
 use Rattle.station_law.specs.Lines.{step}
 use Rattle.station_law.specs.Runs.{transcript, after}
@@ -32,7 +32,7 @@ abbrev pub capacity : ℕ
 capacity = 268435456
 
 -- connection 0 was handed a buffer
-abbrev pub sent : Told → List ℕ
+abbrev pub sent : ToldBuffer → List ℕ
 sent buffer = sent_text 0 (message_octets buffer)
 
 -- The world of a site with this capacity stores each frame and the seal, and its transcript is a

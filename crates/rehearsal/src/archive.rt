@@ -27,7 +27,7 @@ impl Model for Archive {
     ghost use Rattle.std.specs.Prelude.{List, vec_items};
     ghost use Rattle.archive_terms.specs.Archive.{Entry};
     ghost use Rattle.record_form.specs.Entry.{entries_of};
-    ghost use Rattle.archive_index.specs.Kept.{Indexes};
+    ghost use Rattle.archive_index.specs.IndexState.{Indexes};
 
     ghost Value = { List Entry };
 

@@ -5,7 +5,7 @@ ghost use Rattle.std.specs.Fmt.{decimal};
 ghost use Rattle.hex.specs.Hex.{encode_lower};
 ghost use Rattle.sha1.specs.Sha1.{sha1};
 ghost use Rattle.archive_terms.specs.Archive.{IsArchive};
-ghost use Rattle.station_desk.specs.Told.{Told};
+ghost use Rattle.station_desk.specs.ToldBuffer.{ToldBuffer};
 ghost use Rattle.station_desk.specs.Start.{told_desk};
 ghost use Rattle.rehearsal.specs.Frames.{time_at};
 ghost use Rattle.rehearsal.specs.Counts.{Counts, frames_sent, buffers_sent, ends_sent};
@@ -54,9 +54,9 @@ fn count_good(alloc: Global, archive: &Archive, n: u32) -> Result<Tally, Memory>
 }
 
 // The lines of a tally.
-fn report(alloc: Global, stored: usize, tally: Tally) -> Result<String, AllocError>
-    ensures { IfOk result (λ written. (told : List Told) → Counts tally told
-        → string_bytes written ≡ lines stored (frames_sent told) (buffers_sent told)
+fn report(alloc: Global, entries: usize, tally: Tally) -> Result<String, AllocError>
+    ensures { IfOk result (λ written. (told : List ToldBuffer) → Counts tally told
+        → string_bytes written ≡ lines entries (frames_sent told) (buffers_sent told)
         (ends_sent told) (sha1 (octets_sent told))) }
 {
     let Tally {
@@ -65,23 +65,23 @@ fn report(alloc: Global, stored: usize, tally: Tally) -> Result<String, AllocErr
         ends,
         hasher,
     } = tally;
-    write_lines(alloc, stored, frames, buffers, ends, &hasher.finalize())
+    write_lines(alloc, entries, frames, buffers, ends, &hasher.finalize())
 }
 
 fn write_lines(
     alloc: Global,
-    stored: usize,
-    sent: u64,
+    entries: usize,
+    frames: u64,
     buffers: u64,
     ends: u64,
     digest: &[u8],
 ) -> Result<String, AllocError>
     ensures { IfOk result (λ written. string_bytes written
-        ≡ lines stored sent buffers ends digest.now) }
+        ≡ lines entries frames buffers ends digest.now) }
 {
     let mut text = String::new(alloc);
-    put_count(alloc, "stored", stored as u64, &mut text)?;
-    put_count(alloc, "sent", sent, &mut text)?;
+    put_count(alloc, "stored", entries as u64, &mut text)?;
+    put_count(alloc, "sent", frames, &mut text)?;
     put_count(alloc, "buffers", buffers, &mut text)?;
     put_count(alloc, "ends", ends, &mut text)?;
     put_octets(alloc, "digest", digest, &mut text)?;

@@ -14,7 +14,7 @@ use Rattle.archive_terms.specs.Rounds.{after_round, outcome, is_failed, ends_run
 use Rattle.archive_terms.specs.Rounds.{outcomes, handed_buffer, handed_buffers, items_in}
 use Rattle.archive_terms.specs.Rounds.{FrontsRise, last_front}
 use Rattle.archive_terms.specs.Continuity.{told_buffers}
-use Rattle.archive_terms.specs.Placed.{Told, Placed, placed_at_start, placed_at_round}
+use Rattle.archive_terms.specs.Placed.{ToldItem, Placed, placed_at_start, placed_at_round}
 use Rattle.archive_terms.specs.Placed.{placed_answer_at, placed_after_round, placed_fate}
 use Rattle.archive_terms.specs.Placed.{placed_outcome, placed_outcomes}
 use Rattle.return_core.specs.Standing.{goes_on, all_go_on, placed_after, handed_told}
@@ -22,10 +22,10 @@ use Rattle.return_core.specs.Standing.{goes_on, all_go_on, placed_after, handed_
 -- the law that ties places to counts, for these terms and entries
 pub record PlacesAreCounts (t : Terms) (entries : List Entry) : Type 0 where
   pub steps : (rounds : List Round) → FrontsRise t.selection.first rounds
-      → map (λ (x : Outcome × Option (List Told)). x.0)
+      → map (λ (x : Outcome × Option (List ToldItem)). x.0)
       (placed_outcomes t entries rounds (placed_at_start t)) ≡ outcomes t entries rounds started
   pub told : (rounds : List Round) → FrontsRise t.selection.first rounds
-      → filter_map (λ (x : Outcome × Option (List Told)). x.1)
+      → filter_map (λ (x : Outcome × Option (List ToldItem)). x.1)
       (placed_outcomes t entries rounds (placed_at_start t))
       ≡ told_buffers entries None (handed_buffers (outcomes t entries rounds started))
 
@@ -146,13 +146,13 @@ one_outcome t entries rounds r law rise goes =
     last_same (outcomes t entries rounds started) _ _
     (ap (λ xs. xs ++ done.0 ∷ []) (sym (law.steps rounds
     (rise_front t.selection.first rounds r rise)))
-    ∙ sym (map-append (λ (x : Outcome × Option (List Told)). x.0)
+    ∙ sym (map-append (λ (x : Outcome × Option (List ToldItem)). x.0)
     (placed_outcomes t entries rounds (placed_at_start t)) (done ∷ []))
-    ∙ ap (map (λ (x : Outcome × Option (List Told)). x.0))
+    ∙ ap (map (λ (x : Outcome × Option (List ToldItem)). x.0))
     (sym (placed_outcomes-append t entries rounds r (placed_at_start t) goes))
     ∙ law.steps (rounds ++ r ∷ []) rise ∙ outcomes-append t entries rounds r started goes)
   where
-    done : Outcome × Option (List Told)
+    done : Outcome × Option (List ToldItem)
     done = placed_outcome t entries r (placed_after t entries rounds (placed_at_start t))
 
 one_option : {X : Type 0} → (o : Option X) → cons_option o [] ≡ option_to_list o
@@ -167,15 +167,15 @@ pub one_told : (t : Terms) (entries : List Entry) (rounds : List Round) (r : Rou
     (placed_outcome t entries r (placed_after t entries rounds (placed_at_start t))).1
 one_told t entries rounds r law rise goes =
     sym (law.told (rounds ++ r ∷ []) rise)
-    ∙ ap (filter_map (λ (x : Outcome × Option (List Told)). x.1))
+    ∙ ap (filter_map (λ (x : Outcome × Option (List ToldItem)). x.1))
     (placed_outcomes-append t entries rounds r (placed_at_start t) goes)
-    ∙ filter_map-append (λ (x : Outcome × Option (List Told)). x.1)
+    ∙ filter_map-append (λ (x : Outcome × Option (List ToldItem)). x.1)
     (placed_outcomes t entries rounds (placed_at_start t)) (done ∷ [])
     ∙ ap (λ xs. xs ++ cons_option done.1 []) (law.told rounds
     (rise_front t.selection.first rounds r rise))
     ∙ ap (λ xs. handed_told t entries rounds ++ xs) (one_option done.1)
   where
-    done : Outcome × Option (List Told)
+    done : Outcome × Option (List ToldItem)
     done = placed_outcome t entries r (placed_after t entries rounds (placed_at_start t))
 
 -- an offer that is taken whole shows what is fixed

@@ -16,7 +16,7 @@ use Rattle.archive_terms.specs.Delivery.{Item, is_notice_item, frame_octets, is_
 use Rattle.archive_terms.specs.Delivery.{buffer_length, entries_of, archived_of}
 use Rattle.archive_terms.specs.Glimpse.{place_behind}
 use Rattle.archive_terms.specs.Continuity.{last_frame, frame_place}
-use Rattle.archive_terms.specs.Placed.{Told, items_of}
+use Rattle.archive_terms.specs.Placed.{ToldItem, items_of}
 use Rattle.frame_select.specs.Item as select
 use Rattle.frame_select.specs.declared.item.Item as code
 use Rattle.return_core.specs.Holding.{Holding, takes_more, with_put, fitting, filled_with}
@@ -28,7 +28,7 @@ any_item p [] = refl
 any_item p (x ∷ xs) = ap (λ b. p (select.item_of x).0 || b) (any_item p xs)
 
 pub all_items : (p : Item → Bool) (xs : List code.Item)
-    → list_all (λ (t : Told). p t.0) (select.items_of xs)
+    → list_all (λ (t : ToldItem). p t.0) (select.items_of xs)
     ≡ list_all (λ x. p (select.item_of x).0) xs
 all_items p [] = refl
 all_items p (x ∷ xs) = ap (λ b. p (select.item_of x).0 && b) (all_items p xs)
@@ -130,7 +130,7 @@ with_put-nil h now =
     by_test true = refl
     by_test false = refl
 
-pub with_put-more : (h : Holding) (xs : List Told) (x : Told) (now : ℕ)
+pub with_put-more : (h : Holding) (xs : List ToldItem) (x : ToldItem) (now : ℕ)
     → with_put (with_put h xs now) (x ∷ []) now ≡ with_put h (xs ++ x ∷ []) now
 with_put-more h xs x now =
     ap (λ told. let g : Holding = record all {
@@ -195,7 +195,7 @@ with_put-more h xs x now =
         (entries_of (items_of (xs ++ x ∷ [])))
     place = sym
         (ap (λ items. place_behind h.place (entries_of items))
-        (map-append (λ (t : Told). t.0) xs (x ∷ []))
+        (map-append (λ (t : ToldItem). t.0) xs (x ∷ []))
         ∙ ap (place_behind h.place) (filter_map-append archived_of (items_of xs)
         (items_of (x ∷ [])))
         ∙ fold-append (λ _ e. e.0 + 1) h.place (entries_of (items_of xs))
@@ -204,7 +204,7 @@ with_put-more h xs x now =
     frame : last_frame (last_frame h.frame (items_of xs)) (items_of (x ∷ []))
         ≡ last_frame h.frame (items_of (xs ++ x ∷ []))
     frame = sym
-        (ap (last_frame h.frame) (map-append (λ (t : Told). t.0) xs (x ∷ []))
+        (ap (last_frame h.frame) (map-append (λ (t : ToldItem). t.0) xs (x ∷ []))
         ∙ last_frame-append h.frame (items_of xs) (items_of (x ∷ [])))
 
 -- the law of what a buffer takes
@@ -216,7 +216,7 @@ pub record TakesWhatFits : Type 0 where
       → is_complete size (take (buffer_length size items) items) ≡ true
 
 -- what was put is what goes in, where nothing is left or nothing more goes in
-fitting_is : (h : Holding) (done rest : List Told) → TakesWhatFits
+fitting_is : (h : Holding) (done rest : List ToldItem) → TakesWhatFits
     → (0 < length done → is_complete h.size (items_of h.told
     ++ take (length done - 1) (items_of done)) ≡ false)
     → (0 < length rest → is_complete h.size (items_of (h.told ++ done)) ≡ true)
@@ -225,7 +225,7 @@ fitting_is h done rest law before after =
     let same : fitting h (done ++ rest) ≡ buffer_length h.size
     (items_of h.told ++ items_of (done ++ rest)) - length (items_of h.told) =
     ap (λ n. buffer_length h.size (items_of h.told ++ items_of (done ++ rest)) - n)
-    (sym (length-map h.told (λ (t : Told). t.0))) in
+    (sym (length-map h.told (λ (t : ToldItem). t.0))) in
     same ∙ fits h.size (items_of h.told) (items_of (done ++ rest)) (length done)
     (law.within h.size _) (law.passes h.size _) (law.greatest h.size _)
     (omega (arith, long, length-append done rest))
@@ -239,24 +239,24 @@ fitting_is h done rest law before after =
     (sym done_long)
     ∙ ap (λ items. is_complete h.size (items_of h.told ++ items))
     (take-append_seam (items_of done) (items_of rest))
-    ∙ ap (is_complete h.size) (sym (map-append (λ (t : Told). t.0) h.told done))
+    ∙ ap (is_complete h.size) (sym (map-append (λ (t : ToldItem). t.0) h.told done))
     ∙ after (omega (arith, long, length-append done rest)))
   where
     parts : items_of (done ++ rest) ≡ items_of done ++ items_of rest
-    parts = map-append (λ (t : Told). t.0) done rest
+    parts = map-append (λ (t : ToldItem). t.0) done rest
 
     long : length (items_of (done ++ rest)) ≡ length (done ++ rest)
-    long = length-map (done ++ rest) (λ (t : Told). t.0)
+    long = length-map (done ++ rest) (λ (t : ToldItem). t.0)
 
     done_long : length (items_of done) ≡ length done
-    done_long = length-map done (λ (t : Told). t.0)
+    done_long = length-map done (λ (t : ToldItem). t.0)
 
-pub record IsFilled (h : Holding) (items : List Told) (now : ℕ) (state : Holding) (taken : ℕ) : Type
-    0 where
+pub record IsFilled (h : Holding) (items : List ToldItem) (now : ℕ) (state : Holding)
+    (taken : ℕ) : Type 0 where
   pub is : state ≡ filled_with h items now
   pub count : fitting h items ≡ taken
 
-pub is_filled : (h : Holding) (items : List Told) (done rest : List code.Item) (now : ℕ)
+pub is_filled : (h : Holding) (items : List ToldItem) (done rest : List code.Item) (now : ℕ)
     (state : Holding) → TakesWhatFits
     → select.items_of (done ++ rest) ≡ items → state ≡ with_put h (select.items_of done) now
     → (0 < length done → is_complete h.size (items_of h.told
@@ -305,7 +305,8 @@ open_before h done x now state put takes =
     ++ take (length (items_of (select.items_of done))) items)) parts
     ∙ ap (λ items. is_complete h.size (items_of h.told ++ items))
     (take-append_seam (items_of (select.items_of done)) _)
-    ∙ ap (is_complete h.size) (sym (map-append (λ (t : Told). t.0) h.told (select.items_of done)))
+    ∙ ap (is_complete h.size)
+    (sym (map-append (λ (t : ToldItem). t.0) h.told (select.items_of done)))
     ∙ not-true (is_complete h.size (items_of (h.told ++ select.items_of done)))
     (ap takes_more (sym put) ∙ takes)
   where
@@ -313,7 +314,7 @@ open_before h done x now state put takes =
     count = omega (
       arith,
       length-append done (x ∷ []),
-      length-map (select.items_of done) (λ (t : Told). t.0),
+      length-map (select.items_of done) (λ (t : ToldItem). t.0),
       length-map done select.item_of,
     )
 
@@ -321,4 +322,4 @@ open_before h done x now state put takes =
         ≡ items_of (select.items_of done) ++ items_of (select.items_of (x ∷ []))
     parts =
         ap items_of (map-append select.item_of done (x ∷ []))
-        ∙ map-append (λ (t : Told). t.0) (select.items_of done) (select.items_of (x ∷ []))
+        ∙ map-append (λ (t : ToldItem). t.0) (select.items_of done) (select.items_of (x ∷ []))

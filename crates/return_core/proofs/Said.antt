@@ -13,7 +13,7 @@ use Rattle.archive_terms.specs.Delivery.{is_timely}
 use Rattle.archive_terms.specs.Continuity.{frame_place, last_frame}
 use Rattle.archive_terms.specs.Rounds.{Answer, whole, stall, fail}
 use Rattle.archive_terms.specs.Glimpse.{Want, wants_nothing, wants_items, place_behind, Glimpse}
-use Rattle.archive_terms.specs.Placed.{Told, items_of, Placed, with_head, want_of, taken_of}
+use Rattle.archive_terms.specs.Placed.{ToldItem, items_of, Placed, with_head, want_of, taken_of}
 use Rattle.archive_terms.specs.Placed.{with_items, is_all_put, with_end_alone, fixed_where_due}
 use Rattle.archive_terms.specs.Placed.{placed_step, placed_answered}
 use Rattle.frame_select.specs.Item.{without_lost, said_of}
@@ -71,7 +71,8 @@ end_said end_of_data = refl
 
 -- ---- items
 
-pub items_said : (told : List Told) → items_of (map said_of told) ≡ map said_item (items_of told)
+pub items_said : (told : List ToldItem) → items_of (map said_of told) ≡ map said_item
+    (items_of told)
 items_said [] = refl
 items_said ((archived place entry, c) ∷ told) =
     ap (λ xs. archived place (without_lost entry) ∷ xs) (items_said told)
@@ -141,27 +142,27 @@ behind_said place (end_of_data ∷ items) = behind_said place items
 
 -- ---- items as they are told
 
-told_octets : (told : List Told) → sum_by frame_octets (items_of (map said_of told))
+told_octets : (told : List ToldItem) → sum_by frame_octets (items_of (map said_of told))
     ≡ sum_by frame_octets (items_of told)
 told_octets told = ap (sum_by frame_octets) (items_said told) ∙ sum_said 0 (items_of told)
 
-told_frame : (before : Option ℕ) (told : List Told)
+told_frame : (before : Option ℕ) (told : List ToldItem)
     → last_frame before (items_of (map said_of told)) ≡ last_frame before (items_of told)
 told_frame before told = ap (last_frame before) (items_said told)
     ∙ frame_said before (items_of told)
 
-told_behind : (place : ℕ) (told : List Told)
+told_behind : (place : ℕ) (told : List ToldItem)
     → place_behind place (entries_of (items_of (map said_of told)))
     ≡ place_behind place (entries_of (items_of told))
 told_behind place told = ap (λ xs. place_behind place (entries_of xs)) (items_said told)
     ∙ behind_said place (items_of told)
 
 pub told_any : (p : Item → Bool) → ((item : Item) → p (said_item item) ≡ p item)
-    → (told : List Told)
+    → (told : List ToldItem)
     → list_any p (items_of (map said_of told)) ≡ list_any p (items_of told)
 told_any p same told = ap (list_any p) (items_said told) ∙ any_said p same (items_of told)
 
-told_contents : (since : ℕ) (told : List Told)
+told_contents : (since : ℕ) (told : List ToldItem)
     → contents since (items_of (map said_of told)) ≡ contents since (items_of told)
 told_contents since told =
     let count : length (items_of (map said_of told)) ≡ length (items_of told) =
@@ -230,7 +231,7 @@ pub step_said : (t : Terms) (g : Glimpse) (now : ℕ) (p : Placed)
     → placed_step t (as_said g) now (said_placed p) ≡ said_placed (placed_step t g now p)
 step_said t g now p = by_test (p.fixed || p.ended)
   where
-    head : List Told
+    head : List ToldItem
     head = with_head p
 
     taken_said : taken_of t (as_said g) (said_placed p) ≡ taken_of t g p
@@ -248,7 +249,7 @@ step_said t g now p = by_test (p.fixed || p.ended)
         ∙ ap (λ n. buffer_length t.size (items_of head ++ items_of g.items) - n)
         (length-map head said_of)
 
-    put : List Told
+    put : List ToldItem
     put = take (taken_of t g p) g.items
 
     put_said : take (taken_of t (as_said g) (said_placed p)) (map said_of g.items) ≡ map said_of put
@@ -271,7 +272,7 @@ step_said t g now p = by_test (p.fixed || p.ended)
         (head_said p)
         ∙ ap (λ xs. map said_of head ++ xs) put_said ∙ sym (map-append said_of head put)
 
-    filled : ℕ → List Told → ℕ → Placed
+    filled : ℕ → List ToldItem → ℕ → Placed
     filled place held first = record p {
       place = place;
       held = held;

@@ -13,7 +13,7 @@ use Rattle.archive_terms.specs.Rounds.{discarded, fate, picked_at, outcome, afte
 use Rattle.archive_terms.specs.Rounds.{handed_buffer, handed_buffers, FrontsRise, last_front}
 use Rattle.archive_terms.specs.Continuity.{last_frame, told_items, told_buffers}
 use Rattle.archive_terms.specs.Glimpse.{Glimpse, glimpse}
-use Rattle.archive_terms.specs.Placed.{Told, items_of, Placed, placed_at_start, want_of}
+use Rattle.archive_terms.specs.Placed.{ToldItem, items_of, Placed, placed_at_start, want_of}
 use Rattle.archive_terms.specs.Placed.{placed_step, placed_answered, placed_at_round, placed_fate}
 use Rattle.archive_terms.specs.Placed.{told_where, placed_outcome}
 use Rattle.frame_select.specs.Item.{said_of}
@@ -226,7 +226,7 @@ settles c t entries rounds front now answer law s = record {
       ∙ sym (ap (λ x. fate_of (record c { run = x }) t answer) run));
   told =
       ap said_told (one_told t entries rounds r law rise goes)
-      ∙ map-append (λ (buffer : List Told). map said_of buffer) (handed_told t entries rounds)
+      ∙ map-append (λ (buffer : List ToldItem). map said_of buffer) (handed_told t entries rounds)
       (option_to_list (placed_outcome t entries r p).1)
       ∙ ap (λ xs. said_told (handed_told t entries rounds) ++ xs) (told_by answer q.fixed
       ∙ sym (ap (λ x. handed_by (record c { run = x }) answer) run));
@@ -264,7 +264,7 @@ settles c t entries rounds front now answer law s = record {
     done_by false = refl
 
     told_by : (a : Answer) (b : Bool)
-        → map (λ (buffer : List Told). map said_of buffer)
+        → map (λ (buffer : List ToldItem). map said_of buffer)
         (option_to_list (option_map_or (λ x. told_where x q.held) (cond b (Some a) None) None))
         ≡ cond b (option_to_list (told_where a (map said_of q.held))) []
     told_by whole true = refl

@@ -9,7 +9,7 @@ use Rattle.archive_terms.specs.Delivery.{Mode, backlog, end_of_data, Terms, limi
 use Rattle.archive_terms.specs.Delivery.{contents}
 use Rattle.archive_terms.specs.Continuity.{last_frame}
 use Rattle.archive_terms.specs.Glimpse.{Glimpse}
-use Rattle.archive_terms.specs.Placed.{Told, items_of, Placed, taken_of, with_items, is_all_put}
+use Rattle.archive_terms.specs.Placed.{ToldItem, items_of, Placed, taken_of, with_items, is_all_put}
 use Rattle.archive_terms.specs.Placed.{with_end_alone, fixed_where_due, placed_step}
 use Rattle.return_core.specs.Holding.{Holding, headed, fitting, is_last_of, filled_at}
 use Rattle.return_core.specs.Course.{Course, placed_of, course_of, is_filling, limit_of_course}
@@ -17,9 +17,9 @@ use Rattle.return_core.specs.Course.{with_step, IsSound}
 use Rattle.return_core.proofs.Filling.{last_frame-append}
 
 -- the moment of the first item, where a backlog may have been put before the others
-since_is : (told put : List Told) (owed : Bool) (now since : ℕ) (empty : Bool)
+since_is : (told put : List ToldItem) (owed : Bool) (now since : ℕ) (empty : Bool)
     → nat_eq (length told) 0 ≡ empty →
-    let front : List Told = cond (owed && empty) ((backlog, None) ∷ []) told in
+    let front : List ToldItem = cond (owed && empty) ((backlog, None) ∷ []) told in
     cond (nat_eq (length front) 0 && not (nat_eq (length (front ++ put)) 0)) now
     (cond (owed && empty) now since)
     ≡ cond (empty && not (nat_eq (length (front ++ put)) 0)) now since
@@ -58,7 +58,7 @@ filled_is_stepped mode latency selection g now h last owed fixed ended goes =
     p : Placed
     p = placed_of h last owed fixed ended
 
-    put : List Told
+    put : List ToldItem
     put = take (taken_of t g p) g.items
 
     is_last : Bool
@@ -68,7 +68,7 @@ filled_is_stepped mode latency selection g now h last owed fixed ended goes =
     stepped since = fixed_where_due t is_last now
         (with_end_alone is_last (record (with_items t g now p) { since = since }))
 
-nothing_in : (told : List Told) → nat_eq (length told) 0 ≡ true → told ≡ []
+nothing_in : (told : List ToldItem) → nat_eq (length told) 0 ≡ true → told ≡ []
 nothing_in [] is = refl
 nothing_in (x ∷ told) is = absurd (omega (arith, eqb-true (length (x ∷ told)) 0 is))
 
@@ -80,13 +80,13 @@ frame_kept h owed g now last is =
     ap (λ frame. last_frame frame (items_of put))
     (with_front (owed && nat_eq (length h.told) 0) refl)
     ∙ sym (last_frame-append last (items_of front) (items_of put))
-    ∙ ap (last_frame last) (sym (map-append (λ (x : Told). x.0) front put))
+    ∙ ap (last_frame last) (sym (map-append (λ (x : ToldItem). x.0) front put))
     ∙ with_end (nat_eq (length (front ++ put)) 0 && is_last_of h owed g now) refl
   where
-    front : List Told
+    front : List ToldItem
     front = (headed h owed now).told
 
-    put : List Told
+    put : List ToldItem
     put = take (fitting (headed h owed now) g.items) g.items
 
     with_front : (b : Bool) → (owed && nat_eq (length h.told) 0) ≡ b

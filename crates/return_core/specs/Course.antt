@@ -6,7 +6,7 @@ use Rattle.archive_terms.specs.Selection.{Selection}
 use Rattle.archive_terms.specs.Delivery.{Mode, is_online, Terms}
 use Rattle.archive_terms.specs.Continuity.{last_frame}
 use Rattle.archive_terms.specs.Glimpse.{Want, wants_nothing, Glimpse}
-use Rattle.archive_terms.specs.Placed.{Told, items_of, Placed, placed_at_start, want_of}
+use Rattle.archive_terms.specs.Placed.{ToldItem, items_of, Placed, placed_at_start, want_of}
 use Rattle.archive_terms.specs.Placed.{placed_step, placed_answered}
 use Rattle.archive_terms.specs.Rounds.{Answer}
 use Rattle.return_core.specs.Holding.{Holding}
@@ -47,7 +47,7 @@ abbrev pub without_start : Course → Course
 without_start c = record c { run = None }
 
 -- what is held of the running START, as it is told
-abbrev pub held_of : Course → List Told
+abbrev pub held_of : Course → List ToldItem
 held_of c = option_map_or (λ r. r.placed.held) c.run []
 
 -- its latency limit, in the online modes

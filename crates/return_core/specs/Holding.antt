@@ -6,7 +6,7 @@ use Rattle.archive_terms.specs.Delivery.{backlog, end_of_data, is_notification, 
 use Rattle.archive_terms.specs.Delivery.{frame_octets, is_complete, buffer_length, entries_of}
 use Rattle.archive_terms.specs.Continuity.{last_frame}
 use Rattle.archive_terms.specs.Glimpse.{place_behind, Glimpse}
-use Rattle.archive_terms.specs.Placed.{Told, items_of}
+use Rattle.archive_terms.specs.Placed.{ToldItem, items_of}
 use Rattle.frame_select.specs.Item as select
 use Rattle.frame_select.specs.declared.item.Item.{Item}
 use Rattle.transfer_buffer.specs.Held.{Held}
@@ -16,7 +16,7 @@ use Rattle.transfer_buffer.specs.Held.{Held}
 -- held ones was put
 pub record Holding : Type 0 where
   pub size : ℕ
-  pub told : List Told
+  pub told : List ToldItem
   pub place : ℕ
   pub frame : Option ℕ
   pub since : ℕ
@@ -46,7 +46,7 @@ abbrev pub takes_more : Holding → Bool
 takes_more h = not (is_complete h.size (items_of h.told))
 
 -- with items behind those that are held; the first item sets the moment
-abbrev pub with_put : Holding → List Told → ℕ → Holding
+abbrev pub with_put : Holding → List ToldItem → ℕ → Holding
 with_put h put now = record h {
   told = h.told ++ put;
   place = place_behind h.place (entries_of (items_of put));
@@ -55,11 +55,11 @@ with_put h put now = record h {
 }
 
 -- how many of some items go in
-abbrev pub fitting : Holding → List Told → ℕ
+abbrev pub fitting : Holding → List ToldItem → ℕ
 fitting h items = buffer_length h.size (items_of h.told ++ items_of items) - length h.told
 
 -- with as many of some items as go in
-abbrev pub filled_with : Holding → List Told → ℕ → Holding
+abbrev pub filled_with : Holding → List ToldItem → ℕ → Holding
 filled_with h items now = with_put h (take (fitting h items) items) now
 
 -- without what is held, of which the last frame before it is known

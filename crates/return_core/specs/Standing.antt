@@ -10,7 +10,8 @@ use Rattle.archive_terms.specs.Rounds.{Outcome, nothing, picked_at, at_round, af
 use Rattle.archive_terms.specs.Rounds.{outcomes, handed_buffers, FrontsRise, last_front}
 use Rattle.archive_terms.specs.Continuity.{last_frame, told_items, told_buffers}
 use Rattle.archive_terms.specs.Glimpse.{Glimpse, glimpse}
-use Rattle.archive_terms.specs.Placed.{Told, items_of, Placed, placed_at_start, placed_after_round}
+use Rattle.archive_terms.specs.Placed.{ToldItem, items_of, Placed, placed_at_start}
+use Rattle.archive_terms.specs.Placed.{placed_after_round}
 use Rattle.archive_terms.specs.Placed.{placed_fate, told_where}
 use Rattle.frame_select.specs.Item.{said_of}
 use Rattle.frame_select.specs.Glimpse.{as_said}
@@ -96,14 +97,14 @@ abbrev pub handed_over : Terms → List Entry → List Round → List (List Item
 handed_over t entries rounds = handed_buffers (outcomes t entries rounds started)
 
 -- the same as it is told, each frame with its continuity
-abbrev pub handed_told : Terms → List Entry → List Round → List (List Told)
+abbrev pub handed_told : Terms → List Entry → List Round → List (List ToldItem)
 handed_told t entries rounds = told_buffers entries None (handed_over t entries rounds)
 
-abbrev pub said_told : List (List Told) → List (List Told)
-said_told told = map (λ (buffer : List Told). map said_of buffer) told
+abbrev pub said_told : List (List ToldItem) → List (List ToldItem)
+said_told told = map (λ (buffer : List ToldItem). map said_of buffer) told
 
 -- the buffer that is due in a round behind these, as it is told
-abbrev pub due_told : Terms → List Entry → List Round → ℕ → ℕ → List Told
+abbrev pub due_told : Terms → List Entry → List Round → ℕ → ℕ → List ToldItem
 due_told t entries rounds front now =
     told_items entries (last_frame None (flat_map (λ b. b) (handed_over t entries rounds)))
     (buffer (picked_at t entries front) (at_front t entries rounds front now))
@@ -122,7 +123,7 @@ pub record Steps (c : Course) (t : Terms) (entries : List Entry) (rounds : List 
 abbrev pub fate_of : Course → Terms → Answer → Outcome
 fate_of c t answer = if is_offering c then placed_fate t answer (items_of (held_of c)) else nothing
 
-abbrev pub handed_by : Course → Answer → List (List Told)
+abbrev pub handed_by : Course → Answer → List (List ToldItem)
 handed_by c answer = if is_offering c then option_to_list (told_where answer (held_of c)) else []
 
 -- an answer was taken to the round behind these: unless the link failed, the delivery stands for

@@ -157,11 +157,11 @@ impl HeldItems {
     }
 
     // Puts the notice of backlog, where one is owed and nothing is held.
-    fn put_head(&mut self, owed: bool, now: u128)
+    fn put_head(&mut self, is_owed: bool, now: u128)
         requires { 0 < self.old.size }
-        ensures { self.new ≡ headed self.old owed now }
+        ensures { self.new ≡ headed self.old is_owed now }
     {
-        if owed && self.is_empty() {
+        if is_owed && self.is_empty() {
             self.put(Item::Backlog, now);
         }
     }
@@ -196,13 +196,13 @@ impl HeldItems {
 
     /// Fills the buffer with what a look gave, behind a backlog that is owed, and says whether
     /// nothing more comes.
-    pub fn fill(&mut self, owed: bool, glimpse: Glimpse, now: u128) -> bool
+    pub fn fill(&mut self, is_owed: bool, glimpse: Glimpse, now: u128) -> bool
         requires some { 0 < self.old.size }
         requires small { IsTrue (are_of_archive glimpse.items) }
-        ensures after { self.new ≡ filled_at self.old owed (glimpse_of glimpse) now }
-        ensures last { result ≡ is_last_of self.old owed (glimpse_of glimpse) now }
+        ensures after { self.new ≡ filled_at self.old is_owed (glimpse_of glimpse) now }
+        ensures last { result ≡ is_last_of self.old is_owed (glimpse_of glimpse) now }
     {
-        self.put_head(owed, now);
+        self.put_head(is_owed, now);
         let is_all_put = self.put_all(glimpse.items, now);
         let is_last = glimpse.closed && !glimpse.more && is_all_put;
         self.put_end(is_last);

@@ -1,6 +1,6 @@
 ghost use Rattle.std.specs.Prelude.{IfOk, ◌≤◌, length, take};
 ghost use Rattle.record_form.specs.Entry.{entries_of};
-ghost use Rattle.archive_index.specs.Kept.{Indexes};
+ghost use Rattle.archive_index.specs.IndexState.{Indexes};
 
 use crate::plain_index::{Look, Seen, lost, picked, plain_look, what_shows};
 use crate::random::{Random, time};
@@ -38,12 +38,12 @@ fn random_archive(alloc: Global, random: &mut Random) -> Result<Vec<Entry>, Memo
     Ok(entries)
 }
 
-fn frame(alloc: Global, millis: u32, lost: u32, octets: &[u8]) -> Result<Entry, Memory> {
+fn frame(alloc: Global, millis: u32, gap: u32, octets: &[u8]) -> Result<Entry, Memory> {
     Ok(Entry::Frame {
         ert: time(millis),
         quality: 0,
         antenna: Octets::copy_of(alloc, b"A")?,
-        lost,
+        lost: gap,
         octets: Octets::copy_of(alloc, octets)?,
     })
 }
@@ -235,14 +235,14 @@ fn same_cut(
     rt: &impl Abort,
     alloc: Global,
     entries: &[Entry],
-    left: usize,
+    count: usize,
     random: &mut Random,
 ) -> Result<(), Memory>
-    requires { left ≤ length entries.now }
+    requires { count ≤ length entries.now }
 {
     let mut index = index_of(alloc, entries)?;
-    cut_to(&mut index, entries, left);
-    same_answers(rt, alloc, &index, &entries[..left], random)
+    cut_to(&mut index, entries, count);
+    same_answers(rt, alloc, &index, &entries[..count], random)
 }
 
 #[test]

@@ -99,20 +99,20 @@ impl<'a> Plain<'a> {
             .unwrap_or(Entry::Small)
     }
 
-    fn count(&self, held: usize) -> usize {
-        held.saturating_add(if self.head.is_some() { 1 } else { 0 })
+    fn count(&self, items: usize) -> usize {
+        items.saturating_add(if self.head.is_some() { 1 } else { 0 })
     }
 
-    fn is_full(&self, held: usize) -> bool {
+    fn is_full(&self, items: usize) -> bool {
         let mut octets = 0usize;
-        for k in 0..held {
+        for k in 0..items {
             octets = octets.saturating_add(length(self.entry(k)));
         }
-        self.count(held) >= self.instance.size as usize || octets >= 524_288
+        self.count(items) >= self.instance.size as usize || octets >= 524_288
     }
 
-    fn has_notice(&self, held: usize) -> bool {
-        (0..held).any(|k| !is_frame(self.entry(k)))
+    fn has_notice(&self, items: usize) -> bool {
+        (0..items).any(|k| !is_frame(self.entry(k)))
     }
 
     fn is_empty(&self) -> bool {

@@ -8,7 +8,7 @@ use Rattle.session_core.specs.declared.standing.Standing.{Standing}
 use Rattle.session_core.specs.Inquiry.{Inquiry, call_of, answer_of, Replied, reply_in}
 use Rattle.session_core.specs.Steps.{Next, at_moment, is_idle, idle_ask, next_ask, inquiry_at}
 use Rattle.session_core.specs.Steps.{acted, timed, with_heartbeat}
-use Rattle.session_core.specs.Kept.{asked, told_now, feeder_after, kept_after}
+use Rattle.session_core.specs.SessionState.{asked, told_now, feeder_after, kept_after}
 use Rattle.session_core.proofs.Rounds.{keeping}
 
 -- what is asked doesn't depend on the moments of a session

@@ -9,13 +9,13 @@ use Rattle.station_book.specs.History.{moment_at}
 use Rattle.session_core.specs.declared.bind_places.BindPlaces.{BindPlaces}
 use Rattle.session_core.specs.declared.standing.Standing.{Standing}
 use Rattle.session_core.specs.Inquiry.{Inquiry, answer_of, Replied, reply_in}
-use Rattle.session_core.specs.Message.{Said, context, heartbeat, bind, unbind, peer_abort}
+use Rattle.session_core.specs.Message.{UserContent, context, heartbeat, bind, unbind, peer_abort}
 use Rattle.session_core.specs.Message.{invocation, undecoded, out_of_place, judged}
 use Rattle.session_core.specs.Handling.{passed_ask, said_ask, invoked, after_judged}
 use Rattle.session_core.specs.Steps.{said_to, message_ask, with_message}
 use Rattle.session_core.specs.Seen.{passed_ask_by, ask_by, places_of}
 
-passed_same : (site : Site) (said : Said)
+passed_same : (site : Site) (said : UserContent)
     → passed_ask_by said (places_of site said Pass).instance ≡ passed_ask site said
 passed_same site (context interval factor) = refl
 passed_same site heartbeat = refl
@@ -26,15 +26,15 @@ passed_same site (invocation i) = refl
 passed_same site undecoded = refl
 passed_same site out_of_place = refl
 
-ask_same : (site : Site) (said : Said) (step : Step)
+ask_same : (site : Site) (said : UserContent) (step : Step)
     → ask_by said step (places_of site said step).instance ≡ said_ask site said step
 ask_same site said Pass = passed_same site said
 ask_same site said Denied = refl
 ask_same site said (Abort code) = refl
 
 -- what the code asks of a message is what the definition does
-pub asked_by_message : (site : Site) (s : Standing) (content : Content) (said : Said) (step : Step)
-    (places : BindPlaces) (ask : Inquiry) → said ≡ said_to site s content
+pub asked_by_message : (site : Site) (s : Standing) (content : Content) (said : UserContent)
+    (step : Step) (places : BindPlaces) (ask : Inquiry) → said ≡ said_to site s content
     → step ≡ judged site s.association said s.moment → places ≡ places_of site said step
     → ask ≡ ask_by said step places.instance → ask ≡ message_ask site s content s.moment
 asked_by_message site s content said step places ask said_so step_so places_so ask_so =
@@ -42,11 +42,11 @@ asked_by_message site s content said step places ask said_so step_so places_so a
     ∙ ap (λ (p : BindPlaces). ask_by said step p.instance) places_so
     ∙ ask_same site said step
     ∙ ap (λ (st : Step). said_ask site said st) step_so
-    ∙ ap (λ (x : Said). said_ask site x (judged site s.association x s.moment)) said_so
+    ∙ ap (λ (x : UserContent). said_ask site x (judged site s.association x s.moment)) said_so
 
 -- and so is what it leads to
-pub led_by_message : (site : Site) (s t : Standing) (content : Content) (said : Said) (step : Step)
-    (ask : Inquiry) (reply : Replied) (door reading : ℕ) (b : book.State)
+pub led_by_message : (site : Site) (s t : Standing) (content : Content) (said : UserContent)
+    (step : Step) (ask : Inquiry) (reply : Replied) (door reading : ℕ) (b : book.State)
     → said ≡ said_to site s content → step ≡ judged site s.association said s.moment
     → ask ≡ message_ask site s content s.moment → s.moment ≡ moment_at b reading
     → reply ≡ reply_in (answer_of b door (moment_at b reading) ask)
@@ -61,7 +61,7 @@ led_by_message site s t content said st ask reply door reading b was judged_so a
     is
     ∙ ap (λ (x : Step). after_judged site (invoked s said x) said x reply) judged_so
     ∙ ap
-    (λ (x : Said).
+    (λ (x : UserContent).
     after_judged site (invoked s x (judged site s.association x s.moment)) x
     (judged site s.association x s.moment) reply)
     was

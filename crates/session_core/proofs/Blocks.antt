@@ -23,7 +23,8 @@ use Rattle.session_core.specs.Inquiry.{Replied, reply_in}
 use Rattle.session_core.specs.Steps.{Next, has_message, has_block, round_begun, waits}
 use Rattle.session_core.specs.Steps.{at_moment, is_idle, pulse_of, is_dead, is_due, timed}
 use Rattle.session_core.specs.Steps.{with_heartbeat, after_step, course_at_end}
-use Rattle.session_core.specs.Session.{State, Round, Told, at_first, next_of, cleared, listened}
+use Rattle.session_core.specs.Session.{State, Round, BookAnswer, at_first, next_of, cleared}
+use Rattle.session_core.specs.Session.{listened}
 use Rattle.session_core.specs.Session.{stepped, standing_heard, Listens, Speaks, offer_calls}
 use Rattle.session_core.specs.Session.{poll_calls, listen_calls, poll_space, speak_calls}
 use Rattle.session_core.specs.Session.{spoken_state, before_step, before_speak, after_round}
@@ -237,7 +238,7 @@ stuck_step site t next now reply stuck has live =
     ∙ stuck_times v (is_live v.course && is_dead (pulse_of v) v.moment) has
     (sym (ap (λ (x : Standing). is_live x.course) same) ∙ live)
 
-stuck_stepped : (site : Site) (s : State) (told : Option Told)
+stuck_stepped : (site : Site) (s : State) (told : Option BookAnswer)
     → is_blocked s.standing.arrival ≡ true → has_block s.standing ≡ true
     → is_live (stepped site s told).standing.course ≡ true
     → (stepped site s told).standing.block ≡ s.standing.block
@@ -252,7 +253,8 @@ step_blocks_so left t u live blocked e b =
     ap (λ (x : Bool). left ++ (if x && not (is_blocked t.arrival) then waiting u else [])) e
     ∙ ap (λ (x : Bool). left ++ (if live && not x then waiting u else [])) b
 
-step_hands : (site : Site) (s : State) (told : Option Told) (left : Blocks) (live blocked : Bool)
+step_hands : (site : Site) (s : State) (told : Option BookAnswer) (left : Blocks)
+    (live blocked : Bool)
     → is_live s.standing.course ≡ live → is_blocked s.standing.arrival ≡ blocked
     → Heard_so s.standing left
     → (after : Blocks) × (left ++ step_blocks s.standing (stepped site s told).standing ≡ after)

@@ -18,7 +18,8 @@ use Rattle.session_core.specs.Steps.{Next, has_message, has_block, waits, may_po
 use Rattle.session_core.specs.Steps.{is_idle, with_next, acted, pulse_of, is_dead, is_due, timed}
 use Rattle.session_core.specs.Steps.{with_heartbeat, after_step, may_speak, course_at_end}
 use Rattle.isp1_tml.specs.Message.{heartbeat, spelling}
-use Rattle.session_core.specs.Session.{State, Round, Told, next_of, cleared, listened, stepped}
+use Rattle.session_core.specs.Session.{State, Round, BookAnswer, next_of, cleared, listened}
+use Rattle.session_core.specs.Session.{stepped}
 use Rattle.session_core.specs.Session.{before_step, before_speak, after_round}
 use Rattle.session_core.specs.Session.{IsRound}
 use Rattle.session_core.specs.Session.{round_calls, round_events, session_calls}
@@ -27,7 +28,7 @@ use Rattle.session_core.specs.Laws.{EndsRepeat}
 use Rattle.session_core.proofs.Truths.{or_true, none_of}
 
 -- a round with these answers
-abbrev pub made : Option Offer → Option Heard → Option Told → Option Offer → Round
+abbrev pub made : Option Offer → Option Heard → Option BookAnswer → Option Offer → Round
 made waited heard told spoke =
     record { waited = waited; heard = heard; told = told; spoke = spoke }
 
@@ -107,7 +108,7 @@ still_step site s next now reply still =
     ∙ ap with_heartbeat (still_times_not u still)
     ∙ still_beats_not u still
 
-pub still_course : (site : Site) (s : State) (told : Option Told) → IsStill s.standing.course
+pub still_course : (site : Site) (s : State) (told : Option BookAnswer) → IsStill s.standing.course
     → (stepped site s told).standing.course ≡ s.standing.course
 still_course site s None still = refl
 still_course site s (Some told) still =
@@ -195,7 +196,7 @@ no_events site door s r over is =
     (is.asks
     ∙ ap (λ (t : State). not (is_over t.standing.course)) before
     ∙ ap (λ (b : Bool). not b) over) in
-    ap (λ (told : Option Told). round_events site door s
+    ap (λ (told : Option BookAnswer). round_events site door s
     (made r.waited r.heard told r.spoke)) silent
 
 pub ends_repeat : EndsRepeat

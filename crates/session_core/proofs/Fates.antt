@@ -28,7 +28,8 @@ use Rattle.session_core.specs.Numbers.{communications_failure, other_reason}
 use Rattle.session_core.specs.Course.{is_going, is_live, is_over, is_plain, is_spent, is_blocked}
 use Rattle.session_core.specs.Course.{has_closed}
 use Rattle.session_core.specs.Inquiry.{Replied, reply_in}
-use Rattle.session_core.specs.Message.{Said, context, heartbeat as beat, bind, unbind, peer_abort}
+use Rattle.session_core.specs.Message.{UserContent, context, heartbeat as beat, bind, unbind}
+use Rattle.session_core.specs.Message.{peer_abort}
 use Rattle.session_core.specs.Message.{invocation, undecoded, out_of_place, judged}
 use Rattle.session_core.specs.Handling.{ended_by, aborted, is_agreed, after_passing, concluded}
 use Rattle.session_core.specs.Handling.{is_lost, invoked, after_judged}
@@ -38,10 +39,11 @@ use Rattle.session_core.specs.Steps.{after_wait, after_offer, at_moment, is_idle
 use Rattle.session_core.specs.Steps.{with_next, acted}
 use Rattle.session_core.specs.Steps.{pulse_of, is_dead, is_due, timed, after_step}
 use Rattle.session_core.specs.Steps.{may_speak, course_at_end, round_ended}
-use Rattle.session_core.specs.Session.{Told, offer_calls, poll_calls, standing_waited}
+use Rattle.session_core.specs.Session.{BookAnswer, offer_calls, poll_calls, standing_waited}
 use Rattle.session_core.specs.Session.{standing_heard, standing_spoke, spoken_of, is_end, is_fault}
-use Rattle.session_core.specs.Kept.{Kept, space_of, Waited, PolledOnce, Said as SaidOnce}
-use Rattle.session_core.specs.Kept.{kept_after}
+use Rattle.session_core.specs.SessionState.{SessionState, space_of, Waited, PolledOnce}
+use Rattle.session_core.specs.SessionState.{IsSpoken as SaidOnce}
+use Rattle.session_core.specs.SessionState.{kept_after}
 use Rattle.session_core.specs.Outcome.{come_to, has_ended, has_failed, is_still, FailsBy, Rests}
 use Rattle.session_core.specs.Outcome as kept
 use Rattle.session_core.proofs.Truths.{both_of, none_of, not_false}
@@ -151,7 +153,7 @@ end_keeps P rare Spent waits = refl
 
 -- ---- a step
 
-keeps_passing : (site : Site) (s : Standing) (said : Said) (reply : Replied)
+keeps_passing : (site : Site) (s : Standing) (said : UserContent) (reply : Replied)
     → Keeps s (after_passing site s said reply)
 keeps_passing site s (context interval factor) reply =
     keeps_either (is_agreed site interval factor) s _ (ended_by s (Range interval factor))
@@ -164,13 +166,13 @@ keeps_passing site s (invocation i) reply = keeps_invocation site s i reply
 keeps_passing site s undecoded reply = keeps_self s
 keeps_passing site s out_of_place reply = keeps_self s
 
-keeps_concluded : (site : Site) (s : Standing) (said : Said) (step : Step) (reply : Replied)
+keeps_concluded : (site : Site) (s : Standing) (said : UserContent) (step : Step) (reply : Replied)
     → Keeps s (concluded site s said step reply)
 keeps_concluded site s said Pass reply = keeps_passing site s said reply
 keeps_concluded site s said Denied reply = record { plain = λ h. refl; arrival = refl }
 keeps_concluded site s said (Abort diagnostic) reply = keeps_end s (Aborted diagnostic)
 
-keeps_judged : (site : Site) (s : Standing) (said : Said) (step : Step) (reply : Replied)
+keeps_judged : (site : Site) (s : Standing) (said : UserContent) (step : Step) (reply : Replied)
     → Keeps s (after_judged site s said step reply)
 keeps_judged site s said step reply =
     keeps_either (is_lost reply.reply) s (aborted s other_reason) (concluded site s said step reply)
@@ -250,14 +252,14 @@ step_arrives site s next now reply =
     arrives_either ((is_live u.course && not (has_block u)) && is_due (pulse_of u) u.moment)
     (record u { block = spelling heartbeat }) u s.arrival u_so u_so
 
-pub told_blocks : (site : Site) (v : Kept) (told : Option Told)
+pub told_blocks : (site : Site) (v : SessionState) (told : Option BookAnswer)
     → is_blocked (kept_after site v told).standing.arrival ≡ is_blocked v.standing.arrival
 told_blocks site v None = refl
 told_blocks site v (Some told) =
     ap is_blocked (step_arrives site v.standing _ told.moment (reply_in told.answer))
 
-pub told_keeps : (P : Course → Bool) → Rare P → (site : Site) (v : Kept) (told : Option Told)
-    → P (kept_after site v told).standing.course ≡ P v.standing.course
+pub told_keeps : (P : Course → Bool) → Rare P → (site : Site) (v : SessionState)
+    (told : Option BookAnswer) → P (kept_after site v told).standing.course ≡ P v.standing.course
 told_keeps P rare site v None = refl
 told_keeps P rare site v (Some told) =
     step_keeps P rare site v.standing _ told.moment (reply_in told.answer)
@@ -340,7 +342,7 @@ record Stays (before after : Option (List Call)) (c d : Course) : Type 0 where
   told : Tells before after []
   same : d ≡ c
 
-still_waits : (a b : Option (List Call)) (old new : Kept) → Waited a b old new
+still_waits : (a b : Option (List Call)) (old new : SessionState) → Waited a b old new
     → IsStill old.standing.course → Stays a b old.standing.course new.standing.course
 still_waits a b old new w still =
     let none : w.waited ≡ None =
@@ -348,13 +350,13 @@ still_waits a b old new w still =
     record {
       told = subst (λ (x : Option Offer). Tells a b (offer_calls old.standing x)) none w.told;
       same =
-          ap (λ (v : Kept). v.standing.course) w.new_is
+          ap (λ (v : SessionState). v.standing.course) w.new_is
           ∙ ap
           (λ (x : Option Offer). (standing_waited (round_begun old.standing) x).course)
           none;
     }
 
-still_polls : (a b : Option (List Call)) (old new : Kept) → PolledOnce a b old new
+still_polls : (a b : Option (List Call)) (old new : SessionState) → PolledOnce a b old new
     → IsStill old.standing.course → Stays a b old.standing.course new.standing.course
 still_polls a b old new p still =
     let s = old.standing in
@@ -377,15 +379,15 @@ stays_both a b c x y z h k still =
     record { told = tells-tells a b c [] [] h.told later.told; same = later.same ∙ h.same }
 
 pub listened_keeps : (P : Course → Bool) → Linkless P → (a b c : Option (List Call))
-    (old between new : Kept) → Waited a b old between → PolledOnce b c between new
+    (old between new : SessionState) → Waited a b old between → PolledOnce b c between new
     → P new.standing.course ≡ P old.standing.course
 listened_keeps P h a b c old between new w p =
     ap (λ (t : Standing). P t.course) p.standing
     ∙ heard_keeps P h between.standing p.heard (next_held between.feeder) p.polls
-    ∙ ap (λ (v : Kept). P v.standing.course) w.new_is
+    ∙ ap (λ (v : SessionState). P v.standing.course) w.new_is
     ∙ waited_keeps P h old.standing w.waited w.offers
 
-pub rests_listened : (a b c : Option (List Call)) (old between new : Kept)
+pub rests_listened : (a b c : Option (List Call)) (old between new : SessionState)
     → Waited a b old between → PolledOnce b c between new → Rests a c old new
 rests_listened a b c old between new w p =
     let stays : is_still old ≡ true → Stays a c old.standing.course new.standing.course =
@@ -407,7 +409,7 @@ record StaysAtEnd (before after : Option (List Call)) (old new : Standing) : Typ
   told : Tells before after []
   same : new.course ≡ course_at_end old.course (has_block old)
 
-still_says : (a b : Option (List Call)) (old mid new : Kept) → SaidOnce a b old mid
+still_says : (a b : Option (List Call)) (old mid new : SessionState) → SaidOnce a b old mid
     → new ≡ record mid { standing = round_ended mid.standing } → IsStill old.standing.course
     → StaysAtEnd a b old.standing new.standing
 still_says a b old mid new w is still =
@@ -417,8 +419,8 @@ still_says a b old mid new w is still =
     record {
       told = subst (λ (x : Option Offer). Tells a b (offer_calls s x)) none w.told;
       same =
-          ap (λ (v : Kept). v.standing.course) is
-          ∙ ap (λ (v : Kept). (round_ended v.standing).course) w.new_is
+          ap (λ (v : SessionState). v.standing.course) is
+          ∙ ap (λ (v : SessionState). (round_ended v.standing).course) w.new_is
           ∙ ap (λ (x : Option Offer). (round_ended (standing_spoke s x)).course) none;
     }
 
@@ -430,7 +432,7 @@ still_comes LinkFailed waits still = refl
 still_comes Spent waits still = refl
 still_comes _ waits still = absurd (cc)
 
-pub rests_spoken : (a b : Option (List Call)) (old mid new : Kept) → SaidOnce a b old mid
+pub rests_spoken : (a b : Option (List Call)) (old mid new : SessionState) → SaidOnce a b old mid
     → new ≡ record mid { standing = round_ended mid.standing } → Rests a b old new
 rests_spoken a b old mid new w is =
     let s = old.standing in
@@ -447,9 +449,9 @@ rests_spoken a b old mid new w is =
           ∙ over_stays s.course (has_block s) e)
           ∙ e;
       spent =
-          ap (λ (v : Kept). kept.is_spent v) is
+          ap (λ (v : SessionState). kept.is_spent v) is
           ∙ end_keeps is_spent spent_rare mid.standing.course (has_block mid.standing)
-          ∙ ap (λ (v : Kept). kept.is_spent v) w.new_is
+          ∙ ap (λ (v : SessionState). kept.is_spent v) w.new_is
           ∙ spoke_keeps is_spent spent_linkless old.standing w.spoke w.offers;
     }
 
@@ -464,25 +466,25 @@ over_at_end LinkFailed waits = refl
 over_at_end Spent waits = refl
 
 -- what a round comes to tells whether the session has ended
-pub ends_told : (mid new : Kept) (told : Spoken)
+pub ends_told : (mid new : SessionState) (told : Spoken)
     → new ≡ record mid { standing = round_ended mid.standing } → told ≡ come_to new
     → has_ended new ≡ is_end told
 ends_told mid new told is come =
-    ap (λ (v : Kept). has_ended v) is
+    ap (λ (v : SessionState). has_ended v) is
     ∙ over_at_end mid.standing.course (has_block mid.standing)
-    ∙ sym (ap is_end come ∙ ap (λ (v : Kept). is_end (come_to v)) is)
+    ∙ sym (ap is_end come ∙ ap (λ (v : SessionState). is_end (come_to v)) is)
 
-pub end_counts : (mid new : Kept) (was : Bool) (m n : ℕ)
+pub end_counts : (mid new : SessionState) (was : Bool) (m n : ℕ)
     → new ≡ record mid { standing = round_ended mid.standing } → FailsBy was (has_failed mid) m n
     → FailsBy was (has_failed new) m n
 end_counts mid new was m n is h =
     subst (λ (b : Bool). FailsBy was b m n)
     (sym
-    (ap (λ (v : Kept). has_failed v) is
+    (ap (λ (v : SessionState). has_failed v) is
     ∙ end_keeps faulty faulty_rare mid.standing.course (has_block mid.standing)))
     h
 
 -- ---- a round of a session that has ended
 
-pub over_is_still : (v : Kept) → has_ended v ≡ true → is_still v ≡ true
+pub over_is_still : (v : SessionState) → has_ended v ≡ true → is_still v ≡ true
 over_is_still v over = ap not (over_still v.standing.course over)

@@ -16,7 +16,7 @@ use Rattle.session_core.specs.declared.course.Course.TheVariants.{LinkFailing, L
 use Rattle.session_core.specs.declared.standing.Standing.{Standing}
 use Rattle.session_core.specs.Inquiry.{reply_in}
 use Rattle.session_core.specs.Steps.{round_begun, has_block}
-use Rattle.session_core.specs.Session.{State, Round, Told, at_first, next_of, poll_space}
+use Rattle.session_core.specs.Session.{State, Round, BookAnswer, at_first, next_of, poll_space}
 use Rattle.session_core.specs.Session.{offer_calls, poll_calls, standing_waited, standing_heard}
 use Rattle.session_core.specs.Session.{standing_spoke, cleared, listened, listen_calls, stepped}
 use Rattle.session_core.specs.Session.{spoken_state, speak_calls, before_step, before_speak}
@@ -81,7 +81,7 @@ listen_refused s waited heard =
     (poll_calls (poll_space s) heard) (wait_refused s.standing waited)
     (poll_refused (cleared s waited) (poll_space s) heard)
 
-step_refused : (site : Site) (s : State) (told : Option Told)
+step_refused : (site : Site) (s : State) (told : Option BookAnswer)
     → faulty (stepped site s told).standing.course ≡ faulty s.standing.course
 step_refused site s None = refl
 step_refused site s (Some told) =

@@ -10,12 +10,13 @@ use Rattle.station_book.specs.State as book
 use Rattle.station_book.specs.History.{IsLegal, event_at}
 use Rattle.session_core.specs.Course.{is_over}
 use Rattle.session_core.specs.Inquiry.{Inquiry, call_of}
-use Rattle.session_core.specs.Session.{State, Round, Told, IsRound, after_rounds, begun}
+use Rattle.session_core.specs.Session.{State, Round, BookAnswer, IsRound, after_rounds, begun}
 use Rattle.session_core.specs.Session.{AreRounds, session_calls, session_events, listened, stepped}
 use Rattle.session_core.specs.Session.{listen_calls, round_calls, round_events}
 use Rattle.session_core.specs.Session.{after_round, step_events}
-use Rattle.session_core.specs.Kept.{Kept, Shows, IsSound, Listened, Spoke, told_by, own_events}
-use Rattle.session_core.specs.Kept.{Said, kept_after, asked}
+use Rattle.session_core.specs.SessionState.{SessionState, Shows, IsSound, Listened, Spoke, told_by}
+use Rattle.session_core.specs.SessionState.{own_events}
+use Rattle.session_core.specs.SessionState.{IsSpoken, kept_after, asked}
 use Rattle.session_core.specs.Steps.{round_ended}
 use Rattle.session_core.specs.Lists.{Stage, to_listen, to_step, to_speak, Part, none_made}
 use Rattle.session_core.specs.Lists.{made_listen, made_step, stage_of, part_state, IsPart}
@@ -63,7 +64,7 @@ are_more site s (q ∷ rounds) r h is = (h.0, are_more site (after_round site s 
 
 -- ---- the parts of StandsAt, so that the part of a round can be told apart
 
-pub record At (part : Part) (b : Began) (v : Kept) (calls : List Call)
+pub record At (part : Part) (b : Began) (v : SessionState) (calls : List Call)
     (events : List Event) : Type 0 where
   pub rounds : List Round
   pub door_is : v.door ≡ b.door
@@ -75,8 +76,8 @@ pub record At (part : Part) (b : Began) (v : Kept) (calls : List Call)
       ++ part_events b.site b.door (state_after b rounds) part
   pub shows : Shows v (part_state b.site (state_after b rounds) part)
 
-abbrev pub at_of : (stage : Stage) (b : Began) (v : Kept) (calls : List Call) (events : List Event)
-    → (h : StandsAt stage b v calls events) → At h.part b v calls events
+abbrev pub at_of : (stage : Stage) (b : Began) (v : SessionState) (calls : List Call)
+    (events : List Event) → (h : StandsAt stage b v calls events) → At h.part b v calls events
 at_of stage b v calls events h = record {
   rounds = h.rounds;
   door_is = h.door_is;
@@ -89,7 +90,7 @@ at_of stage b v calls events h = record {
 
 -- ---- a new session
 
-pub stands_first : (b : Began) (v : Kept) → v.door ≡ b.door → Shows v (start_of b)
+pub stands_first : (b : Began) (v : SessionState) → v.door ≡ b.door → Shows v (start_of b)
     → StandsAt to_listen b v [] []
 stands_first b v door h = record {
   rounds = [];
@@ -103,7 +104,7 @@ stands_first b v door h = record {
   shows = h;
 }
 
-pub first_shown : (b : Began) (v : Kept) (door draw entered : ℕ) → v.door ≡ door
+pub first_shown : (b : Began) (v : SessionState) (door draw entered : ℕ) → v.door ≡ door
     → v.feeder ≡ fresh → v.standing ≡ begun door draw entered → StandsFor fresh [] []
     → b.door ≡ door → b.draw ≡ draw → b.entered ≡ entered → StandsAt to_listen b v [] []
 first_shown b v door draw entered v_door v_feeder v_standing begins b_door b_draw b_entered =
@@ -121,7 +122,7 @@ first_shown b v door draw entered v_door v_feeder v_standing begins b_door b_dra
 
 -- ---- listen
 
-listen_at : WorkedOut → StandsFor fresh [] [] → (a c : Option (List Call)) (old new : Kept)
+listen_at : WorkedOut → StandsFor fresh [] [] → (a c : Option (List Call)) (old new : SessionState)
     (l : Listened a c old new) (part : Part) → stage_of part ≡ to_listen → (b : Began)
     (calls : List Call) (events : List Event) → At part b old calls events
     → StandsAt to_step b new (calls ++ l.own) events
@@ -147,8 +148,8 @@ listen_at law begins a c old new l none_made e b calls events h =
 listen_at law begins a c old new l (made_listen waited heard) e b calls events h = absurd (cc)
 listen_at law begins a c old new l (made_step waited heard told) e b calls events h = absurd (cc)
 
-pub goes_listen : WorkedOut → StandsFor fresh [] [] → (a c : Option (List Call)) (old new : Kept)
-    → Listened a c old new → Goes to_listen to_step a c old new
+pub goes_listen : WorkedOut → StandsFor fresh [] [] → (a c : Option (List Call))
+    (old new : SessionState) → Listened a c old new → Goes to_listen to_step a c old new
 goes_listen law begins a c old new l = record {
   own = l.own;
   told = l.told;
@@ -159,11 +160,12 @@ goes_listen law begins a c old new l = record {
 
 -- ---- step
 
-door_after : (site : Site) (v : Kept) (told : Option Told) → (kept_after site v told).door ≡ v.door
+door_after : (site : Site) (v : SessionState) (told : Option BookAnswer) →
+    (kept_after site v told).door ≡ v.door
 door_after site v None = refl
 door_after site v (Some told) = refl
 
-step_at : WorkedOut → Gives → (site : Site) (old : Kept) (bk : book.State) (reading : ℕ)
+step_at : WorkedOut → Gives → (site : Site) (old : SessionState) (bk : book.State) (reading : ℕ)
     (part : Part) → stage_of part ≡ to_step → (b : Began) (calls : List Call)
     (events : List Event) → b.site ≡ site → At part b old calls events
     → StandsAt to_speak b (kept_after site old (told_by site old bk reading)) calls
@@ -198,21 +200,21 @@ step_at law gives site old bk reading (made_listen waited heard) e b calls event
 step_at law gives site old bk reading (made_step waited heard told) e b calls events same h =
     absurd (cc)
 
-pub goes_step : WorkedOut → Gives → (site : Site) (old new : Kept) (bk : book.State)
+pub goes_step : WorkedOut → Gives → (site : Site) (old new : SessionState) (bk : book.State)
     (reading : ℕ) → new ≡ kept_after site old (told_by site old bk reading) → (b : Began)
     (calls : List Call) (events : List Event) → b.site ≡ site
     → StandsAt to_step b old calls events
     → StandsAt to_speak b new calls (events ++ own_events site old bk reading)
 goes_step law gives site old new bk reading is b calls events same h =
     subst
-    (λ (v : Kept). StandsAt to_speak b v calls (events ++ own_events site old bk reading))
+    (λ (v : SessionState). StandsAt to_speak b v calls (events ++ own_events site old bk reading))
     (sym is)
     (step_at law gives site old bk reading h.part h.stage_is b calls events same
     (at_of to_step b old calls events h))
 
 -- ---- speak
 
-speak_at : (a c : Option (List Call)) (old new : Kept) (p : Spoke a c old new) (part : Part)
+speak_at : (a c : Option (List Call)) (old new : SessionState) (p : Spoke a c old new) (part : Part)
     → stage_of part ≡ to_speak → (b : Began) (calls : List Call) (events : List Event)
     → At part b old calls events → StandsAt to_listen b new (calls ++ p.own) events
 speak_at a c old new p none_made e b calls events h = absurd (cc)
@@ -248,7 +250,7 @@ speak_at a c old new p (made_step waited heard told) e b calls events h =
       shows = subst (Shows new) (sym now) (p.stands t h.shows);
     }
 
-goes_spoken : (a c : Option (List Call)) (old new : Kept) → Spoke a c old new
+goes_spoken : (a c : Option (List Call)) (old new : SessionState) → Spoke a c old new
     → Goes to_speak to_listen a c old new
 goes_spoken a c old new p = record {
   own = p.own;
@@ -258,7 +260,7 @@ goes_spoken a c old new p = record {
       (at_of to_speak b old calls events h);
 }
 
-pub goes_speak : (a c : Option (List Call)) (old mid new : Kept) → Said a c old mid
+pub goes_speak : (a c : Option (List Call)) (old mid new : SessionState) → IsSpoken a c old mid
     → new ≡ record mid { standing = round_ended mid.standing }
     → Goes to_speak to_listen a c old new
 goes_speak a c old mid new said is = goes_spoken a c old new (spoke_by a c old mid new said is)
@@ -277,7 +279,7 @@ reads_unless true b door reading ask = refl
 reads_unless false b door reading ask = refl
 
 pub goes_round : (site : Site) (a c d : Option (List Call)) (bk now : book.State) (reading : ℕ)
-    (old heard acted new : Kept) → Goes to_listen to_step a c old heard
+    (old heard acted new : SessionState) → Goes to_listen to_step a c old heard
     → has_ended heard ≡ has_ended old
     → GoesStep site reading bk now heard acted → Goes to_speak to_listen c d acted new
     → GoesRound site reading a d bk now old new

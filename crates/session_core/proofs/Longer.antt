@@ -15,9 +15,9 @@ use Rattle.session_core.specs.declared.course.Course.TheVariants as course
 use Rattle.session_core.specs.declared.spoken.Spoken.TheVariants.{Going}
 use Rattle.session_core.specs.declared.standing.Standing.{Standing}
 use Rattle.session_core.specs.Course.{is_over}
-use Rattle.session_core.specs.Kept.{Kept}
+use Rattle.session_core.specs.SessionState.{SessionState}
 use Rattle.session_core.specs.Outcome.{come_to}
-use Rattle.session_core.specs.Session.{State, Round, Told, before_step, before_speak}
+use Rattle.session_core.specs.Session.{State, Round, BookAnswer, before_step, before_speak}
 use Rattle.session_core.specs.Session.{after_round, after_rounds, IsRound, AreRounds, step_events}
 use Rattle.session_core.specs.Session.{poll_space, offer_calls, poll_calls, round_calls}
 use Rattle.session_core.specs.Session.{round_events, session_calls, session_events, spoken_of}
@@ -133,11 +133,11 @@ longer site door s (r ∷ rounds) (q ∷ others) own gained n reads is was h k =
 
 -- ---- a session that hasn't ended asks
 
-record WasTold (told : Option Told) : Type 0 where
-  what : Told
+record WasTold (told : Option BookAnswer) : Type 0 where
+  what : BookAnswer
   so : told ≡ Some what
 
-was_told : (told : Option Told) → is_some told ≡ true → WasTold told
+was_told : (told : Option BookAnswer) → is_some told ≡ true → WasTold told
 was_told None e = absurd (cc)
 was_told (Some what) e = record { what = what; so = refl }
 
@@ -147,11 +147,11 @@ asked_once site s r is here =
     was_told r.told (is.asks ∙ ap not (over_before site s r is ∙ here))
 
 -- so an event of its round has a reading, before those behind it
-told_first : (site : Site) (door : ℕ) (s : State) (told : Option Told) (later : List Event)
-    (what : Told) → told ≡ Some what
+told_first : (site : Site) (door : ℕ) (s : State) (told : Option BookAnswer) (later : List Event)
+    (what : BookAnswer) → told ≡ Some what
     → readings_in (step_events site door s told ++ later) ≡ what.reading ∷ readings_in later
 told_first site door s told later what so =
-    ap (λ (t : Option Told). readings_in (step_events site door s t ++ later)) so
+    ap (λ (t : Option BookAnswer). readings_in (step_events site door s t ++ later)) so
 
 -- ---- rounds without a reading
 
@@ -238,14 +238,15 @@ first_of site door s (r ∷ rounds) n reads here is =
 
 -- ---- between two rounds a session stands for whole rounds
 
-pub record Whole (b : Began) (v : Kept) (calls : List Call) (events : List Event)
+pub record Whole (b : Began) (v : SessionState) (calls : List Call) (events : List Event)
     (rounds : List Round) : Type 0 where
   pub right : AreRounds b.site (start_of b) rounds
   pub calls_are : calls ≡ session_calls b.site (start_of b) rounds
   pub events_are : events ≡ session_events b.site b.door (start_of b) rounds
   pub standing : v.standing ≡ (state_after b rounds).standing
 
-whole_at : (part : Part) → stage_of part ≡ to_listen → (b : Began) (v : Kept) (calls : List Call)
+whole_at : (part : Part) → stage_of part ≡ to_listen → (b : Began) (v : SessionState)
+    (calls : List Call)
     (events : List Event) (at : At part b v calls events) → Whole b v calls events at.rounds
 whole_at none_made e b v calls events at =
     record {
@@ -258,7 +259,7 @@ whole_at none_made e b v calls events at =
 whole_at (made_listen waited heard) e b v calls events at = absurd (cc)
 whole_at (made_step waited heard told) e b v calls events at = absurd (cc)
 
-pub whole : (b : Began) (v : Kept) (calls : List Call) (events : List Event)
+pub whole : (b : Began) (v : SessionState) (calls : List Call) (events : List Event)
     (h : StandsAt to_listen b v calls events) → Whole b v calls events h.rounds
 whole b v calls events h =
     whole_at h.part h.stage_is b v calls events (at_of to_listen b v calls events h)

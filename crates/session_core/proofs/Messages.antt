@@ -22,7 +22,8 @@ use Rattle.session_core.specs.declared.course.Course.TheVariants.{Spent}
 use Rattle.session_core.specs.declared.standing.Standing.{Standing}
 use Rattle.session_core.specs.Course.{is_going, is_over, is_blocked}
 use Rattle.session_core.specs.Steps.{Next, has_message, is_idle, handles}
-use Rattle.session_core.specs.Session.{State, Round, Told, at_first, next_by, next_of, listened}
+use Rattle.session_core.specs.Session.{State, Round, BookAnswer, at_first, next_by, next_of}
+use Rattle.session_core.specs.Session.{listened}
 use Rattle.session_core.specs.Session.{counted, stepped, before_step, before_speak}
 use Rattle.session_core.specs.Session.{after_round, after_rounds, AreRounds, IsHeard, AreOctets}
 use Rattle.session_core.specs.Session.{Asks, poll_space, offer_calls, poll_calls, listen_calls}
@@ -144,8 +145,8 @@ idle_takes_none : (s : State) → is_idle s.standing ≡ true
     → handles s.standing (next_of s) ≡ false
 idle_takes_none s e = ap (λ (idle : Bool). not idle && has_message (next_of s)) e
 
-step_follows : (site : Site) (s : State) (told : Option Told) (given : List Content) → Asks s told
-    → Follows s given
+step_follows : (site : Site) (s : State) (told : Option BookAnswer) (given : List Content)
+    → Asks s told → Follows s given
     → Follows (stepped site s told) (given ++ messages_by (handles s.standing (next_of s))
     (next_of s))
 step_follows site s None given asks f =
@@ -201,7 +202,8 @@ handled_from each longer site s (r ∷ rounds) given h f =
 
 -- ---- what came
 
-step_came : (site : Site) (s : State) (told : Option Told) → (stepped site s told).came ≡ s.came
+step_came : (site : Site) (s : State) (told : Option BookAnswer) → (stepped site s told).came
+    ≡ s.came
 step_came site s None = refl
 step_came site s (Some told) = refl
 

@@ -10,7 +10,7 @@ use Rattle.station_config.specs.declared.site.Site.{Site}
 use Rattle.station_book.specs.State.{Event, Answer, Call as BookCall, Reply, answer, answered}
 use Rattle.session_core.specs.Course.{is_over}
 use Rattle.session_core.specs.Steps.{may_poll, may_speak}
-use Rattle.session_core.specs.Session.{State, Round, Told, next_of, cleared, listened}
+use Rattle.session_core.specs.Session.{State, Round, BookAnswer, next_of, cleared, listened}
 use Rattle.session_core.specs.Session.{before_step, before_speak}
 use Rattle.session_core.specs.Session.{after_round, IsRound, AreRounds, event_of, step_events}
 use Rattle.session_core.specs.Session.{round_calls, round_events, session_calls, session_events}
@@ -26,7 +26,7 @@ not_true : (b : Bool) → false ≡ not b → b ≡ true
 not_true true e = refl
 not_true false e = absurd (cc)
 
-no_event : (site : Site) (door : ℕ) (s : State) (told : Option Told) (later : List Event)
+no_event : (site : Site) (door : ℕ) (s : State) (told : Option BookAnswer) (later : List Event)
     → step_events site door s told ++ later ≡ [] → told ≡ None
 no_event site door s None later e = refl
 no_event site door s (Some told) later e = absurd (cc)
@@ -78,20 +78,20 @@ abbrev answer_in : Reply → Answer → Answer
 answer_in (answered a) default = a
 answer_in _ default = default
 
-told_same : (site : Site) (door : ℕ) (s : State) (a b : Told)
+told_same : (site : Site) (door : ℕ) (s : State) (a b : BookAnswer)
     → event_of site door s a ≡ event_of site door s b → a ≡ b
 told_same site door s a b e =
     ap (λ (n : ℕ).
-    let t : Told = record { reading = n; moment = a.moment; answer = a.answer } in t)
+    let t : BookAnswer = record { reading = n; moment = a.moment; answer = a.answer } in t)
     (ap (λ (x : Event). reading_in x.call) e)
     ∙ ap (λ (n : ℕ).
-    let t : Told = record { reading = b.reading; moment = n; answer = a.answer } in t)
+    let t : BookAnswer = record { reading = b.reading; moment = n; answer = a.answer } in t)
     (ap (λ (x : Event). x.moment) e)
     ∙ ap (λ (y : Answer).
-    let t : Told = record { reading = b.reading; moment = b.moment; answer = y } in t)
+    let t : BookAnswer = record { reading = b.reading; moment = b.moment; answer = y } in t)
     (ap (λ (x : Event). answer_in x.reply a.answer) e)
 
-same_told : (site : Site) (door : ℕ) (s : State) (a b : Option Told) (xs ys : List Event)
+same_told : (site : Site) (door : ℕ) (s : State) (a b : Option BookAnswer) (xs ys : List Event)
     → is_some a ≡ is_some b
     → step_events site door s a ++ xs ≡ step_events site door s b ++ ys → (a ≡ b) × (xs ≡ ys)
 same_told site door s None None xs ys e h = (refl, h)
@@ -99,7 +99,7 @@ same_told site door s None (Some b) xs ys e h = absurd (cc)
 same_told site door s (Some a) None xs ys e h = absurd (cc)
 same_told site door s (Some a) (Some b) xs ys e h =
     let first : event_of site door s a ≡ event_of site door s b = cc in
-    (ap (λ (t : Told). Some t) (told_same site door s a b first), cc)
+    (ap (λ (t : BookAnswer). Some t) (told_same site door s a b first), cc)
 
 -- ---- equal rounds
 
@@ -136,7 +136,7 @@ same_round site door s r q xs ys es fs is was h e =
     let until : made r.waited r.heard r.told q.spoke ≡ q =
     ap (λ (w : Option Offer). made w r.heard r.told q.spoke) one.0
     ∙ ap (λ (x : Option Heard). made q.waited x r.told q.spoke) two.0
-    ∙ ap (λ (t : Option Told). made q.waited q.heard t q.spoke) three.0 in
+    ∙ ap (λ (t : Option BookAnswer). made q.waited q.heard t q.spoke) three.0 in
     let speaks : is_some r.spoke ≡ is_some q.spoke =
     is.speaks
     ∙ ap (λ (x : Round). may_speak (before_speak site s x).standing) until

@@ -24,13 +24,15 @@ use Rattle.session_core.specs.Inquiry.{Inquiry, call_of, reply_in}
 use Rattle.session_core.specs.Steps.{Next, has_message, round_begun, waits, may_poll, handles}
 use Rattle.session_core.specs.Steps.{may_poll_by, after_wait, after_poll, after_offer}
 use Rattle.session_core.specs.Steps.{is_idle, inquiry_at, after_step, may_speak, round_ended}
-use Rattle.session_core.specs.Session.{State, Told, next_of, counted, offer_calls, poll_calls}
+use Rattle.session_core.specs.Session.{State, BookAnswer, next_of, counted, offer_calls, poll_calls}
 use Rattle.session_core.specs.Session.{standing_waited, standing_heard, standing_spoke, cleared}
 use Rattle.session_core.specs.Session.{Asks, stepped, event_of}
 use Rattle.session_core.specs.Session.{step_events, poll_space, IsArrival, IsHeard}
 use Rattle.session_core.specs.Session.{AreOctets}
-use Rattle.session_core.specs.Kept.{Kept, Shows, IsSound, space_of, Waited, PolledOnce, Listened}
-use Rattle.session_core.specs.Kept.{Hears, told_now, told_by, own_events, kept_after, Said, Spoke}
+use Rattle.session_core.specs.SessionState.{SessionState, Shows, IsSound, space_of, Waited}
+use Rattle.session_core.specs.SessionState.{PolledOnce, Listened}
+use Rattle.session_core.specs.SessionState.{Hears, told_now, told_by, own_events, kept_after}
+use Rattle.session_core.specs.SessionState.{IsSpoken, Spoke}
 use Rattle.session_core.proofs.Truths.{both_of, not_false}
 use Rattle.session_core.proofs.Streams.{WorkedOut, Gives, next_is, space_is, given_or_not}
 
@@ -78,10 +80,10 @@ polled_so a b (Some heard) same = (
 )
 
 -- listen, of a link that told a, then b, then c
-pub listened_by : WorkedOut → (a b c : Option (List Call)) (old between new : Kept)
+pub listened_by : WorkedOut → (a b c : Option (List Call)) (old between new : SessionState)
     → Waited a b old between → PolledOnce b c between new → Listened a c old new
 listened_by law a b c old between new w was =
-    let p = subst (λ (v : Kept). PolledOnce b c v new) w.new_is was in
+    let p = subst (λ (v : SessionState). PolledOnce b c v new) w.new_is was in
     let offers = offer_calls old.standing w.waited in
     let space = space_of old.feeder in
     let polls : (s : State) → Shows old s
@@ -135,26 +137,26 @@ listened_by law a b c old between new w was =
 -- ---- step
 
 -- the ask by what is kept is the ask by the state
-asked_so : WorkedOut → (site : Site) (v : Kept) (s : State) (now : ℕ) → Shows v s
+asked_so : WorkedOut → (site : Site) (v : SessionState) (s : State) (now : ℕ) → Shows v s
     → inquiry_at site v.standing (next_held v.feeder) now
     ≡ inquiry_at site s.standing (next_of s) now
 asked_so law site v s now h =
     ap (λ (t : Standing). inquiry_at site t (next_held v.feeder) now) h.standing
     ∙ ap (λ (next : Next). inquiry_at site s.standing next now) (next_is law v s h)
 
-asks_unless : (over : Bool) (told : Told)
+asks_unless : (over : Bool) (told : BookAnswer)
     → is_some (if over then None else Some told) ≡ not over
 asks_unless true told = refl
 asks_unless false told = refl
 
-pub asks_by : (site : Site) (v : Kept) (b : book.State) (reading : ℕ) (s : State) → Shows v s
-    → Asks s (told_by site v b reading)
+pub asks_by : (site : Site) (v : SessionState) (b : book.State) (reading : ℕ) (s : State)
+    → Shows v s → Asks s (told_by site v b reading)
 asks_by site v b reading s h =
     asks_unless (is_over v.standing.course) (told_now site v b reading)
     ∙ ap (λ (t : Standing). not (is_over t.course)) h.standing
 
-stands_told : WorkedOut → Gives → (site : Site) (v : Kept) (told : Option Told) (s : State)
-    → Shows v s → Shows (kept_after site v told) (stepped site s told)
+stands_told : WorkedOut → Gives → (site : Site) (v : SessionState) (told : Option BookAnswer)
+    (s : State) → Shows v s → Shows (kept_after site v told) (stepped site s told)
 stands_told law gives site v None s h = h
 stands_told law gives site v (Some told) s h =
     let g = given_or_not gives (is_idle v.standing) v.feeder s.came h.given h.stands in
@@ -179,22 +181,22 @@ stands_told law gives site v (Some told) s h =
       stands = g.stands;
     }
 
-pub stands_by : WorkedOut → Gives → (site : Site) (v : Kept) (b : book.State) (reading : ℕ)
+pub stands_by : WorkedOut → Gives → (site : Site) (v : SessionState) (b : book.State) (reading : ℕ)
     (s : State) → Shows v s
     → Shows (kept_after site v (told_by site v b reading))
     (stepped site s (told_by site v b reading))
 stands_by law gives site v b reading s h =
     stands_told law gives site v (told_by site v b reading) s h
 
-events_unless : (site : Site) (door : ℕ) (s : State) (over : Bool) (told : Told) (e : Event)
+events_unless : (site : Site) (door : ℕ) (s : State) (over : Bool) (told : BookAnswer) (e : Event)
     → e ≡ event_of site door s told
     → (if over then [] else e ∷ []) ≡ step_events site door s (if over then None else Some told)
 events_unless site door s true told e same = refl
 events_unless site door s false told e same = ap (λ (x : Event). x ∷ []) same
 
 -- the event by what is kept is the one by the state
-pub events_by : WorkedOut → (site : Site) (v : Kept) (b : book.State) (reading : ℕ) (s : State)
-    → Shows v s
+pub events_by : WorkedOut → (site : Site) (v : SessionState) (b : book.State) (reading : ℕ)
+    (s : State) → Shows v s
     → own_events site v b reading ≡ step_events site v.door s (told_by site v b reading)
 events_by law site v b reading s h =
     let told = told_now site v b reading in
@@ -210,32 +212,32 @@ events_by law site v b reading s h =
 
 -- ---- speak
 
-pub spoke_by : (a b : Option (List Call)) (old mid new : Kept) → Said a b old mid
+pub spoke_by : (a b : Option (List Call)) (old mid new : SessionState) → IsSpoken a b old mid
     → new ≡ record mid { standing = round_ended mid.standing } → Spoke a b old new
 spoke_by a b old mid new w is =
     let all : new ≡ record old { standing = round_ended (standing_spoke old.standing w.spoke) } =
-    is ∙ ap (λ (v : Kept). record v { standing = round_ended v.standing }) w.new_is in
+    is ∙ ap (λ (v : SessionState). record v { standing = round_ended v.standing }) w.new_is in
     record {
       spoke = w.spoke;
       own = offer_calls old.standing w.spoke;
       told = w.told;
-      door = ap (λ (v : Kept). v.door) all;
+      door = ap (λ (v : SessionState). v.door) all;
       own_is = λ s h. ap (λ (t : Standing). offer_calls t w.spoke) h.standing;
       speaks = λ s h. w.offers ∙ ap may_speak h.standing;
       stands = λ s h. record {
         standing =
-            ap (λ (v : Kept). v.standing) all
+            ap (λ (v : SessionState). v.standing) all
             ∙ ap (λ (t : Standing). round_ended (standing_spoke t w.spoke)) h.standing;
         given = h.given;
         count = h.count;
         stands =
-            subst (λ (v : Kept). StandsFor v.feeder s.came h.given) (sym all) h.stands;
+            subst (λ (v : SessionState). StandsFor v.feeder s.came h.given) (sym all) h.stands;
       };
     }
 
 -- ---- of parts of the code
 
-abbrev pub keeping : ℕ → Feeding → Standing → Kept
+abbrev pub keeping : ℕ → Feeding → Standing → SessionState
 keeping door f s = record { door = door; feeder = f; standing = s }
 
 pub waited_by : (a b : Option (List Call)) (door : ℕ) (f : Feeding) (s began after : Standing)
@@ -264,7 +266,7 @@ polled_by a b door f g s t is_held h may held = record {
 
 pub said_by : (a b : Option (List Call)) (door : ℕ) (f : Feeding) (s after : Standing)
     (said : Offer) → true ≡ may_speak s → Tells a b (Offered s.block said ∷ [])
-    → after ≡ after_offer s said → Said a b (keeping door f s) (keeping door f after)
+    → after ≡ after_offer s said → IsSpoken a b (keeping door f s) (keeping door f after)
 said_by a b door f s after said may told is = record {
   spoke = Some said;
   told = told;

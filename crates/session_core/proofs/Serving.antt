@@ -13,7 +13,7 @@ use Rattle.session_core.specs.declared.spoken.Spoken.{Spoken}
 use Rattle.session_core.specs.declared.spoken.Spoken.TheVariants.{Going}
 use Rattle.session_core.specs.declared.standing.Standing.{Standing}
 use Rattle.session_core.specs.Session.{Round, AreRounds, session_events, spoken_of, is_fault}
-use Rattle.session_core.specs.Kept.{Kept}
+use Rattle.session_core.specs.SessionState.{SessionState}
 use Rattle.session_core.specs.Outcome.{come_to, has_failed, FailsBy}
 use Rattle.session_core.specs.Lists.{Began, start_of, StandsAt, to_listen, Part, none_made}
 use Rattle.session_core.specs.Lists.{made_listen, made_step, stage_of, readings_in, GoesRound}
@@ -47,7 +47,7 @@ ends_as_it_stands b v calls events h =
 -- from a session's beginning, rounds at these readings made calls of a link and events of a book,
 -- and the session, which goes on, stands for them
 pub record Lasts (b : Began) (before after : Option (List Call)) (book_before
-    book_after : book.State) (readings : List ℕ) (v : Kept) : Type 0 where
+    book_after : book.State) (readings : List ℕ) (v : SessionState) : Type 0 where
   pub calls : List Call
   pub events : List Event
   pub told : Tells before after calls
@@ -56,7 +56,7 @@ pub record Lasts (b : Began) (before after : Option (List Call)) (book_before
   pub reads : readings_in events ≡ readings
   pub stands : StandsAt to_listen b v calls events
 
-pub lasts_first : (b : Began) (before : Option (List Call)) (bk : book.State) (v : Kept)
+pub lasts_first : (b : Began) (before : Option (List Call)) (bk : book.State) (v : SessionState)
     → StandsAt to_listen b v [] [] → Lasts b before before bk bk [] v
 lasts_first b before bk v stands = record {
   calls = [];
@@ -70,7 +70,7 @@ lasts_first b before bk v stands = record {
 
 -- one round more
 pub lasts_on : (b : Began) (a c d : Option (List Call)) (bk mid now : book.State)
-    (readings : List ℕ) (reading : ℕ) (v w : Kept) → Lasts b a c bk mid readings v
+    (readings : List ℕ) (reading : ℕ) (v w : SessionState) → Lasts b a c bk mid readings v
     → come_to v ≡ Going → GoesRound b.site reading c d mid now v w
     → Lasts b a d bk now (readings ++ reading ∷ []) w
 lasts_on b a c d bk mid now readings reading v w h came r = record {
@@ -111,7 +111,7 @@ made_so b bk now readings made events rounds right is legal book_is reads = reco
 }
 
 pub serves_by : (b : Began) (a d : Option (List Call)) (bk now : book.State)
-    (readings : List ℕ) (made : ℕ) (end : Spoken) (v : Kept)
+    (readings : List ℕ) (made : ℕ) (end : Spoken) (v : SessionState)
     → Lasts b a d bk now (take made readings) v → end ≡ come_to v
     → (end ≡ Going → made ≡ length readings) → Serves b a d bk now readings end
 serves_by b a d bk now readings made end v h ends all =
@@ -141,7 +141,7 @@ breaks_first b before faults bk readings = record {
 }
 
 breaks_at : (part : Part) → stage_of part ≡ to_step → (b : Began) (a d : Option (List Call))
-    (k n : ℕ) (bk now : book.State) (readings : List ℕ) (made : ℕ) (v : Kept)
+    (k n : ℕ) (bk now : book.State) (readings : List ℕ) (made : ℕ) (v : SessionState)
     (calls : List Call) (events : List Event) → At part b v calls events → Tells a d calls
     → IsLegal bk events → now ≡ replay bk events → readings_in events ≡ take made readings
     → CountsWhere (has_failed v) k n → Breaks b a d k n bk now readings
@@ -168,7 +168,7 @@ breaks_at (made_step waited heard told_so) e b a d k n bk now readings made v ca
 
 -- of one that goes on
 pub breaks_by : (b : Began) (a c d : Option (List Call)) (k m n : ℕ) (bk mid now : book.State)
-    (readings : List ℕ) (made : ℕ) (v : Kept) → Lasts b a c bk mid (take made readings) v
+    (readings : List ℕ) (made : ℕ) (v : SessionState) → Lasts b a c bk mid (take made readings) v
     → FailsBy false (has_failed v) k m → now ≡ mid → OnlyListens c d m n v
     → Breaks b a d k n bk now readings
 breaks_by b a c d k m n bk mid now readings made v h faults same l =

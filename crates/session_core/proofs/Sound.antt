@@ -22,12 +22,13 @@ use Rattle.session_core.specs.Handling.{aborted}
 use Rattle.session_core.specs.Inquiry.{Replied, reply_in}
 use Rattle.session_core.specs.Steps.{Next, at_moment, is_idle, with_next, acted, timed, has_block}
 use Rattle.session_core.specs.Steps.{after_step, course_at_end}
-use Rattle.session_core.specs.Session.{State, Round, Told, at_first, next_by, next_of, listened}
+use Rattle.session_core.specs.Session.{State, Round, BookAnswer, at_first, next_by, next_of}
+use Rattle.session_core.specs.Session.{listened}
 use Rattle.session_core.specs.Session.{standing_heard, standing_spoke, cleared, stepped, Asks}
 use Rattle.session_core.specs.Session.{came_with}
 use Rattle.session_core.specs.Session.{spoken_state, before_step, before_speak, after_round}
 use Rattle.session_core.specs.Session.{after_rounds, IsRound, AreRounds}
-use Rattle.session_core.specs.Kept.{IsSound}
+use Rattle.session_core.specs.SessionState.{IsSound}
 use Rattle.session_core.proofs.Streams.{WorkedOut}
 use Rattle.session_core.proofs.Rounds.{still_going}
 
@@ -136,8 +137,8 @@ sound_heard came (Some Nothing) before arrived = before
 sound_heard came (Some Closed) before arrived = before
 sound_heard came (Some Failed) before arrived = before
 
-sound_step : (site : Site) (s : State) (waited : Option Offer) (heard : Option Heard) (told : Told)
-    → IsSound s
+sound_step : (site : Site) (s : State) (waited : Option Offer) (heard : Option Heard)
+    (told : BookAnswer) → IsSound s
     → is_going (stepped site (listened s waited heard) (Some told)).standing.course ≡ true
     → (reading 0 (listened s waited heard).came).fault ≡ None
 sound_step site s waited heard told sound e =
@@ -170,7 +171,7 @@ over_not_going LinkFailed h e = absurd (cc)
 over_not_going Spent h e = absurd (cc)
 
 sound_told : (site : Site) (s : State) (waited : Option Offer) (heard : Option Heard)
-    (told : Option Told) → IsSound s → Asks (listened s waited heard) told
+    (told : Option BookAnswer) → IsSound s → Asks (listened s waited heard) told
     → is_going (stepped site (listened s waited heard) told).standing.course ≡ true
     → (reading 0 (listened s waited heard).came).fault ≡ None
 sound_told site s waited heard None sound asks e =
@@ -179,7 +180,8 @@ sound_told site s waited heard None sound asks e =
 sound_told site s waited heard (Some told) sound asks e =
     sound_step site s waited heard told sound e
 
-came_stays : (site : Site) (s : State) (told : Option Told) → (stepped site s told).came ≡ s.came
+came_stays : (site : Site) (s : State) (told : Option BookAnswer) → (stepped site s told).came
+    ≡ s.came
 came_stays site s None = refl
 came_stays site s (Some told) = refl
 

@@ -20,7 +20,7 @@ use Rattle.session_core.specs.Course.{is_live, is_blocked}
 use Rattle.session_core.specs.Steps.{Next, has_message, has_block, round_begun, waits, may_poll}
 use Rattle.session_core.specs.Steps.{after_wait, may_speak, after_offer, course_at_end, round_ended}
 use Rattle.session_core.specs.Session.{standing_waited, standing_heard}
-use Rattle.session_core.specs.Kept.{Kept, Waited, PolledOnce}
+use Rattle.session_core.specs.SessionState.{SessionState, Waited, PolledOnce}
 use Rattle.session_core.specs.Outcome.{has_waiting, StallsOnce, StallsAtMost}
 use Rattle.session_core.specs.Outcome as kept
 use Rattle.session_core.proofs.Truths.{and_false}
@@ -89,20 +89,20 @@ heard_waits s (Some Nothing) next e h = h
 heard_waits s (Some Closed) next e h = h ∙ free_polls s next e
 heard_waits s (Some Failed) next e h = sym (free_polls s next e)
 
-pub polled_blocks : (a b : Option (List Call)) (old new : Kept) → PolledOnce a b old new
+pub polled_blocks : (a b : Option (List Call)) (old new : SessionState) → PolledOnce a b old new
     → kept.is_blocked new ≡ kept.is_blocked old
 polled_blocks a b old new p =
     ap (λ (t : Standing). is_blocked t.arrival) p.standing
     ∙ heard_blocks old.standing p.heard (next_held old.feeder) p.polls
 
-pub listened_waits : (a b c : Option (List Call)) (old between new : Kept)
+pub listened_waits : (a b c : Option (List Call)) (old between new : SessionState)
     → Waited a b old between → PolledOnce b c between new
     → has_waiting new ≡ kept.is_blocked new
 listened_waits a b c old between new w p =
     let so : has_waiting between ≡ kept.is_blocked between =
-    ap (λ (v : Kept). has_waiting v) w.new_is
+    ap (λ (v : SessionState). has_waiting v) w.new_is
     ∙ wait_waits old.standing w.waited w.offers
-    ∙ sym (ap (λ (v : Kept). kept.is_blocked v) w.new_is) in
+    ∙ sym (ap (λ (v : SessionState). kept.is_blocked v) w.new_is) in
     ap waits p.standing
     ∙ heard_waits between.standing p.heard (next_held between.feeder) p.polls so
     ∙ sym (ap (λ (t : Standing). is_blocked t.arrival) p.standing)
@@ -133,13 +133,13 @@ end_waits LinkFailing has = refl
 end_waits LinkFailed has = refl
 end_waits Spent has = refl
 
-pub end_stalls : (mid new : Kept) (x : Bool) (m n : ℕ)
+pub end_stalls : (mid new : SessionState) (x : Bool) (m n : ℕ)
     → new ≡ record mid { standing = round_ended mid.standing }
     → CountsWhere (has_waiting mid && x) m n → CountsWhere (has_waiting new && x) m n
 end_stalls mid new x m n is h =
     subst (λ (b : Bool). CountsWhere (b && x) m n)
     (sym
-    (ap (λ (v : Kept). has_waiting v) is
+    (ap (λ (v : SessionState). has_waiting v) is
     ∙ end_waits mid.standing.course (has_block mid.standing)))
     h
 

@@ -19,7 +19,7 @@ use Rattle.isp1_tml.specs.declared.octet_queue.TheConstants.{CAPACITY}
 use Rattle.session_core.specs.Numbers.{longest_piece}
 use Rattle.session_core.specs.Steps.{has_message}
 use Rattle.session_core.specs.Session.{State, counted, next_in, next_of, held, poll_space}
-use Rattle.session_core.specs.Kept.{Kept, Shows, space_of}
+use Rattle.session_core.specs.SessionState.{SessionState, Shows, space_of}
 
 abbrev pub RefusedForGood : Type 0
 RefusedForGood =
@@ -100,7 +100,8 @@ next_there law f came given None h =
     (law 0 came (given ++ f.messages) f.rest None h))
 
 -- what a feeder gives next is the first message of the stream that wasn't handled
-pub next_is : WorkedOut → (v : Kept) (s : State) → Shows v s → next_held v.feeder ≡ next_of s
+pub next_is : WorkedOut → (v : SessionState) (s : State) → Shows v s → next_held v.feeder
+    ≡ next_of s
 next_is law v s h =
     next_there law v.feeder s.came h.given v.feeder.fault h.stands.stream
     ∙ ap (next_in (reading 0 s.came)) h.count
@@ -193,8 +194,8 @@ held_there law f came given None h none =
     ∙ ap (λ (l : List ℕ). length l - length (spellings given)) h.whole
     ∙ length_held given f.messages f.rest
 
-pub space_is : WorkedOut → (v : Kept) (s : State) → Shows v s → (reading 0 s.came).fault ≡ None
-    → space_of v.feeder ≡ poll_space s
+pub space_is : WorkedOut → (v : SessionState) (s : State) → Shows v s → (reading 0 s.came).fault
+    ≡ None → space_of v.feeder ≡ poll_space s
 space_is law v s h none =
     let there : held s ≡ length (held_octets v.feeder) =
     ap

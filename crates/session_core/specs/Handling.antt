@@ -29,7 +29,7 @@ use Rattle.session_core.specs.declared.ended.Ended.TheVariants as ended
 use Rattle.session_core.specs.declared.standing.Standing.{Standing}
 use Rattle.session_core.specs.Numbers.{other_reason, access_denied, already_bound}
 use Rattle.session_core.specs.Inquiry.{Inquiry, only_asks, Replied}
-use Rattle.session_core.specs.Message.{Said, context, bind, unbind, peer_abort, invocation}
+use Rattle.session_core.specs.Message.{UserContent, context, bind, unbind, peer_abort, invocation}
 use Rattle.session_core.specs.Message.{kind_of}
 use Rattle.session_core.specs.Service.{invocation_ask, with_invocation}
 use Rattle.session_core.specs.Returns.{own_credentials, number_after, bind_return_message}
@@ -62,13 +62,13 @@ bind_ask (Ok place) = ask.Bind place
 bind_ask (Err fault) = ask.Nothing
 
 -- A BIND that is refused asks nothing, and no more does a message that doesn't pass.
-abbrev pub passed_ask : Site → Said → Inquiry
+abbrev pub passed_ask : Site → UserContent → Inquiry
 passed_ask site (bind b) = only_asks (bind_ask (bind_judged site b))
 passed_ask site (unbind u) = only_asks ask.Unbind
 passed_ask site (invocation i) = invocation_ask i
 passed_ask site _ = only_asks ask.Nothing
 
-abbrev pub said_ask : Site → Said → Step → Inquiry
+abbrev pub said_ask : Site → UserContent → Step → Inquiry
 said_ask site said Pass = passed_ask site said
 said_ask site said _ = only_asks ask.Nothing
 
@@ -153,7 +153,7 @@ with_unbind site s =
 
 -- ---- what a message leads to
 
-abbrev pub after_passing : Site → Standing → Said → Replied → Standing
+abbrev pub after_passing : Site → Standing → UserContent → Replied → Standing
 after_passing site s (context interval factor) r = with_context site s interval factor
 after_passing site s (bind b) r = with_bind site s b r.reply
 after_passing site s (unbind u) r = with_unbind site s
@@ -161,7 +161,7 @@ after_passing site s (peer_abort diagnostic) r = ended_by s (ended.PeerAborted d
 after_passing site s (invocation i) r = with_invocation site s i r
 after_passing site s _ r = s
 
-abbrev pub concluded : Site → Standing → Said → Step → Replied → Standing
+abbrev pub concluded : Site → Standing → UserContent → Step → Replied → Standing
 concluded site s said Pass r = after_passing site s said r
 concluded site s said Denied r = with_denial site s
 concluded site s said (Abort diagnostic) r = aborted s diagnostic
@@ -171,14 +171,14 @@ is_lost Lost = true
 is_lost _ = false
 
 -- the association once a message was judged
-abbrev pub invoked : Standing → Said → Step → Standing
+abbrev pub invoked : Standing → UserContent → Step → Standing
 invoked s said step =
     record s { association = after_step s.association (kind_of said) step }
 
 -- a message that was judged so leads to this, where the book replied so
-abbrev pub after_judged : Site → Standing → Said → Step → Replied → Standing
+abbrev pub after_judged : Site → Standing → UserContent → Step → Replied → Standing
 after_judged site s said step r =
     if is_lost r.reply then aborted s other_reason else concluded site s said step r
 
-abbrev pub after_message : Site → Standing → Said → Step → Replied → Standing
+abbrev pub after_message : Site → Standing → UserContent → Step → Replied → Standing
 after_message site s said step r = after_judged site (invoked s said step) said step r

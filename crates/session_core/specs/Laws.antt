@@ -19,11 +19,11 @@ use Rattle.session_core.specs.declared.spoken.Spoken.TheVariants.{Going}
 use Rattle.session_core.specs.declared.standing.Standing.{Standing}
 use Rattle.session_core.specs.Course.{is_live, is_over, is_blocked}
 use Rattle.session_core.specs.Steps.{Next, has_block, handles}
-use Rattle.session_core.specs.Session.{State, Round, Told, at_first, next_of, before_step}
+use Rattle.session_core.specs.Session.{State, Round, BookAnswer, at_first, next_of, before_step}
 use Rattle.session_core.specs.Session.{before_speak, IsRound, round_calls, round_events}
 use Rattle.session_core.specs.Session.{after_round, after_rounds, AreRounds, session_calls}
 use Rattle.session_core.specs.Session.{session_events, session_end, spoken_of, is_fault}
-use Rattle.session_core.specs.Kept.{Kept}
+use Rattle.session_core.specs.SessionState.{SessionState}
 use Rattle.session_core.specs.Outcome.{come_to}
 use Rattle.session_core.specs.Lists.{Began, start_of, state_after, StandsAt, to_listen, GoesRound}
 
@@ -144,7 +144,7 @@ FaultsAreOfCalls =
 -- What a session has come to between two rounds is the end of the rounds for which it stands.
 abbrev pub EndsAsItStands : Type 0
 EndsAsItStands =
-    (b : Began) (v : Kept) (calls : List Call) (events : List Event)
+    (b : Began) (v : SessionState) (calls : List Call) (events : List Event)
     (h : StandsAt to_listen b v calls events)
     → come_to v ≡ session_end b.site (start_of b) h.rounds
 
@@ -189,17 +189,17 @@ OneSession =
 -- A session between two rounds that asked nothing of the book has made no round.
 abbrev pub NoRoundYet : Type 0
 NoRoundYet =
-    (b : Began) (v : Kept) (calls : List Call) (h : StandsAt to_listen b v calls [])
+    (b : Began) (v : SessionState) (calls : List Call) (h : StandsAt to_listen b v calls [])
     → h.rounds ≡ []
 
 -- Behind these rounds, these calls of the link and events of the book are those of one round more,
 -- which asked the book at this reading. The session has come to what that round came to, and where
 -- it goes on it stands as behind that round.
 pub record OneMore (b : Began) (reading : ℕ) (rounds now : List Round) (calls : List Call)
-    (events : List Event) (new : Kept) : Type 0 where
+    (events : List Event) (new : SessionState) : Type 0 where
   pub round : Round
   pub right : IsRound b.site (state_after b rounds) round
-  pub told : Told
+  pub told : BookAnswer
   pub asked : round.told ≡ Some told
   pub reads : told.reading ≡ reading
   pub calls_are : calls ≡ round_calls b.site (state_after b rounds) round
@@ -214,7 +214,7 @@ pub record OneMore (b : Began) (reading : ℕ) (rounds now : List Round) (calls 
 abbrev pub OneRoundMore : Type 0
 OneRoundMore =
     (b : Began) (site : Site) (reading : ℕ) (before after : Option (List Call))
-    (was is : book.State) (v new : Kept) (calls : List Call) (events : List Event)
+    (was is : book.State) (v new : SessionState) (calls : List Call) (events : List Event)
     (same : b.site ≡ site) (goes : GoesRound site reading before after was is v new)
     (h : StandsAt to_listen b v calls events)
     → is_over (state_after b h.rounds).standing.course ≡ false

@@ -8,7 +8,7 @@ pub mod Returns
 pub mod Handling
 pub mod Steps
 pub mod Session
-pub mod Kept
+pub mod SessionState
 pub mod Outcome
 pub mod Lists
 pub mod Serving

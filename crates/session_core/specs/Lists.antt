@@ -10,10 +10,11 @@ use Rattle.station_config.specs.declared.site.Site.{Site}
 use Rattle.station_book.specs.State.{Event}
 use Rattle.station_book.specs.State as book
 use Rattle.station_book.specs.History.{IsLegal, replay, reading_of}
-use Rattle.session_core.specs.Session.{State, Told, at_first, Listens, listened, listen_calls, Asks}
+use Rattle.session_core.specs.Session.{State, BookAnswer, at_first, Listens, listened, listen_calls}
+use Rattle.session_core.specs.Session.{Asks}
 use Rattle.session_core.specs.Session.{stepped, step_events, after_rounds, AreRounds, session_calls}
 use Rattle.session_core.specs.Session.{session_events, Round}
-use Rattle.session_core.specs.Kept.{Kept, Shows, own_events}
+use Rattle.session_core.specs.SessionState.{SessionState, Shows, own_events}
 use Rattle.session_core.specs.Outcome.{has_ended, has_failed, is_blocked, FailsBy}
 
 -- how far a round has come: the next call is listen, step or speak
@@ -26,7 +27,7 @@ pub data Stage : Type 0 where
 pub data Part : Type 0 where
   none_made : Part
   made_listen : Option Offer → Option Heard → Part
-  made_step : Option Offer → Option Heard → Option Told → Part
+  made_step : Option Offer → Option Heard → Option BookAnswer → Part
 
 abbrev pub stage_of : Part → Stage
 stage_of none_made = to_listen
@@ -70,7 +71,7 @@ state_after b rounds = after_rounds b.site (start_of b) rounds
 
 -- The calls of the link and the events of the book are *Session* of each other, up to this stage of
 -- a round, and the session keeps what they leave.
-pub record StandsAt (stage : Stage) (b : Began) (v : Kept) (calls : List Call)
+pub record StandsAt (stage : Stage) (b : Began) (v : SessionState) (calls : List Call)
     (events : List Event) : Type 0 where
   pub rounds : List Round
   pub part : Part
@@ -87,7 +88,7 @@ pub record StandsAt (stage : Stage) (b : Began) (v : Kept) (calls : List Call)
 -- A call of a session made these calls of a link that told `before` and tells `after`. For all
 -- lists for which the session stood, it stands for these with the call's own behind them.
 pub record Goes (from to : Stage) (before after : Option (List Call))
-    (old new : Kept) : Type 0 where
+    (old new : SessionState) : Type 0 where
   pub own : List Call
   pub told : Tells before after own
   pub stands : (b : Began) (calls : List Call) (events : List Event)
@@ -96,7 +97,7 @@ pub record Goes (from to : Stage) (before after : Option (List Call))
 -- A step at a reading made at most one event of a book, which is its own of what the session kept
 -- and of the book. For all lists for which the session stood, it stands for these with that event.
 pub record GoesStep (site : Site) (reading : ℕ) (book_before book_after : book.State)
-    (old new : Kept) : Type 0 where
+    (old new : SessionState) : Type 0 where
   pub book_is : book_after ≡ replay book_before (own_events site old book_before reading)
   pub failed : has_failed new ≡ has_failed old
   pub blocked : is_blocked new ≡ is_blocked old
@@ -106,8 +107,8 @@ pub record GoesStep (site : Site) (reading : ℕ) (book_before book_after : book
 
 -- A call wanted memory behind a listen, whose calls of the link are all that it made.
 pub record OnlyListens (before after : Option (List Call)) (faults faults_now : ℕ)
-    (old : Kept) : Type 0 where
-  pub heard : Kept
+    (old : SessionState) : Type 0 where
+  pub heard : SessionState
   pub goes : Goes to_listen to_step before after old heard
   pub fails : FailsBy (has_failed old) (has_failed heard) faults faults_now
 
@@ -118,7 +119,7 @@ readings_in events = filter_map (λ e. reading_of e.call) events
 -- A round at a reading made these calls of a link and these events of a book, one unless the
 -- session had ended, and the session stands for them behind all for which it stood.
 pub record GoesRound (site : Site) (reading : ℕ) (before after : Option (List Call)) (book_before
-    book_after : book.State) (old new : Kept) : Type 0 where
+    book_after : book.State) (old new : SessionState) : Type 0 where
   pub own : List Call
   pub told : Tells before after own
   pub gained : List Event

@@ -9,34 +9,34 @@ use Rattle.session_core.specs.declared.spoken.Spoken.{Spoken}
 use Rattle.session_core.specs.Course as course
 use Rattle.session_core.specs.Steps.{waits}
 use Rattle.session_core.specs.Session.{spoken_of, is_fault}
-use Rattle.session_core.specs.Kept.{Kept}
+use Rattle.session_core.specs.SessionState.{SessionState}
 
 -- what its latest round came to
-abbrev pub come_to : Kept → Spoken
+abbrev pub come_to : SessionState → Spoken
 come_to v = spoken_of v.standing.course
 
 -- it has ended, by its link's failure too
-abbrev pub has_ended : Kept → Bool
+abbrev pub has_ended : SessionState → Bool
 has_ended v = course.is_over v.standing.course
 
 -- a poll or an offer of it failed
-abbrev pub has_failed : Kept → Bool
+abbrev pub has_failed : SessionState → Bool
 has_failed v = is_fault (come_to v)
 
 -- a step of it wanted memory
-abbrev pub is_spent : Kept → Bool
+abbrev pub is_spent : SessionState → Bool
 is_spent v = course.is_spent v.standing.course
 
 -- it has ended, its link fails, or it is spent
-abbrev pub is_still : Kept → Bool
+abbrev pub is_still : SessionState → Bool
 is_still v = not (course.is_live v.standing.course)
 
 -- a block that waited stalled in this round
-abbrev pub is_blocked : Kept → Bool
+abbrev pub is_blocked : SessionState → Bool
 is_blocked v = course.is_blocked v.standing.arrival
 
 -- a block waits for a link that takes it
-abbrev pub has_waiting : Kept → Bool
+abbrev pub has_waiting : SessionState → Bool
 has_waiting v = waits v.standing
 
 -- A call found the link failed or not, and left it failed or not. The link's count of faults went
@@ -59,7 +59,7 @@ pub record StallsAtMost (rounds before now : ℕ) : Type 0 where
 
 -- A session that is still doesn't call its link, and comes to nothing else; one that has ended has
 -- ended. Whether a session is spent doesn't change.
-pub record Rests (before after : Option (List Call)) (old new : Kept) : Type 0 where
+pub record Rests (before after : Option (List Call)) (old new : SessionState) : Type 0 where
   pub silent : IsTrue (is_still old) → Tells before after []
   pub same : IsTrue (is_still old) → come_to new ≡ come_to old
   pub over : IsTrue (has_ended old) → IsTrue (has_ended new)
@@ -68,14 +68,14 @@ pub record Rests (before after : Option (List Call)) (old new : Kept) : Type 0 w
 -- A call is refused for want of memory alone, which leaves the book as it was. It is refused
 -- exactly where the session is spent behind it, and where it was spent before.
 pub record Spends {T E : Type 0} (result : Result T E) (book_before book_after : book.State)
-    (old new : Kept) : Type 0 where
+    (old new : SessionState) : Type 0 where
   pub left : OnErr result (book_after ≡ book_before)
   pub spent : is_spent new ≡ is_err result
   pub repeats : IsTrue (is_spent old) → IsErr result
 
 -- A session that has ended leaves the book as it was, wants no memory, and comes to the same end.
 pub record Repeats {T E : Type 0} (result : Result T E) (book_before book_after : book.State)
-    (old new : Kept) : Type 0 where
+    (old new : SessionState) : Type 0 where
   pub left : book_after ≡ book_before
   pub good : IsOk result
   pub same : come_to new ≡ come_to old

@@ -12,13 +12,13 @@ use Rattle.cltu_queue.specs.declared.ask.Ask.TheVariants as ask
 use Rattle.session_core.specs.declared.bind_places.BindPlaces.{BindPlaces}
 use Rattle.session_core.specs.declared.user_message.UserMessage.{UserMessage}
 use Rattle.session_core.specs.declared.user_message.UserMessage.TheVariants as variant
-use Rattle.session_core.specs.Message.{Said, context, heartbeat, bind, unbind, peer_abort}
+use Rattle.session_core.specs.Message.{UserContent, context, heartbeat, bind, unbind, peer_abort}
 use Rattle.session_core.specs.Message.{invocation, undecoded, out_of_place}
 use Rattle.session_core.specs.Service.{invocation_ask, invocation_of}
 use Rattle.session_core.specs.Handling.{bind_judged, bind_ask}
 use Rattle.session_core.specs.Inquiry.{Inquiry, only_asks}
 
-abbrev pub said_of : UserMessage → Said
+abbrev pub said_of : UserMessage → UserContent
 said_of (variant.Context interval factor) = context interval factor
 said_of variant.Heartbeat = heartbeat
 said_of (variant.Bind b) = bind (bind_of b)
@@ -38,17 +38,17 @@ abbrev pub places_of_bind : Site → BindContent → BindPlaces
 places_of_bind site b =
     record { peer = place_of b.initiator site.peers; instance = bind_judged site b }
 
-abbrev pub places_of : Site → Said → Step → BindPlaces
+abbrev pub places_of : Site → UserContent → Step → BindPlaces
 places_of site (bind b) Pass = places_of_bind site b
 places_of site _ _ = record { peer = None; instance = Err AccessDenied }
 
 -- what a message that was judged so asks, where a BIND's instance was judged so
-abbrev pub passed_ask_by : Said → Result ℕ BindFault → Inquiry
+abbrev pub passed_ask_by : UserContent → Result ℕ BindFault → Inquiry
 passed_ask_by (bind b) judged = only_asks (bind_ask judged)
 passed_ask_by (unbind u) judged = only_asks ask.Unbind
 passed_ask_by (invocation i) judged = invocation_ask i
 passed_ask_by _ judged = only_asks ask.Nothing
 
-abbrev pub ask_by : Said → Step → Result ℕ BindFault → Inquiry
+abbrev pub ask_by : UserContent → Step → Result ℕ BindFault → Inquiry
 ask_by said Pass judged = passed_ask_by said judged
 ask_by said _ judged = only_asks ask.Nothing

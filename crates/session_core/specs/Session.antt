@@ -84,7 +84,7 @@ poll_space s = min (CAPACITY - held s) longest_piece
 
 -- what the book told: the clock's reading with which it was asked, the moment of its answer, and
 -- the answer
-pub record Told : Type 0 where
+pub record BookAnswer : Type 0 where
   pub reading : ℕ
   pub moment : ℕ
   pub answer : Answer
@@ -94,7 +94,7 @@ pub record Told : Type 0 where
 pub record Round : Type 0 where
   pub waited : Option Offer
   pub heard : Option Heard
-  pub told : Option Told
+  pub told : Option BookAnswer
   pub spoke : Option Offer
 
 -- ---- listen
@@ -160,7 +160,7 @@ abbrev pub counted : Bool → ℕ → ℕ
 counted true n = n + 1
 counted false n = n
 
-abbrev pub stepped : Site → State → Option Told → State
+abbrev pub stepped : Site → State → Option BookAnswer → State
 stepped site s None = s
 stepped site s (Some told) =
     record {
@@ -170,11 +170,11 @@ stepped site s (Some told) =
     }
 
 -- a session that hasn't ended asks the book once
-abbrev pub Asks : State → Option Told → Type 0
+abbrev pub Asks : State → Option BookAnswer → Type 0
 Asks s told = is_some told ≡ not (is_over s.standing.course)
 
 -- the answer event of a door's session
-abbrev pub event_of : Site → ℕ → State → Told → Event
+abbrev pub event_of : Site → ℕ → State → BookAnswer → Event
 event_of site door s told =
     record {
       call = call_of door told.reading (inquiry_at site s.standing (next_of s) told.moment);
@@ -182,7 +182,7 @@ event_of site door s told =
       reply = answered told.answer;
     }
 
-abbrev pub step_events : Site → ℕ → State → Option Told → List Event
+abbrev pub step_events : Site → ℕ → State → Option BookAnswer → List Event
 step_events site door s None = []
 step_events site door s (Some told) = event_of site door s told ∷ []
 

@@ -23,7 +23,7 @@ use Rattle.session_core.specs.Numbers.{communications_failure}
 use Rattle.session_core.specs.Course.{is_going, is_live, is_blocked, has_arrived}
 use Rattle.session_core.specs.Course.{has_closed}
 use Rattle.session_core.specs.Inquiry.{Inquiry, only_asks, Replied}
-use Rattle.session_core.specs.Message.{Said, said_in, judged}
+use Rattle.session_core.specs.Message.{UserContent, said_in, judged}
 use Rattle.session_core.specs.Handling.{ended_by, aborted, said_ask, after_message}
 
 -- what comes next of the stream: its next message, none yet, or its fault
@@ -100,7 +100,7 @@ service_of site s =
     (option_and_then (λ place. slice_get site.instances place) s.bound)
 
 -- what a message says to the session
-abbrev pub said_to : Site → Standing → Content → Said
+abbrev pub said_to : Site → Standing → Content → UserContent
 said_to site s message = said_in (service_of site s) s.association message
 
 abbrev pub message_ask : Site → Standing → Content → ℕ → Inquiry

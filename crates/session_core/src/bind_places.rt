@@ -28,11 +28,11 @@ fn places_of_bind(site: &Site, bind: &Bind<'_>) -> BindPlaces
 }
 
 // The same of any message: where it is no BIND, or didn't pass, it has no places.
-pub(crate) fn places_of(site: &Site, said: &UserMessage<'_>, step: Step) -> BindPlaces
+pub(crate) fn places_of(site: &Site, message: &UserMessage<'_>, step: Step) -> BindPlaces
     requires { IsSite site.now }
-    ensures { result ≡ places_of site.now (said_of said.now) step }
+    ensures { result ≡ places_of site.now (said_of message.now) step }
 {
-    match (said, step) {
+    match (message, step) {
         (UserMessage::Bind(bind), Step::Pass) => places_of_bind(site, bind),
         _ => BindPlaces {
             peer: None,

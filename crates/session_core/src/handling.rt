@@ -37,13 +37,13 @@ const OTHER_REASON: u8 = 127;
 const ACCESS_DENIED: u8 = 0;
 
 // What a message that was judged so asks the book, and wants of a look.
-pub(crate) fn said_ask(said: &UserMessage<'_>, step: Step, places: BindPlaces) -> Inquiry
-    ensures { inquiry_of result ≡ ask_by (said_of said.now) step places.instance }
+pub(crate) fn said_ask(message: &UserMessage<'_>, step: Step, places: BindPlaces) -> Inquiry
+    ensures { inquiry_of result ≡ ask_by (said_of message.now) step places.instance }
 {
     if step != Step::Pass {
         return Inquiry::of(Ask::Nothing);
     }
-    match (said, places.instance) {
+    match (message, places.instance) {
         (UserMessage::Bind(_), Ok(instance)) => Inquiry::of(Ask::Bind { instance }),
         (UserMessage::Unbind(_), _) => Inquiry::of(Ask::Unbind),
         (UserMessage::Service(invocation), _) => invocation.ask(),
@@ -83,13 +83,13 @@ impl Standing {
     }
 
     // Judges a message at the round's moment, by the association.
-    pub(crate) fn judge(&mut self, site: &Site, said: &UserMessage<'_>) -> Step
-        ensures step { result ≡ judged site.now self.old.association (said_of said.now)
+    pub(crate) fn judge(&mut self, site: &Site, message: &UserMessage<'_>) -> Step
+        ensures step { result ≡ judged site.now self.old.association (said_of message.now)
             self.old.moment }
-        ensures after { self.new ≡ invoked self.old (said_of said.now) result }
+        ensures after { self.new ≡ invoked self.old (said_of message.now) result }
     {
         self.association
-            .invoke(site, said.kind(), &said.credentials(), self.moment)
+            .invoke(site, message.kind(), &message.credentials(), self.moment)
     }
 
     // This provider's credentials for a return, where the peer's level asks for them.
@@ -184,24 +184,24 @@ impl Standing {
     }
 
     // A message that passed leads to this, where the book replied so.
-    fn pass(&mut self, site: &Site, said: &UserMessage<'_>, places: BindPlaces, replied: &Replied)
+    fn pass(&mut self, site: &Site, message: &UserMessage<'_>, places: BindPlaces, answer: &Replied)
         requires site { IsSite site.now }
         requires moment { self.old.moment < MOMENT_END }
-        requires places { places ≡ places_of site.now (said_of said.now) Pass }
-        ensures { self.new ≡ after_passing site.now self.old (said_of said.now)
-            (replied_of replied.now) }
+        requires places { places ≡ places_of site.now (said_of message.now) Pass }
+        ensures { self.new ≡ after_passing site.now self.old (said_of message.now)
+            (replied_of answer.now) }
     {
-        match said {
+        match message {
             UserMessage::Context { interval, factor } => {
                 self.take_context(site, *interval, *factor);
             }
-            UserMessage::Bind(bind) => self.answer_bind(site, bind, places, replied.reply),
+            UserMessage::Bind(bind) => self.answer_bind(site, bind, places, answer.reply),
             UserMessage::Unbind(_) => self.answer_unbind(site),
             UserMessage::PeerAbort(abort) => {
                 let diagnostic = abort.diagnostic;
                 self.end(Ended::PeerAborted { diagnostic });
             }
-            UserMessage::Service(invocation) => invocation.conclude(self, site, replied),
+            UserMessage::Service(invocation) => invocation.conclude(self, site, answer),
             UserMessage::Heartbeat | UserMessage::Undecoded | UserMessage::OutOfPlace => {}
         }
     }
@@ -210,23 +210,23 @@ impl Standing {
     pub(crate) fn conclude(
         &mut self,
         site: &Site,
-        said: &UserMessage<'_>,
+        message: &UserMessage<'_>,
         step: Step,
         places: BindPlaces,
-        replied: &Replied,
+        answer: &Replied,
     )
         requires site { IsSite site.now }
         requires moment { self.old.moment < MOMENT_END }
-        requires places { places ≡ places_of site.now (said_of said.now) step }
-        ensures { self.new ≡ after_judged site.now self.old (said_of said.now) step
-            (replied_of replied.now) }
+        requires places { places ≡ places_of site.now (said_of message.now) step }
+        ensures { self.new ≡ after_judged site.now self.old (said_of message.now) step
+            (replied_of answer.now) }
     {
-        if replied.reply == BookReply::Lost {
+        if answer.reply == BookReply::Lost {
             self.abort(OTHER_REASON);
             return;
         }
         match step {
-            Step::Pass => self.pass(site, said, places, replied),
+            Step::Pass => self.pass(site, message, places, answer),
             Step::Denied => self.deny(site),
             Step::Abort { diagnostic } => self.abort(diagnostic),
         }

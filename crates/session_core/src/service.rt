@@ -72,11 +72,11 @@ impl<'a> Invocation<'a> {
     }
 
     // It passed, and leads to this where the book replied so.
-    pub(crate) fn conclude(&self, standing: &mut Standing, site: &Site, replied: &Replied)
+    pub(crate) fn conclude(&self, standing: &mut Standing, site: &Site, answer: &Replied)
         requires site { IsSite site.now }
         requires moment { standing.old.moment < MOMENT_END }
         ensures { standing.new ≡ with_invocation site.now standing.old
-            (invocation_of self.now) (replied_of replied.now) }
+            (invocation_of self.now) (replied_of answer.now) }
     {
         match self {
             Invocation::Undecoded(_) => {}

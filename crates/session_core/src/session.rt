@@ -11,9 +11,10 @@ ghost use Rattle.link_model.specs.Counts.{CountsWhere, offer_failed, offer_stall
 ghost use Rattle.station_config.specs.Validity.{IsSite};
 ghost use Rattle.station_book.specs.History.{after, moment_at, replay};
 ghost use Rattle.session_core.specs.Inquiry.{call_of, answer_of, reply_in, inquiry_of, replied_of};
-ghost use Rattle.session_core.specs.Kept.{Waited, PolledOnce, Hears, Said};
-ghost use Rattle.session_core.specs.Kept.{feeder_after, asked, told_now, told_by, kept_after};
-ghost use Rattle.session_core.specs.Kept.{own_events, Acts};
+ghost use Rattle.session_core.specs.SessionState.{Waited, PolledOnce, Hears, IsSpoken};
+ghost use Rattle.session_core.specs.SessionState.{feeder_after, asked, told_now, told_by};
+ghost use Rattle.session_core.specs.SessionState.{kept_after};
+ghost use Rattle.session_core.specs.SessionState.{own_events, Acts};
 ghost use Rattle.session_core.specs.Lists.{Began, StandsAt, Goes, GoesRound, to_listen, to_step};
 ghost use Rattle.session_core.specs.Lists.{to_speak, GoesStep, OnlyListens};
 ghost use Rattle.session_core.specs.Outcome.{come_to, has_ended, has_failed, is_spent, FailsBy};
@@ -57,9 +58,9 @@ pub struct Session {
 
 impl Model for Session {
     ghost use Rattle.std.specs.Prelude.{◌≡◌, vec_len};
-    ghost use Rattle.session_core.specs.Kept.{Kept};
+    ghost use Rattle.session_core.specs.SessionState.{SessionState};
 
-    ghost Value = { Kept };
+    ghost Value = { SessionState };
 
     ghost view = { λ s. record { door = s.door; feeder = s.feeder; standing = s.standing } };
 
@@ -131,16 +132,16 @@ fn hear<L: Link>(feeder: &mut Feeder, standing: &mut Standing, space: &mut [u8],
 impl Session {
     /// A session at its link's start, with all the memory that it will ever have: at the door of
     /// this number, with the program's draw, begun at a moment.
-    pub fn new(alloc: Global, door: u32, draw: u32, entered: u128) -> Result<Session, Memory>
+    pub fn new(alloc: Global, door: u32, draw: u32, now: u128) -> Result<Session, Memory>
         ensures lists { IfOk result (λ session. (b : Began) → b.door ≡ door → b.draw ≡ draw
-            → b.entered ≡ entered → StandsAt to_listen b session [] []) }
+            → b.entered ≡ now → StandsAt to_listen b session [] []) }
         ensures going { IfOk result (λ session. come_to session ≡ Going) }
         ensures spent { IfOk result (λ session. IsFalse (is_spent session)) }
     {
         laws::any_pieces();
         let feeder = new_feeder(alloc)?;
         let space = zeros(alloc, LONGEST_PIECE)?;
-        let standing = Standing::begin(alloc, door, draw, entered)?;
+        let standing = Standing::begin(alloc, door, draw, now)?;
         Ok(Session {
             door,
             feeder,
@@ -413,7 +414,7 @@ impl Session {
 impl Session {
     // Offers the block, if it may.
     fn say<L: Link>(&mut self, link: &mut L)
-        ensures said { Said (L.calls link.old) (L.calls link.new) self.old self.new }
+        ensures said { IsSpoken (L.calls link.old) (L.calls link.new) self.old self.new }
         ensures faults { FailsBy (has_failed self.old) (has_failed self.new) (L.faults link.old)
             (L.faults link.new) }
         ensures stalls { CountsWhere (has_waiting self.new && not (is_blocked self.old))

@@ -54,13 +54,8 @@ const COMMUNICATIONS_FAILURE: u8 = 4;
 
 impl Standing {
     // A session at a door begins, with the program's draw, at a moment.
-    pub(crate) fn begin(
-        alloc: Global,
-        door: u32,
-        draw: u32,
-        entered: u128,
-    ) -> Result<Standing, Memory>
-        ensures { IfOk result (λ standing. standing ≡ begun door draw entered) }
+    pub(crate) fn begin(alloc: Global, door: u32, draw: u32, now: u128) -> Result<Standing, Memory>
+        ensures { IfOk result (λ standing. standing ≡ begun door draw now) }
     {
         let block = Block::new(alloc)?;
         Ok(Standing {
@@ -69,9 +64,9 @@ impl Standing {
             course: Course::Going,
             interval: 0,
             factor: 0,
-            sent: entered,
-            heard: entered,
-            moment: entered,
+            sent: now,
+            heard: now,
+            moment: now,
             numbers: RandomNumbers::new(draw, door),
             block,
             arrival: Arrival::Nothing,

@@ -38,7 +38,7 @@ impl From<AllocError> for IdFault {
 impl<T: Drop> From<AllocFailed<T>> for IdFault {
     ghost from_gives = { λ _ fault. fault ≡ Memory };
 
-    fn from(_failed: AllocFailed<T>) -> IdFault {
+    fn from(_: AllocFailed<T>) -> IdFault {
         IdFault::Memory
     }
 }

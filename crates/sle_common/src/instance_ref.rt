@@ -72,10 +72,10 @@ fn are_same(parts: &[InstancePart], others: &[InstancePart]) -> bool
     true
 }
 
-fn is_same(found: &PartRef, part: &InstancePart) -> bool
-    ensures { IsTrue result ↔ (part_of found.now ≡ part.now) }
+fn is_same(part_ref: &PartRef, part: &InstancePart) -> bool
+    ensures { IsTrue result ↔ (part_of part_ref.now ≡ part.now) }
 {
-    found.attribute == part.attribute && found.value == part.value.as_slice()
+    part_ref.attribute == part.attribute && part_ref.value == part.value.as_slice()
 }
 
 impl<'a> Element<'a> for InstanceRef<'a> {

@@ -6,18 +6,18 @@ use Rattle.std.proofs.lemmas.List.{map-append, take-append-drop, take-map}
 use Rattle.std.proofs.Math.Seq.{drop-cons}
 use Rattle.archive_terms.specs.Archive.{is_archive, IsArchive, may_follow}
 use Rattle.archive_terms.specs.Archive as terms
-use Rattle.archive_index.specs.Kept.{Kept, Indexes}
+use Rattle.archive_index.specs.IndexState.{IndexState, Indexes}
 use Rattle.record_form.specs.Entry.{entry_of, entries_of}
 use Rattle.record_form.specs.declared.entry.Entry.{Entry}
 
 -- so far these of the entries stand behind the old ones
-pub record Extending (old : List Entry) (done : List Entry) (index : Kept)
+pub record Extending (old : List Entry) (done : List Entry) (index : IndexState)
     (held : List Entry) : Type 0 where
   pub held_is : held ≡ old ++ done
   pub indexed : Indexes index (entries_of held)
   pub archive : IsArchive (entries_of held)
 
-pub extending_none : (old : List Entry) (index : Kept) → Indexes index (entries_of old)
+pub extending_none : (old : List Entry) (index : IndexState) → Indexes index (entries_of old)
     → IsArchive (entries_of old) → Extending old [] index old
 extending_none old index indexed archive = record {
   held_is = sym (append-nil old);
@@ -30,7 +30,7 @@ abbrev pub Grows : Type 0
 Grows = (a : List terms.Entry) (e : terms.Entry)
     → is_archive (a ++ e ∷ []) ≡ (is_archive a && may_follow a e)
 
-pub extending_more : Grows → (old done : List Entry) (e : Entry) (index more : Kept)
+pub extending_more : Grows → (old done : List Entry) (e : Entry) (index more : IndexState)
     (held longer : List Entry)
     → Extending old done index held → may_follow (entries_of held) (entry_of e) ≡ true
     → longer ≡ held ++ e ∷ [] → Indexes more (entries_of held ++ entry_of e ∷ [])
@@ -59,7 +59,7 @@ none_stays grows xs (y ∷ ys) none =
     ap is_archive (sym (append_assoc xs (y ∷ []) ys)) ∙ none_stays grows (xs ++ y ∷ []) ys next
 
 -- an entry that may not follow makes no archive, whatever stands behind it
-pub foreign_entry : Grows → (old done rest : List Entry) (e : Entry) (index : Kept)
+pub foreign_entry : Grows → (old done rest : List Entry) (e : Entry) (index : IndexState)
     (held : List Entry)
     → Extending old done index held → may_follow (entries_of held) (entry_of e) ≡ false
     → is_archive (entries_of old ++ entries_of (done ++ e ∷ rest)) ≡ false
@@ -88,7 +88,7 @@ taken_apart xs i x below is =
     ∙ take-append-drop i xs
 
 -- an index that was cut back is that of the entries that were kept
-pub cut_back : (longer shorter : List Entry) (count : ℕ) (index : Kept)
+pub cut_back : (longer shorter : List Entry) (count : ℕ) (index : IndexState)
     → shorter ≡ take count longer
     → Indexes index (take count (entries_of longer)) → Indexes index (entries_of shorter)
 cut_back longer shorter count index is indexed =

@@ -2,7 +2,7 @@
 use Rattle.std.specs.Prelude.{◌≡◌, ℕ, ◌<◌, ◌≤◌, length, take}
 use Rattle.cds_time.specs.declared.cds.TheConstants.{MOMENT_END}
 use Rattle.archive_terms.specs.Archive.{IsArchive}
-use Rattle.archive_index.specs.Kept.{Kept, Indexes}
+use Rattle.archive_index.specs.IndexState.{IndexState, Indexes}
 use Rattle.record_form.specs.Entry.{entries_of}
 use Rattle.station_book.specs.declared.book.Book.TheInside.{Inside}
 use Rattle.station_book.specs.State.{State}
@@ -26,7 +26,7 @@ state_of a = record {
 
 -- the index is that of the published entries, which are an archive; each instance has a place among
 -- the doors; the workers have one each of the 32 that may be gone
-pub record PartsFit (s : State) (index : Kept) (opening : ℕ) : Type 0 where
+pub record PartsFit (s : State) (index : IndexState) (opening : ℕ) : Type 0 where
   pub indexed : Indexes index s.published
   pub archive : IsArchive s.published
   pub opening_is : opening ≤ length s.published

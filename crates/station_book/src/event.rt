@@ -107,12 +107,12 @@ impl Event {
     ghost use Rattle.station_book.specs.Called.{call_of};
 
     // The event of a call of this book.
-    fn of(book: &Book, called: &Called) -> Event
-        ensures { result ≡ event_at book.now (call_of called.now) }
+    fn of(book: &Book, call: &Called) -> Event
+        ensures { result ≡ event_at book.now (call_of call.now) }
     {
         Event {
             before: Snapshot::of(book),
-            call: Snapshot::of(called),
+            call: Snapshot::of(call),
         }
     }
 

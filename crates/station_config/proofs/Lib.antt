@@ -1,4 +1,4 @@
 pub mod Identity
 pub mod Places
-pub mod Told
+pub mod SiteTexts
 pub mod Valid

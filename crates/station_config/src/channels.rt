@@ -32,10 +32,10 @@ impl Channels {
     }
 
     /// The channels of a vector, which aren't copied.
-    pub fn from_vec(held: Vec<Gvcid>) -> Channels
-        ensures { result ≡ held.items }
+    pub fn from_vec(channels: Vec<Gvcid>) -> Channels
+        ensures { result ≡ channels.items }
     {
-        Channels { held }
+        Channels { held: channels }
     }
 
     /// Puts a channel behind the others.

@@ -180,10 +180,10 @@ const USUAL_HEARTBEAT: Heartbeat = Heartbeat {
 };
 
 // The octets that are given, else these.
-fn or_usual(alloc: Global, given: Option<Octets>, usual: &[u8]) -> Result<Octets, Memory>
-    ensures { IfOk result (λ octets. octets ≡ unwrap_or given usual.now) }
+fn or_usual(alloc: Global, setting: Option<Octets>, usual: &[u8]) -> Result<Octets, Memory>
+    ensures { IfOk result (λ octets. octets ≡ unwrap_or setting usual.now) }
 {
-    match given {
+    match setting {
         Some(octets) => Ok(octets),
         None => Octets::copy_of(alloc, usual),
     }

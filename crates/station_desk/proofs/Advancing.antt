@@ -12,7 +12,7 @@ use Rattle.archive_terms.specs.Rounds.{Answer, whole, free, Round, last_front}
 use Rattle.return_core.specs.Course.{Course, with_answer, is_offering}
 use Rattle.return_core.specs.Standing.{goes_on, waiting_round, answered_round, StandsFor, Steps}
 use Rattle.return_core.specs.Standing.{Settles, due_told}
-use Rattle.station_desk.specs.Told.{Told}
+use Rattle.station_desk.specs.ToldBuffer.{ToldBuffer}
 use Rattle.station_desk.specs.Cursor.{terms_of, told_of, rounds, IsBetween, IsOnItsWay, IsRight}
 use Rattle.station_desk.specs.Cursor.{at_next}
 use Rattle.station_desk.proofs.Rounds.{OfflineRounds, rounds-more, last_front-rounds, next_told}
@@ -64,8 +64,8 @@ LooksSo old new entries = (t : Terms) (rounds : List Round) → StandsFor old t 
     → Steps new t entries rounds (length entries) 0
 
 -- a cursor at the next buffer, or behind the last
-next_is : (buffers : List Told) (count n : ℕ) (had b : Bool) → b ≡ nat_lt count (length buffers)
-    → n ≡ cond b (count + 1) count
+next_is : (buffers : List ToldBuffer) (count n : ℕ) (had b : Bool) → b ≡ nat_lt count
+    (length buffers) → n ≡ cond b (count + 1) count
     → record { buffers = buffers; count = n; has_current = b }
     ≡ at_next (record { buffers = buffers; count = count; has_current = had })
 next_is buffers count n had b has more = cc
@@ -73,10 +73,10 @@ next_is buffers count n had b has more = cc
 module _ (law : OfflineRounds) (not_due : NotDue) (s : Selection) (entries : List Entry)
     (before old new : Course) (looks : LooksSo old new entries) (count : ℕ)
     (right : IsRight s entries count before) (between : IsBetween s entries count old) where
-  abbrev told : List Told
+  abbrev told : List ToldBuffer
   told = told_of s entries
 
-  abbrev due : Told
+  abbrev due : ToldBuffer
   due = due_told (terms_of s) entries (rounds (length entries) between.made) (length entries) 0
 
   steps : Steps new (terms_of s) entries (rounds (length entries) between.made) (length entries) 0
@@ -94,8 +94,8 @@ module _ (law : OfflineRounds) (not_due : NotDue) (s : Selection) (entries : Lis
       let longer = ap length more in
       let sum = length-append (take between.made told) (due ∷ []) in
       let same = ap length between.handed in
-      let below : between.made < length told = omega (arith, length-take {A = Told}) in
-      let is : between.made ≡ count = omega (arith, length-take {A = Told}) in
+      let below : between.made < length told = omega (arith, length-take {A = ToldBuffer}) in
+      let is : between.made ≡ count = omega (arith, length-take {A = ToldBuffer}) in
       let last : get_or told between.made [] ∷ [] ≡ due ∷ [] =
       append_cancel_left (take between.made told) _ _
       (sym (take_more told between.made [] below) ∙ more) in (
@@ -116,8 +116,8 @@ module _ (law : OfflineRounds) (not_due : NotDue) (s : Selection) (entries : Lis
       between.made (sym steps.offers ∙ none) in
       let same = ap length (sym between.handed ∙ all) in
       let whole_is = ap length all in
-      let past : length told ≤ between.made + 1 = omega (arith, length-take {A = Told}) in
-      let is : count ≡ length told = omega (arith, length-take {A = Told}, right.within) in (
+      let past : length told ≤ between.made + 1 = omega (arith, length-take {A = ToldBuffer}) in
+      let is : count ≡ length told = omega (arith, length-take {A = ToldBuffer}, right.within) in (
         record {
           readable = right.readable;
           within = omega arith;

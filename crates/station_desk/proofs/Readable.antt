@@ -33,7 +33,7 @@ use Rattle.cds_time.specs.Octets.{FieldsFit}
 use Rattle.cds_time.specs.declared.cds.Cds.{Cds}
 use Rattle.cds_time.specs.declared.cds.Rest.{Rest}
 use Rattle.cds_time.specs.declared.cds.Rest.TheVariants.{Micros, Picos}
-use Rattle.station_desk.specs.Told.{Told, item_tree, buffer_message}
+use Rattle.station_desk.specs.ToldBuffer.{ToldBuffer, item_tree, buffer_message}
 use Rattle.station_desk.specs.Start.{selection}
 use Rattle.station_desk.specs.Readable.{item_said, IsHanded, IsReadable, AreReadable}
 
@@ -114,14 +114,14 @@ record IsSaid (x : Item × Option ℤ) : Type 0 where
   tree : raf_item.tree (item_said x) ≡ item_tree x
   small : length (canonical (item_tree x)) ≤ most_octets
 
-record AreSaid (told : Told) (n : ℕ) : Type 0 where
+record AreSaid (told : ToldBuffer) (n : ℕ) : Type 0 where
   count : length told ≡ n
   handed : AllByRecursion IsHanded told
   fit : AllByRecursion raf_item.Fits (map item_said told)
   are : each_tree raf_item.tree (map item_said told) ≡ trees (map item_tree told)
   small : length (flat_map canonical (map item_tree told)) ≤ most_octets * n
 
-said_more : (x : Item × Option ℤ) (told : Told) (n : ℕ) → IsSaid x → AreSaid told n
+said_more : (x : Item × Option ℤ) (told : ToldBuffer) (n : ℕ) → IsSaid x → AreSaid told n
     → AreSaid (x ∷ told) (suc n)
 said_more x told n one rest = record {
   count = ap suc rest.count;
@@ -260,7 +260,7 @@ module _ (entries : List terms.Entry) (short : FramesAreShort) (plain : FramesAr
       (all_items chosen closed) all))) (buffers_few cuts chosen closed)
 
 -- each message of a START is one that the transport reads
-pub are_messages : (told : List Told) → AreReadable told
+pub are_messages : (told : List ToldBuffer) → AreReadable told
     → AllByRecursion IsMessage (map buffer_message told)
 are_messages [] readable = tt
 are_messages (buffer ∷ told) readable = (readable.0.fits, are_messages told readable.1)

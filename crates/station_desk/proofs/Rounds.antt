@@ -20,7 +20,7 @@ use Rattle.archive_terms.specs.Rounds.{ends_run, outcome, outcomes, after_round,
 use Rattle.archive_terms.specs.Rounds.{handed_buffer, handed_buffers, last_front}
 use Rattle.archive_terms.specs.Continuity.{frame_place, last_frame, told_items, told_buffers}
 use Rattle.return_core.specs.Standing.{at_front, handed_over, due_told}
-use Rattle.station_desk.specs.Told.{Told}
+use Rattle.station_desk.specs.ToldBuffer.{ToldBuffer}
 use Rattle.station_desk.specs.Cursor.{rounds}
 
 pub rounds-more : (front n : ℕ) → rounds front n ++ free_round front 0 ∷ [] ≡ rounds front (n + 1)
@@ -160,7 +160,7 @@ module _ (law : OfflineRounds) (t : Terms) (entries : List Entry) (some : 0 < t.
       )
 
   -- as they are told
-  abbrev pub told_all : List Told
+  abbrev pub told_all : List ToldBuffer
   told_all = told_buffers entries None (offline_buffers t.size (picked entries t.selection)
       (is_stop_closed t.selection entries))
 

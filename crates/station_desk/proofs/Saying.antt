@@ -9,7 +9,7 @@ use Rattle.archive_terms.specs.Delivery.{archived, end_of_data}
 use Rattle.archive_terms.specs.Delivery as terms
 use Rattle.frame_select.specs.Item.{said_of}
 use Rattle.return_core.specs.Course.{Course, is_offering}
-use Rattle.station_desk.specs.Told.{Told, item_tree}
+use Rattle.station_desk.specs.ToldBuffer.{ToldBuffer, item_tree}
 use Rattle.station_desk.specs.Readable.{IsHanded, IsReadable}
 use Rattle.station_desk.specs.Cursor.{told_of, IsAtBuffer, IsRight}
 
@@ -26,11 +26,11 @@ said_handed (archived place (frame f), Some continuity) is = is
 said_handed (end_of_data, continuity) is = tt
 said_handed _ is = absurd is
 
-pub trees_said : (buffer : Told) → map item_tree (map said_of buffer) ≡ map item_tree buffer
+pub trees_said : (buffer : ToldBuffer) → map item_tree (map said_of buffer) ≡ map item_tree buffer
 trees_said [] = refl
 trees_said (x ∷ buffer) = cc (said_tree x, trees_said buffer)
 
-pub handed_said : (buffer : Told) → AllByRecursion IsHanded buffer
+pub handed_said : (buffer : ToldBuffer) → AllByRecursion IsHanded buffer
     → AllByRecursion IsHanded (map said_of buffer)
 handed_said [] all = tt
 handed_said (x ∷ buffer) all = (said_handed x all.0, handed_said buffer all.1)

@@ -10,7 +10,7 @@ use Rattle.ber_core.specs.Spelling.{canonical}
 use Rattle.return_pdu.specs.Items.{items_spelled}
 use Rattle.frame_select.specs.declared.item.Item.{Item}
 use Rattle.frame_select.specs.Item.{item_of, items_of}
-use Rattle.station_desk.specs.Told.{item_tree}
+use Rattle.station_desk.specs.ToldBuffer.{item_tree}
 use Rattle.station_desk.specs.Readable.{IsHanded}
 
 -- the octets of an item in a transfer buffer

@@ -10,17 +10,17 @@ use Rattle.frame_select.specs.Item.{said_of}
 use Rattle.return_core.specs.Course.{Course, is_offering, held_of}
 use Rattle.return_core.specs.Standing.{StandsFor, Steps}
 use Rattle.station_desk.specs.declared.limits.TheConstants.{BUFFER_ITEMS}
-use Rattle.station_desk.specs.Told.{Told}
+use Rattle.station_desk.specs.ToldBuffer.{ToldBuffer}
 use Rattle.station_desk.specs.Readable.{AreReadable}
 
 -- the buffers of a START; how many of them were handed over, with the current one; and whether
 -- there is a current one
 pub record Cursor : Type 0 where
-  pub buffers : List Told
+  pub buffers : List ToldBuffer
   pub count : ℕ
   pub has_current : Bool
 
-abbrev pub before_first : List Told → Cursor
+abbrev pub before_first : List ToldBuffer → Cursor
 before_first buffers = record { buffers = buffers; count = 0; has_current = false }
 
 -- whether there is a next one
@@ -38,7 +38,7 @@ at_next c = record c {
 abbrev pub with_taken : Cursor → Cursor
 with_taken c = record c { has_current = false }
 
-abbrev pub current : Cursor → Told
+abbrev pub current : Cursor → ToldBuffer
 current c = slice_index_or c.buffers (c.count - 1) []
 
 -- ---- the delivery
@@ -46,7 +46,7 @@ current c = slice_index_or c.buffers (c.count - 1) []
 abbrev pub terms_of : Selection → Terms
 terms_of s = record { mode = offline; size = BUFFER_ITEMS; latency = 0; selection = s }
 
-abbrev pub told_of : Selection → List Entry → List Told
+abbrev pub told_of : Selection → List Entry → List ToldBuffer
 told_of s entries = told_buffers entries None
     (offline_buffers BUFFER_ITEMS (picked entries s) (is_stop_closed s entries))
 

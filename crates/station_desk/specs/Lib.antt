@@ -1,4 +1,4 @@
-pub mod Told
+pub mod ToldBuffer
 pub mod Start
 pub mod Readable
 pub mod Cursor

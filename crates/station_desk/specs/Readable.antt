@@ -12,7 +12,7 @@ use Rattle.return_pdu.specs.Plain.{plain_item, plain_end}
 use Rattle.archive_terms.specs.Archive.{frame}
 use Rattle.archive_terms.specs.Delivery.{Item, archived, end_of_data}
 use Rattle.station_desk.specs.declared.limits.TheConstants.{BUFFER_ITEMS}
-use Rattle.station_desk.specs.Told.{Told, item_tree, buffer_message}
+use Rattle.station_desk.specs.ToldBuffer.{ToldBuffer, item_tree, buffer_message}
 
 -- an item as a user reads it: a frame with its fields as it was received, and its continuity; or
 -- the end of data. An offline delivery has no other.
@@ -32,7 +32,7 @@ IsHanded _ = ⊥
 -- A buffer as it is told has no more such items than a buffer of the desk, and fits in a message of
 -- the transport. A user who decodes its octets as a buffer of RAF gets these items, each with its
 -- fields in their ranges; they spell no others.
-pub record IsReadable (told : Told) : Type 0 where
+pub record IsReadable (told : ToldBuffer) : Type 0 where
   pub few : length told ≤ BUFFER_ITEMS
   pub handed : AllByRecursion IsHanded told
   pub fits : IsMessage (buffer_message told)
@@ -46,5 +46,5 @@ pub record IsReadable (told : Told) : Type 0 where
       → others ≡ map item_said told
 
 -- So is each of the buffers that are handed over.
-abbrev pub AreReadable : List Told → Type 0
+abbrev pub AreReadable : List ToldBuffer → Type 0
 AreReadable told = AllByRecursion IsReadable told

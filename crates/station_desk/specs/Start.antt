@@ -8,7 +8,7 @@ use Rattle.archive_terms.specs.Selection.{Selection, by_quality, picked}
 use Rattle.archive_terms.specs.Delivery.{Item, Terms, offline, selection_of, offline_buffers}
 use Rattle.archive_terms.specs.Continuity.{told_buffers}
 use Rattle.station_desk.specs.declared.limits.TheConstants.{BUFFER_ITEMS}
-use Rattle.station_desk.specs.Told.{Told}
+use Rattle.station_desk.specs.ToldBuffer.{ToldBuffer}
 
 -- the moment of a line's time, which names one by its form
 abbrev pub moment : Cds → ℕ
@@ -34,6 +34,6 @@ desk_buffers entries start stop quality =
     (is_closed entries (moment stop))
 
 -- those buffers as they are told
-abbrev pub told_desk : List Entry → Cds → Cds → ℕ → List Told
+abbrev pub told_desk : List Entry → Cds → Cds → ℕ → List ToldBuffer
 told_desk entries start stop quality =
     told_buffers entries None (desk_buffers entries start stop quality)

@@ -9,7 +9,7 @@ ghost use Rattle.frame_select.specs.Item.{items_of, said_of};
 ghost use Rattle.frame_select.specs.Selection.{selection_of};
 ghost use Rattle.return_core.specs.Course.{is_offering};
 ghost use Rattle.return_core.specs.Standing.{StandsFor, Steps};
-ghost use Rattle.station_desk.specs.Told.{message_octets};
+ghost use Rattle.station_desk.specs.ToldBuffer.{message_octets};
 ghost use Rattle.station_desk.specs.Start.{told_desk};
 ghost use Rattle.station_desk.specs.Start as desk;
 ghost use Rattle.station_desk.specs.Cursor.{before_first, at_next, with_taken, current, terms_of};

@@ -5,7 +5,7 @@ ghost use Rattle.std.specs.List.{AllByRecursion};
 ghost use Rattle.cds_time.specs.declared.cds.Cds.{Cds};
 ghost use Rattle.isp1_tml.specs.Message.{IsMessage};
 ghost use Rattle.archive_terms.specs.Archive.{Entry, IsArchive};
-ghost use Rattle.station_desk.specs.Told.{Told, buffer_message};
+ghost use Rattle.station_desk.specs.ToldBuffer.{ToldBuffer, buffer_message};
 ghost use Rattle.station_desk.specs.Readable.{AreReadable};
 ghost use Rattle.station_desk.specs.Start.{told_desk};
 
@@ -14,7 +14,7 @@ ghost use Rattle.station_desk.specs.Start.{told_desk};
 pub fn a_start_is_read()
     ensures readable { (entries : List Entry) (first last : Cds) (quality : ℕ) → IsArchive entries
         → AreReadable (told_desk entries first last quality) }
-    ensures messages { (told : List Told) → AreReadable told
+    ensures messages { (told : List ToldBuffer) → AreReadable told
         → AllByRecursion IsMessage (map buffer_message told) }
 {
     archive_terms::laws::cut_into_buffers();

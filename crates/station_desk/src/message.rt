@@ -9,7 +9,7 @@ ghost use Rattle.return_pdu.specs.Seen as seen;
 ghost use Rattle.frame_select.specs.Item.{item_of, items_of};
 ghost use Rattle.station_desk.specs.declared.limits.TheConstants.{BUFFER_ITEMS};
 ghost use Rattle.station_desk.specs.Readable.{IsHanded};
-ghost use Rattle.station_desk.specs.Told.{item_tree, message_octets};
+ghost use Rattle.station_desk.specs.ToldBuffer.{item_tree, message_octets};
 
 use ber_core::Writer;
 use frame_select::Item;

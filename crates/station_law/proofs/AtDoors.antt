@@ -76,7 +76,8 @@ module _ (seen : DoorsSeen) (d : Doors) (c reading : ℕ) (are : AreDoors seen d
   same_free = both_free (IsOpen d.site c) (slice_get seen.connections c)
       (slice_get d.connections c) (are.at c)
 
-  pub opened_at : (v : links.Seen) (said : SaidAt) → is_free (slice_get seen.connections c) ≡ true
+  pub opened_at : (v : links.ConnectionState) (said : SaidAt) → is_free
+      (slice_get seen.connections c) ≡ true
       → IsOpen d.site c v (opened c reading) → said.c ≡ c → vec_items said.lines ≡ []
       → IsActed (Some said) d (opens d reading c (slice_get d.connections c))
       (record seen { connections = set seen.connections c (Some v) })
@@ -104,7 +105,7 @@ taken_out seen d c are = record {
   site = are.site;
   book = are.book;
   puts = λ v l stands.
-      subst (λ (vs : List (Option links.Seen)). (k : ℕ)
+      subst (λ (vs : List (Option links.ConnectionState)). (k : ℕ)
       → Match (IsThere d.site k) (slice_get vs k) (slice_get (set d.connections c l) k))
       (sym (set_twice seen.connections c None v))
       (match_set (λ k. IsThere d.site k) seen.connections d.connections c v l are.at stands);
@@ -112,7 +113,7 @@ taken_out seen d c are = record {
 
 -- a connection that was taken out is put back behind its rounds, as it is then, or isn't
 pub put_ran : (left new : DoorsSeen) (d : Doors) (c reading n : ℕ) (l : Connected)
-    (v : Option links.Seen) (book : books.State) (said : SaidAt) → AreLeft left d c
+    (v : Option links.ConnectionState) (book : books.State) (said : SaidAt) → AreLeft left d c
     → HasRan left.site c (rounds_of left.site c reading n left.book (Some l)) left.book book
     (vec_items said.lines) v → said.c ≡ c
     → new ≡ record left { book = book; connections = set left.connections c v }
@@ -132,13 +133,14 @@ put_ran left new d c reading n l v book said are ran_so c_is new_is =
     })
 
 -- a connection was at a door
-pub record IsOut (site : Site) (c : ℕ) (v : links.Seen) (at : Option (Option Connected))
+pub record IsOut (site : Site) (c : ℕ) (v : links.ConnectionState) (at : Option (Option Connected))
     : Type 0 where
   pub l : Connected
   pub so : at ≡ Some (Some l)
   pub open_so : IsOpen site c v l
 
-by_slot : (site : Site) (c : ℕ) (v : links.Seen) (seen : Option (Option links.Seen))
+by_slot : (site : Site) (c : ℕ) (v : links.ConnectionState)
+    (seen : Option (Option links.ConnectionState))
     (at : Option (Option Connected)) → Match (IsThere site c) seen at → there seen ≡ Some v
     → IsOut site c v at
 by_slot site c v None at matched is = absurd cc
@@ -150,10 +152,10 @@ by_slot site c v (Some (Some w)) (Some (Some l)) matched is =
     record {
       l = l;
       so = refl;
-      open_so = subst (λ (x : links.Seen). IsOpen site c x l) same matched;
+      open_so = subst (λ (x : links.ConnectionState). IsOpen site c x l) same matched;
     }
 
-pub is_out : (seen : DoorsSeen) (d : Doors) (c : ℕ) (v : links.Seen) → AreDoors seen d
+pub is_out : (seen : DoorsSeen) (d : Doors) (c : ℕ) (v : links.ConnectionState) → AreDoors seen d
     → Some v ≡ there (slice_get seen.connections c)
     → IsOut d.site c v (slice_get d.connections c)
 is_out seen d c v are is =
@@ -163,12 +165,13 @@ is_out seen d c v are is =
 -- ---- a line of a connection
 
 -- what comes or is ordered comes to the connection that it stands for
-ordered_open : (site : Site) (c : ℕ) (v w : links.Seen) (l : Connected) (order : Option Order)
+ordered_open : (site : Site) (c : ℕ) (v w : links.ConnectionState) (l : Connected)
+    (order : Option Order)
     → IsOpen site c v l → IsOrdered v w order → IsOpen site c w (ordered order l)
 ordered_open site c v w l None open_so is =
-    subst (λ (x : links.Seen). IsOpen site c x l) (sym is) open_so
+    subst (λ (x : links.ConnectionState). IsOpen site c x l) (sym is) open_so
 ordered_open site c v w l (Some o) open_so is =
-    subst (λ (x : links.Seen). IsOpen site c x (obeyed o l)) (sym is) (record {
+    subst (λ (x : links.ConnectionState). IsOpen site c x (obeyed o l)) (sym is) (record {
       entered = open_so.entered;
       lives = record {
         c_is = open_so.lives.c_is;
@@ -183,7 +186,7 @@ ordered_open site c v w l (Some o) open_so is =
 
 -- where a line asks something of a connection that is there, its rounds are what the line does
 pub goes : (seen left new : DoorsSeen) (d : Doors) (reading : ℕ) (turns : Turns)
-    (asks : Option Act) (v w : links.Seen) (said : Option SaidAt) → AreDoors seen d
+    (asks : Option Act) (v w : links.ConnectionState) (said : Option SaidAt) → AreDoors seen d
     → Match IsAsked (Some turns) asks → Some v ≡ there (slice_get seen.connections turns.c)
     → left ≡ record seen { connections = set seen.connections turns.c None }
     → IsObeyed v w asks

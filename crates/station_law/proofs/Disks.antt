@@ -14,7 +14,7 @@ use Rattle.disk_model.specs.declared.call.Call.{Call}
 use Rattle.disk_model.specs.declared.event.Event.TheVariants.{Restarted}
 use Rattle.disk_model.specs.declared.orders.Pick.{Pick}
 use Rattle.disk_model.specs.declared.orders.Pick.TheVariants.{Old, New, Torn}
-use Rattle.station_law.specs.Held.{IsUnsteered}
+use Rattle.station_law.specs.IsHeld.{IsUnsteered}
 
 -- a disk that runs and has no orders
 pub record IsCalm (disk : DiskState) : Type 0 where

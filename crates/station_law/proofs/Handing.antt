@@ -5,7 +5,7 @@ use Rattle.std.proofs.Common.{sym, ap, ◌∙◌, arith}
 use Rattle.std.proofs.lemmas.Bool.Decides.{nat_tests}
 use Rattle.std.proofs.lemmas.List.{drop_more, drop_all}
 use Rattle.std.specs.Result.{IsErrAnd}
-use Rattle.station_desk.specs.Told.{Told, message_octets}
+use Rattle.station_desk.specs.ToldBuffer.{ToldBuffer, message_octets}
 use Rattle.station_desk.specs.Cursor.{Cursor, at_next, current}
 use Rattle.station_law.specs.declared.stop.Stop.{Stop}
 use Rattle.station_law.specs.declared.stop.Stop.TheVariants.{Memory}
@@ -29,15 +29,15 @@ next_text old new next has =
     let same : new.buffers ≡ old.buffers = ap (λ (c : Cursor). c.buffers) next in
     let place : new.count - 1 ≡ old.count = omega (arith, count) in
     let here : current new ≡ get_or old.buffers old.count [] =
-    ap (λ (bs : List Told). get_or bs (new.count - 1) []) same
+    ap (λ (bs : List ToldBuffer). get_or bs (new.count - 1) []) same
     ∙ ap (λ (i : ℕ). get_or old.buffers i []) place in
-    ap (λ (bs : List Told). texts (map (handed 0) bs))
+    ap (λ (bs : List ToldBuffer). texts (map (handed 0) bs))
     (drop_more old.buffers old.count [] below)
-    ∙ ap (λ (b : Told). sent_text 0 (message_octets b)
+    ∙ ap (λ (b : ToldBuffer). sent_text 0 (message_octets b)
     ++ texts (map (handed 0) (drop (old.count + 1) old.buffers))) (sym here)
     ∙ ap (λ (n : ℕ). sent_text 0 (message_octets (current new))
     ++ texts (map (handed 0) (drop n old.buffers))) (sym count)
-    ∙ ap (λ (bs : List Told). sent_text 0 (message_octets (current new))
+    ∙ ap (λ (bs : List ToldBuffer). sent_text 0 (message_octets (current new))
     ++ texts (map (handed 0) (drop new.count bs))) (sym same)
 
 -- where there is none, nothing is to come
@@ -47,7 +47,7 @@ no_text old new next has =
     let none : nat_lt old.count (length old.buffers) ≡ false =
     sym (ap (λ (c : Cursor). c.has_current) next) ∙ has in
     let past : length old.buffers ≤ old.count = grind (arith, nat_tests) in
-    ap (λ (bs : List Told). texts (map (handed 0) bs)) (drop_all old.count old.buffers past)
+    ap (λ (bs : List ToldBuffer). texts (map (handed 0) bs)) (drop_all old.count old.buffers past)
 
 -- nothing more was written, for want of memory
 pub refused_before : {T : Type 0} (start now : Option (List ℕ)) (f g : ℕ) (whole rest : List ℕ)

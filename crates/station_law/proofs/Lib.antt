@@ -1,6 +1,6 @@
 pub mod Results
 pub mod Disks
-pub mod Held
+pub mod WorldArchives
 pub mod Striking
 pub mod Reopening
 pub mod Offered

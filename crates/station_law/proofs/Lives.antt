@@ -22,7 +22,7 @@ use Rattle.drill_text.specs.declared.end_word.EndWord.{EndWord}
 use Rattle.drill_text.specs.declared.script_line.ScriptLine.{ScriptLine}
 use Rattle.drill_text.specs.declared.script_line.ScriptLine.TheVariants.{Skip, Offer, Desk, Clock}
 use Rattle.drill_text.specs.declared.script_line.ScriptLine.TheVariants.{Crash, Fault, Open}
-use Rattle.session_core.specs.Session.{State as SessionState, Told as BookTold, step_events}
+use Rattle.session_core.specs.Session.{State as StateOfSession, BookAnswer as BookTold, step_events}
 use Rattle.session_core.specs.Session.{round_events}
 use Rattle.session_core.specs.Course.{is_over}
 use Rattle.station_links.specs.declared.link_line.LinkLine.{LinkLine}
@@ -38,7 +38,7 @@ use Rattle.station_law.specs.Doors.{opens}
 use Rattle.station_law.specs.Doors.{Ran, ordered, rounds_of, anew}
 use Rattle.station_desk.specs.Start.{moment}
 use Rattle.station_law.specs.State.{State}
-use Rattle.station_desk.specs.Told.{Told}
+use Rattle.station_desk.specs.ToldBuffer.{ToldBuffer}
 use Rattle.station_law.specs.Said.{linked, handed, told, refused}
 use Rattle.station_law.specs.Answer.{Answer, says, is_wrong}
 use Rattle.station_law.specs.Standing.{there}
@@ -166,7 +166,7 @@ legal_both b (e ∷ h) k first second =
 
 -- the events of rounds at a door
 module _ (site : Site) (k c : ℕ) (same : Bool) (is : (k == c) ≡ same) where
-  step_are : (s : SessionState) (over : Bool) (t : BookTold)
+  step_are : (s : StateOfSession) (over : Bool) (t : BookTold)
       → Are same c (step_events site k s (if over then None else Some t))
   step_are s true t = tt
   step_are s false t = (is, tt)
@@ -190,7 +190,7 @@ module _ (site : Site) (k c : ℕ) (same : Bool) (is : (k == c) ≡ same) where
       (rounds_are reading n (replay b o.events) o.next)
 
 -- they are legal
-step_legal : (site : Site) (k reading : ℕ) (s : SessionState) (b : books.State) (over : Bool)
+step_legal : (site : Site) (k reading : ℕ) (s : StateOfSession) (b : books.State) (over : Bool)
     → IsLegal b (step_events site k s (if over then None else Some (told_now site k s b reading)))
 step_legal site k reading s b true = tt
 step_legal site k reading s b false = (refl, tt)
@@ -225,7 +225,7 @@ said_elsewhere : (k c : ℕ) (lines : List LinkLine) → (k == c) ≡ false
 said_elsewhere k c [] other = refl
 said_elsewhere k c (line ∷ lines) other = rw other (said_elsewhere k c lines other)
 
-handed_elsewhere : (c : ℕ) (buffers : List Told) → said_at c (map (handed 0) buffers) ≡ []
+handed_elsewhere : (c : ℕ) (buffers : List ToldBuffer) → said_at c (map (handed 0) buffers) ≡ []
 handed_elsewhere c [] = refl
 handed_elsewhere c (buffer ∷ buffers) = handed_elsewhere c buffers
 

@@ -11,10 +11,10 @@ use Rattle.disk_model.specs.Calls.{AllMade}
 use Rattle.disk_model.specs.MemoryDisk.{DiskState, IsMadeCall, content_of, restarted}
 use Rattle.disk_model.specs.declared.call.Call.TheVariants.{Sync}
 use Rattle.gate_journal.specs.File.{StandsAt}
-use Rattle.gate_journal.specs.Kept.{holds_batch, IsOldOrNew}
+use Rattle.gate_journal.specs.JournalState.{holds_batch, IsOldOrNew}
 use Rattle.frame_archive.specs.State as archives
 use Rattle.frame_archive.specs.State.{ArchiveState, at_rest, times_of, failed_batch}
-use Rattle.frame_archive.specs.Held.{Acknowledges, Uses}
+use Rattle.frame_archive.specs.Acknowledges.{Acknowledges, Uses}
 use Rattle.station_law.specs.declared.order.Order.{Order}
 use Rattle.station_law.specs.declared.order.Strike.{Strike}
 use Rattle.station_law.specs.declared.order.Strike.TheVariants.{Fail}
@@ -25,10 +25,10 @@ use Rattle.station_law.specs.Said as notices
 use Rattle.station_law.specs.Answer.{Answer}
 use Rattle.station_law.specs.Orders.{is_hit, behind_store, leaves_entry, found}
 use Rattle.station_law.specs.Entries.{used, stores, fails, struck, stores_under}
-use Rattle.station_law.specs.Held.{told_by, Rests, Takes, HoldsAllOrNone}
+use Rattle.station_law.specs.IsHeld.{told_by, Rests, Takes, HoldsAllOrNone}
 use Rattle.station_law.specs.Storing.{IsDown, HasFailed, IsStruck, IsSettled}
 use Rattle.station_law.proofs.Disks.{IsCalm, calm_after, restarted_by}
-use Rattle.station_law.proofs.Held.{stands_at}
+use Rattle.station_law.proofs.WorldArchives.{stands_at}
 use Rattle.station_law.proofs.Striking.{OneList}
 
 -- a file's gate stands at one place

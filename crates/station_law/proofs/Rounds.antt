@@ -50,12 +50,12 @@ pub replay-append : (b : books.State) (e f : List Event)
 replay-append b e f = fold-append then_after b e f
 
 -- a connection is left, or isn't
-record IsLeft (b : Began) (v : links.Seen) (o : Option Connected) : Type 0 where
+record IsLeft (b : Began) (v : links.ConnectionState) (o : Option Connected) : Type 0 where
   l : Connected
   so : o ≡ Some l
   lives : Lives b v l
 
-left_there : (b : Began) (v : links.Seen) (o : Option Connected) → AreLeft b (Some v) o
+left_there : (b : Began) (v : links.ConnectionState) (o : Option Connected) → AreLeft b (Some v) o
     → IsLeft b v o
 left_there b v None left = absurd left
 left_there b v (Some l) left = record { l = l; so = refl; lives = left }
@@ -75,7 +75,7 @@ module _ (site : Site) (c reading n : ℕ) (first : books.State) (l₀ : Connect
   whole = rounds_of site c reading n first (Some l₀)
 
   -- some of them were made, and so many are left
-  pub record Going (left : ℕ) (b : books.State) (said : List LinkLine) (v : links.Seen)
+  pub record Going (left : ℕ) (b : books.State) (said : List LinkLine) (v : links.ConnectionState)
       : Type 0 where
     pub l : Connected
     pub open_so : IsOpen site c v l
@@ -83,7 +83,8 @@ module _ (site : Site) (c reading n : ℕ) (first : books.State) (l₀ : Connect
     pub book : b ≡ replay first events
     pub is : whole ≡ behind said events (rounds_of site c reading left b (Some l))
 
-  pub begin : (v : links.Seen) (left : ℕ) → n ≡ left → IsOpen site c v l₀ → Going left first [] v
+  pub begin : (v : links.ConnectionState) (left : ℕ) → n ≡ left → IsOpen site c v l₀
+      → Going left first [] v
   begin v left all open_so = subst (λ (m : ℕ). Going m first [] v) all (record {
     l = l₀;
     open_so = open_so;
@@ -93,8 +94,8 @@ module _ (site : Site) (c reading n : ℕ) (first : books.State) (l₀ : Connect
   })
 
   -- all of them were made
-  pub done : (b : books.State) (said : List LinkLine) (v : links.Seen) → Going zero b said v
-      → HasRan site c whole first b said (Some v)
+  pub done : (b : books.State) (said : List LinkLine) (v : links.ConnectionState)
+      → Going zero b said v → HasRan site c whole first b said (Some v)
   done b said v so_far =
       subst (λ (ran : Ran). HasRan site c ran first b said (Some v))
       (sym (so_far.is ∙ behind-none (rounds_of site c reading zero b (Some so_far.l)) said
@@ -102,8 +103,9 @@ module _ (site : Site) (c reading n : ℕ) (first : books.State) (l₀ : Connect
       (record { says = refl; book_is = so_far.book; leaves = so_far.open_so })
 
   -- a round more
-  module _ (left : ℕ) (b after : books.State) (said more : List LinkLine) (v : links.Seen)
-      (o : Option links.Seen) (so_far : Going (suc left) b said v)
+  module _ (left : ℕ) (b after : books.State) (said more : List LinkLine)
+      (v : links.ConnectionState)
+      (o : Option links.ConnectionState) (so_far : Going (suc left) b said v)
       (turn : (x : Began) (l : Connected) → x.site ≡ site → Lives x v l
       → Turned x (round_of x.site x.door l b reading) b after more o) where
     made : Outcome
@@ -140,11 +142,11 @@ module _ (site : Site) (c reading n : ℕ) (first : books.State) (l₀ : Connect
         (rounds_of site c reading left after next)
 
     -- the connection is there still
-    pub goes_on : (w : links.Seen) → o ≡ Some w → Going left after (said ++ more) w
+    pub goes_on : (w : links.ConnectionState) → o ≡ Some w → Going left after (said ++ more) w
     unfolding of
     goes_on w is =
         let there = left_there of w made.next
-        (subst (λ (x : Option links.Seen). AreLeft of x made.next) is turned.leaves) in
+        (subst (λ (x : Option links.ConnectionState). AreLeft of x made.next) is turned.leaves) in
         record {
           l = there.l;
           open_so = record { entered = so_far.open_so.entered; lives = there.lives };
@@ -157,7 +159,7 @@ module _ (site : Site) (c reading n : ℕ) (first : books.State) (l₀ : Connect
     pub over : o ≡ None → HasRan site c whole first after (said ++ more) None
     over is =
         let none = left_none of made.next
-        (subst (λ (x : Option links.Seen). AreLeft of x made.next) is turned.leaves) in
+        (subst (λ (x : Option links.ConnectionState). AreLeft of x made.next) is turned.leaves) in
         subst (λ (ran : Ran). HasRan site c ran first after (said ++ more) None)
         (sym (rest_is None none
         ∙ ap (behind (said ++ more) events_on) (gone site c reading left after)

@@ -16,18 +16,19 @@ use Rattle.disk_model.specs.declared.orders.Orders.{Orders}
 use Rattle.disk_model.specs.declared.orders.Pick.{Pick}
 use Rattle.disk_model.specs.declared.orders.Stop as disks
 use Rattle.gate_journal.specs.File.{IsBatch, StandsAt, StandsFor}
-use Rattle.gate_journal.specs.Kept.{Keeps, IsAtRest, IsToStop, StopsIn, IsToFail, FailsIn, HasBatch}
-use Rattle.gate_journal.specs.Kept.{appending, leaves_batch, holds_batch, IsOldOrNew}
+use Rattle.gate_journal.specs.JournalState.{Keeps, IsAtRest, IsToStop, StopsIn, IsToFail, FailsIn}
+use Rattle.gate_journal.specs.JournalState.{HasBatch}
+use Rattle.gate_journal.specs.JournalState.{appending, leaves_batch, holds_batch, IsOldOrNew}
 use Rattle.frame_archive.specs.State.{ArchiveState, with_failed}
-use Rattle.frame_archive.specs.Held.{Acknowledges}
+use Rattle.frame_archive.specs.Acknowledges.{Acknowledges}
 use Rattle.station_law.specs.declared.order.Order.{Order}
 use Rattle.station_law.specs.declared.order.Strike.{Strike}
 use Rattle.station_law.specs.declared.order.Strike.TheVariants.{Stop, Fail}
 use Rattle.station_law.specs.Entries.{used}
-use Rattle.station_law.specs.Held.{told_by, Rests, Takes, Waits, HoldsAllOrNone}
+use Rattle.station_law.specs.IsHeld.{told_by, Rests, Takes, Waits, HoldsAllOrNone}
 use Rattle.station_law.specs.Storing.{no_orders, stop_at, orders_by, IsDown, HasFailed, IsStruck}
 use Rattle.station_law.proofs.Disks.{restart_keeps, unsteered_by, at_end}
-use Rattle.station_law.proofs.Held.{stands_at, steered_still}
+use Rattle.station_law.proofs.WorldArchives.{stands_at, steered_still}
 
 -- ---- laws of appends
 

@@ -13,11 +13,11 @@ use Rattle.disk_model.specs.Images.{Pending}
 use Rattle.disk_model.specs.Calls.{AllMade}
 use Rattle.disk_model.specs.MemoryDisk.{DiskState, IsMadeCall, pending_of, fresh}
 use Rattle.disk_model.specs.declared.call.Call.TheVariants.{Sync}
-use Rattle.gate_journal.specs.Kept.{Keeps, IsOldOrNew, creating}
+use Rattle.gate_journal.specs.JournalState.{Keeps, IsOldOrNew, creating}
 use Rattle.gate_journal.specs.File.{StandsAt, StandsFor}
 use Rattle.gate_journal.specs.declared.order.Times.{Times}
 use Rattle.frame_archive.specs.State.{ArchiveState, at_rest, times_of, times_after}
-use Rattle.frame_archive.specs.Held.{Acknowledges, Uses}
+use Rattle.frame_archive.specs.Acknowledges.{Acknowledges, Uses}
 use Rattle.station_law.specs.declared.order.Order.{Order}
 use Rattle.station_law.specs.declared.refusal.Refusal.{Refusal}
 use Rattle.station_law.specs.declared.step_done.StepDone.TheVariants.{Fine}
@@ -25,10 +25,10 @@ use Rattle.station_law.specs.Store.{Store}
 use Rattle.station_law.specs.Answer.{Answer}
 use Rattle.station_law.specs.Orders.{is_hit, order_behind}
 use Rattle.station_law.specs.Entries.{refusal, crashes, stores_under, by_refusal, offer}
-use Rattle.station_law.specs.Held.{told_by, Rests, HoldsAllOrNone, begun_list, IsHeld}
+use Rattle.station_law.specs.IsHeld.{told_by, Rests, HoldsAllOrNone, begun_list, IsHeld}
 use Rattle.station_law.specs.Stopped.{IsLeft}
 use Rattle.station_law.proofs.Disks.{IsCalm, calm_after}
-use Rattle.station_law.proofs.Held.{AtRestStands, none_stored, alone, empty_place}
+use Rattle.station_law.proofs.WorldArchives.{AtRestStands, none_stored, alone, empty_place}
 use Rattle.station_law.proofs.Reopening.{one_more}
 use Rattle.station_law.proofs.Offered.{stored_by}
 

@@ -13,7 +13,7 @@ use Rattle.archive_terms.specs.Rounds.{to_hand_over}
 use Rattle.archive_terms.specs.Continuity.{told_items, told_buffers, last_frame}
 use Rattle.station_desk.specs.Start.{moment}
 use Rattle.station_law.specs.Store.{Store}
-use Rattle.station_desk.specs.Told.{Told}
+use Rattle.station_desk.specs.ToldBuffer.{ToldBuffer}
 use Rattle.station_law.specs.Said.{Handed, told, refused, handed, handed_by}
 use Rattle.station_law.specs.Said.{begun, buffers_handed, told_once, buffers_told}
 use Rattle.station_law.specs.Answer.{says}
@@ -51,7 +51,7 @@ items_told entries before (buffer ∷ buffers) =
     ∙ ap (λ rest. buffer ∷ rest) (items_told entries (last_frame before buffer) buffers)
 
 -- a START of the desk that has handed over some buffers hands over more
-hands_more : (t : Terms) (some more : List Told) (earlier : List Handed)
+hands_more : (t : Terms) (some more : List ToldBuffer) (earlier : List Handed)
     → handed_by (record { connection = 0; terms = t; buffers = some } ∷ earlier)
     (map (handed 0) more)
     ≡ record { connection = 0; terms = t; buffers = some ++ more } ∷ earlier
@@ -63,7 +63,7 @@ hands_more t some (one ∷ more) earlier =
     (append_assoc some (one ∷ []) more)
 
 -- each buffer is told
-count_told : (buffers : List Told) → buffers_told (map (handed 0) buffers) ≡ length buffers
+count_told : (buffers : List ToldBuffer) → buffers_told (map (handed 0) buffers) ≡ length buffers
 count_told [] = refl
 count_told (buffer ∷ buffers) =
     let sum = sum_by-cons told_once (handed 0 buffer) (map (handed 0) buffers) in

@@ -5,7 +5,7 @@ use Rattle.std.proofs.Common.{IsTrue, List, [], ◌∷◌, ◌++◌, refl, sym, 
 use Rattle.std.proofs.lemmas.List.{append-nil}
 use Rattle.archive_terms.specs.Archive.{Entry, is_archive, IsArchive, is_valid, is_short}
 use Rattle.archive_terms.specs.Archive.{keeps_order, may_follow}
-use Rattle.gate_journal.specs.Kept.{leaves_batch, holds_batch}
+use Rattle.gate_journal.specs.JournalState.{leaves_batch, holds_batch}
 use Rattle.station_law.specs.declared.order.Order.{Order}
 use Rattle.station_law.specs.declared.order.Strike.{Strike}
 use Rattle.station_law.specs.declared.order.Strike.TheVariants.{Stop, Fail}

@@ -16,7 +16,7 @@ pub mod Power
 pub mod PowerFacts
 pub mod Desk
 pub mod DeskFacts
-pub mod Held
+pub mod IsHeld
 pub mod Storing
 pub mod Stopped
 pub mod Standing

@@ -5,7 +5,7 @@ use Rattle.std.specs.Prelude.{◌++◌}
 use Rattle.archive_terms.specs.Archive.{Entry}
 use Rattle.disk_model.specs.declared.orders.Pick.{Pick}
 use Rattle.disk_model.specs.declared.orders.Pick.TheVariants as picks
-use Rattle.gate_journal.specs.Kept.{leaves_batch, holds_batch}
+use Rattle.gate_journal.specs.JournalState.{leaves_batch, holds_batch}
 use Rattle.drill_text.specs.declared.pick.Pick as words
 use Rattle.drill_text.specs.declared.pick.Pick.TheVariants.{Old, New, Torn}
 use Rattle.station_law.specs.declared.order.Order.{Order}

@@ -3,13 +3,13 @@
 use Rattle.std.specs.Prelude.{ℕ, ◌==◌, if◌then◌else◌, List, [], ◌∷◌, ◌++◌, length}
 use Rattle.std.specs.List.{flat_map, sum_by}
 use Rattle.archive_terms.specs.Delivery.{Terms}
-use Rattle.station_desk.specs.Told.{Told, message_octets}
+use Rattle.station_desk.specs.ToldBuffer.{ToldBuffer, message_octets}
 use Rattle.words.specs.Line as line
 use Rattle.words.specs.Table.{Says}
 use Rattle.drill_text.specs.Transcript.{transcript, lines, sent}
 use Rattle.drill_text.specs.Transcript as forms
 use Rattle.station_links.specs.declared.link_line.LinkLine.{LinkLine}
-use Rattle.station_links.specs.Said as links
+use Rattle.station_links.specs.LinkLines as links
 
 -- a line of the transcript that hands nothing over: why an entry or a START is refused; that a
 -- store failed; that the power did; and how many entries the archive has once it is opened again
@@ -37,7 +37,7 @@ pub data Said : Type 0 where
   told : Notice → Said
   linked : ℕ → LinkLine → Said
   begun : ℕ → Terms → Said
-  handed : ℕ → Told → Said
+  handed : ℕ → ToldBuffer → Said
 
 -- a line of the transcript, with its end
 abbrev pub line_text : Says transcript → List ℕ
@@ -61,10 +61,10 @@ texts said = flat_map text_of said
 pub record Handed : Type 0 where
   pub connection : ℕ
   pub terms : Terms
-  pub buffers : List Told
+  pub buffers : List ToldBuffer
 
 -- the last START of a connection has handed over one buffer more
-abbrev pub with_buffer : ℕ → Told → List Handed → List Handed
+abbrev pub with_buffer : ℕ → ToldBuffer → List Handed → List Handed
 with_buffer connection buffer [] = []
 with_buffer connection buffer (last ∷ earlier) =
     if last.connection == connection

@@ -8,7 +8,7 @@ use Rattle.archive_terms.specs.Delivery.{Item}
 use Rattle.archive_terms.specs.Rounds.{to_hand_over}
 use Rattle.archive_terms.specs.Continuity.{told_buffers}
 use Rattle.station_law.specs.Store.{Store}
-use Rattle.station_desk.specs.Told.{Told}
+use Rattle.station_desk.specs.ToldBuffer.{ToldBuffer}
 use Rattle.station_law.specs.Said.{Handed, handed_by, buffers_handed, buffers_told}
 use Rattle.station_law.specs.Answer.{Answer}
 
@@ -29,7 +29,7 @@ Moves true before given after = (count : ℕ) × (after ≡ before ++ take count
 Moves false before given after = after ≡ before ++ given
 
 -- the items of buffers, one after another, without what is told of them
-abbrev pub items_of : List Told → List (List Item)
+abbrev pub items_of : List ToldBuffer → List (List Item)
 items_of buffers = map (λ buffer. map (λ x. x.0) buffer) buffers
 
 abbrev pub handed_items : Handed → List Item

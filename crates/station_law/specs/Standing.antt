@@ -23,10 +23,10 @@ use Rattle.station_law.specs.Answer.{Answer}
 pub record DoorsSeen : Type 0 where
   pub site : Site
   pub book : books.State
-  pub connections : List (Option links.Seen)
+  pub connections : List (Option links.ConnectionState)
 
 -- a connection stands so: it was opened at some moment
-pub record IsOpen (site : Site) (c : ℕ) (v : links.Seen) (l : Connected) : Type 0 where
+pub record IsOpen (site : Site) (c : ℕ) (v : links.ConnectionState) (l : Connected) : Type 0 where
   pub entered : ℕ
   pub lives : Lives (began site c entered) v l
 
@@ -38,7 +38,7 @@ Match Stand None (Some b) = ⊥
 Match Stand (Some a) None = ⊥
 
 -- what is at a door
-abbrev pub IsThere : Site → ℕ → Option links.Seen → Option Connected → Type 0
+abbrev pub IsThere : Site → ℕ → Option links.ConnectionState → Option Connected → Type 0
 IsThere site c seen there = Match (IsOpen site c) seen there
 
 pub record AreDoors (seen : DoorsSeen) (d : Doors) : Type 0 where
@@ -54,17 +54,17 @@ abbrev pub IsAsked : Turns → Act → Type 0
 IsAsked turns a = (turns.c ≡ a.c) × (turns.rounds ≡ a.rounds)
 
 -- what comes or is ordered at a connection's link is there, and nothing else of it changes
-abbrev pub IsOrdered : links.Seen → links.Seen → Option Order → Type 0
+abbrev pub IsOrdered : links.ConnectionState → links.ConnectionState → Option Order → Type 0
 IsOrdered old new None = new ≡ old
 IsOrdered old new (Some o) = new ≡ with_steering old (order_in o old.steering)
 
-abbrev pub IsObeyed : links.Seen → links.Seen → Option Act → Type 0
+abbrev pub IsObeyed : links.ConnectionState → links.ConnectionState → Option Act → Type 0
 IsObeyed old new None = Unit {0}
 IsObeyed old new (Some a) = IsOrdered old new a.order
 
 -- rounds said exactly this, and left the book and the connection exactly so
 pub record HasRan (site : Site) (c : ℕ) (ran : Ran) (before after : books.State)
-    (said : List LinkLine) (left : Option links.Seen) : Type 0 where
+    (said : List LinkLine) (left : Option links.ConnectionState) : Type 0 where
   pub says : said ≡ ran.said
   pub book_is : after ≡ replay before ran.events
   pub leaves : IsThere site c left ran.left
@@ -94,7 +94,7 @@ IsActed said d (Some a) new = IsSomeAnd said (λ s. HasActed s d a new)
 pub record AreLeft (seen : DoorsSeen) (d : Doors) (c : ℕ) : Type 0 where
   pub site : seen.site ≡ d.site
   pub book : seen.book ≡ d.book
-  pub puts : (v : Option links.Seen) (l : Option Connected) → IsThere d.site c v l
+  pub puts : (v : Option links.ConnectionState) (l : Option Connected) → IsThere d.site c v l
       → (k : ℕ) → Match (IsThere d.site k) (slice_get (slice_set seen.connections c v) k)
       (slice_get (slice_set d.connections c l) k)
 

@@ -4,7 +4,7 @@ use Rattle.archive_terms.specs.Archive.{Entry}
 use Rattle.disk_model.specs.Images.{IsImage}
 use Rattle.disk_model.specs.MemoryDisk.{DiskState, pending_of}
 use Rattle.gate_journal.specs.File.{StandsFor}
-use Rattle.gate_journal.specs.Kept.{IsOldOrNew}
+use Rattle.gate_journal.specs.JournalState.{IsOldOrNew}
 use Rattle.station_law.specs.Store.{Store, Recorded}
 use Rattle.station_law.specs.Answer.{Answer}
 

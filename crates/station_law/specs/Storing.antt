@@ -6,9 +6,9 @@ use Rattle.disk_model.specs.MemoryDisk.{DiskState, restarted, content_of}
 use Rattle.disk_model.specs.declared.orders.Orders.{Orders}
 use Rattle.disk_model.specs.declared.orders.Pick.{Pick}
 use Rattle.gate_journal.specs.File.{StandsAt}
-use Rattle.gate_journal.specs.Kept.{HasBatch, leaves_batch, holds_batch}
+use Rattle.gate_journal.specs.JournalState.{HasBatch, leaves_batch, holds_batch}
 use Rattle.frame_archive.specs.State.{ArchiveState}
-use Rattle.frame_archive.specs.Held.{Acknowledges}
+use Rattle.frame_archive.specs.Acknowledges.{Acknowledges}
 use Rattle.station_law.specs.declared.order.Order.{Order}
 use Rattle.station_law.specs.declared.order.Strike.{Strike}
 use Rattle.station_law.specs.declared.order.Strike.TheVariants.{Stop, Fail}
@@ -18,7 +18,7 @@ use Rattle.station_law.specs.Store.{Store}
 use Rattle.station_law.specs.Said.{Said, told, crash, fault}
 use Rattle.station_law.specs.Said as notices
 use Rattle.station_law.specs.Entries.{used, opened, stores_under}
-use Rattle.station_law.specs.Held.{told_by, IsUnsteered, Rests, Takes}
+use Rattle.station_law.specs.IsHeld.{told_by, IsUnsteered, Rests, Takes}
 
 -- ---- what the disk is told
 

@@ -17,18 +17,18 @@ const DESK: u32 = 0;
 /// Answers a START of the desk that isn't refused: hands its buffers over.
 pub fn answer_start<L: Looks, O: Sink>(
     alloc: Global,
-    published: &L,
+    archive: &L,
     start: &Cds,
     stop: &Cds,
     quality: u8,
     output: &mut O,
 ) -> Result<(), Stop>
-    requires { IsArchive (L.entries published.now) }
+    requires { IsArchive (L.entries archive.now) }
     ensures { Wrote (O.written output.old) (O.written output.new)
         (O.faults output.old) (O.faults output.new)
-        (texts (said_at_start (L.entries published.now) start.now stop.now quality)) result }
+        (texts (said_at_start (L.entries archive.now) start.now stop.now quality)) result }
 {
-    let mut buffers = Buffers::of_start(alloc, published, start, stop, quality)?;
+    let mut buffers = Buffers::of_start(alloc, archive, start, stop, quality)?;
     while buffers.advance()? {
         let message = buffers.message()?;
         put_sent(alloc, DESK, message.octets(), output)?;

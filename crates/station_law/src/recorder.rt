@@ -45,7 +45,7 @@ pub struct Recorder {
 
 impl Model for Recorder {
     ghost use Rattle.station_law.specs.Store.{Recorded};
-    ghost use Rattle.station_law.specs.Held.{IsHeld, begun_list};
+    ghost use Rattle.station_law.specs.IsHeld.{IsHeld, begun_list};
 
     ghost Value = { Recorded };
 
@@ -191,25 +191,25 @@ impl Recorder {
 }
 
 // Publishes what the archive has acknowledged of the entry that was stored.
-fn publish(published: &mut Entries, settled: Settled, entry: Entry) -> Result<Outcome, Memory>
-    ensures published { OnOk result (published.new
-        ≡ published_by settled published.old (entry_of entry)) }
-    ensures said { IfOk result (λ outcome. said_of outcome ≡ said_by settled) }
+fn publish(archive: &mut Entries, fate: Settled, entry: Entry) -> Result<Outcome, Memory>
+    ensures published { OnOk result (archive.new
+        ≡ published_by fate archive.old (entry_of entry)) }
+    ensures said { IfOk result (λ outcome. said_of outcome ≡ said_by fate) }
     ensures done { IfOk result (λ outcome. done_of outcome ≡ StepDone.Fine) }
-    ensures err { OnErr result (published.new ≡ published.old) }
+    ensures err { OnErr result (archive.new ≡ archive.old) }
 {
-    match settled {
+    match fate {
         Settled::Stored => {
-            push(published, entry)?;
+            push(archive, entry)?;
             Ok(Outcome::Stored)
         }
         Settled::Crashed(found) => {
             let entries = found.len() as u64;
-            *published = found;
+            *archive = found;
             Ok(Outcome::Crashed { entries })
         }
         Settled::Failed { entries } => {
-            push(published, entry)?;
+            push(archive, entry)?;
             Ok(Outcome::Failed { entries })
         }
     }

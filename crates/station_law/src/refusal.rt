@@ -3,7 +3,7 @@ ghost use Rattle.std.specs.Prelude.{◌≡◌, IfOk, OnErr};
 ghost use Rattle.drill_text.specs.Transcript.{said};
 ghost use Rattle.frame_archive.specs.declared.fault.OfferFault.TheVariants as OfferFault;
 ghost use Rattle.station_law.specs.Entries.{notice_of, done_of};
-ghost use Rattle.station_law.specs.Held.{fault_of, IsOfOffer};
+ghost use Rattle.station_law.specs.IsHeld.{fault_of, IsOfOffer};
 ghost use Rattle.station_law.specs.Said.{says_of};
 
 use crate::step_done::StepDone;

@@ -6,11 +6,11 @@ ghost use Rattle.std.specs.Prelude.{IfSome, IsTrue, if◌then◌else◌, length,
 ghost use Rattle.archive_terms.specs.Archive.{Entry, is_valid};
 ghost use Rattle.archive_terms.specs.Archive as terms;
 ghost use Rattle.record_form.specs.Entry.{entry_of};
-ghost use Rattle.gate_journal.specs.Kept.{holds_batch};
+ghost use Rattle.gate_journal.specs.JournalState.{holds_batch};
 ghost use Rattle.station_law.specs.Store.{Store};
 ghost use Rattle.station_law.specs.Orders.{is_hit};
 ghost use Rattle.frame_archive.specs.declared.fault.OfferFault.TheVariants as OfferFault;
-ghost use Rattle.station_law.specs.Held.{Rests, Waits, Takes, HoldsAllOrNone};
+ghost use Rattle.station_law.specs.IsHeld.{Rests, Waits, Takes, HoldsAllOrNone};
 ghost use Rattle.station_law.specs.Storing.{IsDown, HasFailed, IsStruck, IsSettled, with_entry};
 
 use crate::order::{Order, Strike, no_orders, stop_at_once};

@@ -5,7 +5,7 @@ use Rattle.std.proofs.lemmas.List.{take_more}
 use Rattle.std.proofs.lemmas.List.Elements.{filter_map-append}
 use Rattle.link_model.specs.declared.call.Call.{Call}
 use Rattle.station_links.specs.declared.link_line.LinkLine.{LinkLine}
-use Rattle.station_links.specs.Said.{line_in, lines_in}
+use Rattle.station_links.specs.LinkLines.{line_in, lines_in}
 
 pub lines_more : (calls : List Call) (i : ℕ) (call : Call) (before after : List LinkLine)
     → i < length calls → call ≡ get_or calls i call → before ≡ lines_in (take i calls)

@@ -12,7 +12,7 @@ use Rattle.session_core.specs.declared.course.Course.{Course}
 use Rattle.session_core.specs.declared.course.Course.TheVariants as course
 use Rattle.session_core.specs.declared.spoken.Spoken.TheVariants.{Going}
 use Rattle.session_core.specs.Course.{is_over}
-use Rattle.session_core.specs.Kept.{Kept}
+use Rattle.session_core.specs.SessionState.{SessionState}
 use Rattle.session_core.specs.Outcome.{come_to}
 use Rattle.session_core.specs.Session.{State, Round, IsRound, after_round, round_calls}
 use Rattle.session_core.specs.Session.{round_events, spoken_of}
@@ -20,12 +20,12 @@ use Rattle.session_core.specs.Lists.{Began, StandsAt, to_listen, start_of, state
 use Rattle.session_core.specs.Laws.{NoRoundYet, OneRoundMore}
 use Rattle.station_links.specs.Connected.{Connected, after_calls, AreLed, Leads}
 use Rattle.station_links.specs.Rounds.{round_at, stands_after}
-use Rattle.station_links.specs.Lives.{Seen, Lives}
+use Rattle.station_links.specs.Lives.{ConnectionState, Lives}
 use Rattle.station_links.proofs.Turning.{round_is}
 
 -- ---- as it is opened
 
-pub begins : NoRoundYet → (b : Began) (v : Seen) (l : Connected) → v.c ≡ b.door
+pub begins : NoRoundYet → (b : Began) (v : ConnectionState) (l : Connected) → v.c ≡ b.door
     → v.steering ≡ l.steering → l.state ≡ start_of b → StandsAt to_listen b v.session [] []
     → Lives b v l
 begins law b v l c_is steering state stands =
@@ -45,7 +45,7 @@ begins law b v l c_is steering state stands =
 
 -- A round made these calls, and left the session and the steering so.
 pub record Behind (b : Began) (l : Connected) (before after : book.State) (reading c : ℕ)
-    (calls : List Call) (new : Kept) (now : Steering) (r : Round) : Type 0 where
+    (calls : List Call) (new : SessionState) (now : Steering) (r : Round) : Type 0 where
   pub calls_are : calls ≡ round_calls b.site l.state r
   pub legal : IsLegal before (round_events b.site b.door l.state r)
   pub book_is : after ≡ replay before (round_events b.site b.door l.state r)
@@ -70,9 +70,9 @@ going_is_here course.LinkFailing e = refl
 going_is_here course.LinkFailed e = absurd (cc)
 going_is_here course.Spent e = refl
 
-pub behind : (law : OneRoundMore) (b : Began) (l : Connected) (v : Seen) (site : Site)
+pub behind : (law : OneRoundMore) (b : Began) (l : Connected) (v : ConnectionState) (site : Site)
     (reading : ℕ) (before after : book.State) (told : Option (List Call)) (calls : List Call)
-    (new : Kept) (now : Steering) → b.site ≡ site → Lives b v l
+    (new : SessionState) (now : Steering) → b.site ≡ site → Lives b v l
     → GoesRound site reading (Some []) told before after v.session new
     → Leads v.steering told now → told ≡ Some calls
     → Behind b l before after reading v.c calls new now

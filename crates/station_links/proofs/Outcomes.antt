@@ -9,15 +9,15 @@ use Rattle.station_book.specs.History.{IsLegal, replay, then_after}
 use Rattle.drill_text.specs.declared.end_word.EndWord.{EndWord}
 use Rattle.session_core.specs.declared.spoken.Spoken.{Spoken}
 use Rattle.session_core.specs.declared.spoken.Spoken.TheVariants as spoken
-use Rattle.session_core.specs.Kept.{Kept}
+use Rattle.session_core.specs.SessionState.{SessionState}
 use Rattle.session_core.specs.Outcome.{come_to}
 use Rattle.session_core.specs.Session.{Round, round_calls, round_events}
 use Rattle.session_core.specs.Lists.{Began}
 use Rattle.station_links.specs.declared.link_line.LinkLine.{LinkLine}
-use Rattle.station_links.specs.Said.{lines_in, end_of, end_lines}
+use Rattle.station_links.specs.LinkLines.{lines_in, end_of, end_lines}
 use Rattle.station_links.specs.Connected.{Connected}
 use Rattle.station_links.specs.Rounds.{quits, left_by, stands_after, end_after, outcome_of}
-use Rattle.station_links.specs.Lives.{Seen, Lives, AreLeft, Turned}
+use Rattle.station_links.specs.Lives.{ConnectionState, Lives, AreLeft, Turned}
 use Rattle.station_links.proofs.Living.{Behind}
 
 none_going : (s : Spoken) → end_of s ≡ None → s ≡ spoken.Going
@@ -43,7 +43,7 @@ quits_legal door s (Some why) = (refl, tt)
 
 -- ---- what is left
 
-left_lives : (end : Option EndWord) (b : Began) (v : Seen) (l : Connected)
+left_lives : (end : Option EndWord) (b : Began) (v : ConnectionState) (l : Connected)
     → (end ≡ None → Lives b v l) → AreLeft b (left_by end v) (left_by end l)
 left_lives None b v l h = h refl
 left_lives (Some why) b v l h = tt
@@ -51,8 +51,8 @@ left_lives (Some why) b v l h = tt
 -- ---- a round said so, and left so
 
 pub turned : (b : Began) (l : Connected) (before mid after : book.State) (reading c : ℕ)
-    (calls : List Call) (new : Kept) (now : Steering) (r : Round) (said : List LinkLine)
-    (left : Option Seen) (came : Spoken) (end : Option EndWord)
+    (calls : List Call) (new : SessionState) (now : Steering) (r : Round) (said : List LinkLine)
+    (left : Option ConnectionState) (came : Spoken) (end : Option EndWord)
     → Behind b l before mid reading c calls new now r → c ≡ b.door → came ≡ come_to new
     → end ≡ end_of came → said ≡ lines_in calls ++ end_lines end
     → after ≡ replay mid (quits c mid end)
@@ -62,7 +62,7 @@ turned b l before mid after reading c calls new now r said left came end behind 
     said_is quitted left_is =
     let own = round_calls b.site l.state r in
     let asked = round_events b.site b.door l.state r in
-    let v : Seen = record { c = c; session = new; steering = now } in
+    let v : ConnectionState = record { c = c; session = new; steering = now } in
     let e : end ≡ end_after b.site l r = ended ∙ ap end_of (so ∙ behind.come) in
     let last = quits b.door (replay before asked) (end_after b.site l r) in
     record {
@@ -80,7 +80,7 @@ turned b l before mid after reading c calls new now r said left came end behind 
           replay (replay before asked) (quits b.door (replay before asked) x)) e
           ∙ sym (replay_both before asked last);
       leaves =
-          subst (λ (x : Option Seen). AreLeft b x (left_by (end_after b.site l r)
+          subst (λ (x : Option ConnectionState). AreLeft b x (left_by (end_after b.site l r)
           (stands_after b.site l r))) (sym left_is)
           (subst (λ (x : Option EndWord).
           AreLeft b (left_by end v) (left_by x (stands_after b.site l r))) e

@@ -17,12 +17,13 @@ use Rattle.station_book.specs.History.{replay, event_at}
 use Rattle.drill_text.specs.declared.end_word.EndWord.{EndWord}
 use Rattle.session_core.specs.Course.{is_over}
 use Rattle.session_core.specs.Steps.{waits, may_poll, may_speak}
-use Rattle.session_core.specs.Session.{State, Round, Told, next_of, cleared, poll_space, stepped}
+use Rattle.session_core.specs.Session.{State, Round, BookAnswer, next_of, cleared, poll_space}
+use Rattle.session_core.specs.Session.{stepped}
 use Rattle.session_core.specs.Session.{IsArrival, IsHeard, AreOctets, IsRound, after_round}
 use Rattle.session_core.specs.Session.{round_calls, round_events, session_calls, session_events}
 use Rattle.session_core.specs.Session.{session_end, offer_calls, listen_calls}
 use Rattle.station_links.specs.declared.link_line.LinkLine.{LinkLine}
-use Rattle.station_links.specs.Said.{line_in, lines_in, end_of, end_lines}
+use Rattle.station_links.specs.LinkLines.{line_in, lines_in, end_of, end_lines}
 use Rattle.station_links.specs.Connected.{Connected, after_call, after_calls}
 use Rattle.station_links.specs.Rounds.{offer_answer, poll_answer, waited_at, heard_at, listened_at}
 use Rattle.station_links.specs.Rounds.{told_now, told_at, round_at, quits, stands_after}
@@ -137,7 +138,8 @@ poll_made : (s : Steering) (space : ℕ) (may : Bool) → is_some (poll_answer s
 poll_made s space true = refl
 poll_made s space false = refl
 
-told_made : (over : Bool) (told : Told) → is_some (if over then None else Some told) ≡ not over
+told_made : (over : Bool) (told : BookAnswer) → is_some (if over then None else Some told)
+    ≡ not over
 told_made true told = refl
 told_made false told = refl
 

@@ -13,7 +13,8 @@ use Rattle.session_core.specs.declared.standing.Standing.{Standing}
 use Rattle.session_core.specs.Course.{is_over}
 use Rattle.session_core.specs.Inquiry.{answer_of}
 use Rattle.session_core.specs.Steps.{may_poll, may_speak, inquiry_at}
-use Rattle.session_core.specs.Session.{State, Round, Told, next_of, cleared, listened, poll_space}
+use Rattle.session_core.specs.Session.{State, Round, BookAnswer, next_of, cleared, listened}
+use Rattle.session_core.specs.Session.{poll_space}
 use Rattle.session_core.specs.Session.{stepped, before_step, before_speak, IsRound}
 use Rattle.session_core.specs.Session.{event_of, step_events, offer_calls, poll_calls, listen_calls}
 use Rattle.session_core.specs.Session.{speak_calls, round_calls, round_events}
@@ -37,7 +38,7 @@ abbrev answer_in : Reply → Answer → Answer
 answer_in (answered a) default = a
 answer_in _ default = default
 
-told_is : (site : Site) (door : ℕ) (s : State) (b : book.State) (reading : ℕ) (t : Told)
+told_is : (site : Site) (door : ℕ) (s : State) (b : book.State) (reading : ℕ) (t : BookAnswer)
     → t.reading ≡ reading → IsLegal b (event_of site door s t ∷ [])
     → t ≡ told_now site door s b reading
 told_is site door s b reading t read legal =
@@ -47,11 +48,12 @@ told_is site door s b reading t read legal =
     (inquiry_at site s.standing (next_of s) t.moment) =
     ap (λ (x : Event). answer_in x.reply t.answer) legal.0 in
     ap (λ (n : ℕ).
-    let t2 : Told = record { reading = n; moment = t.moment; answer = t.answer } in t2) read
+    let t2 : BookAnswer = record { reading = n; moment = t.moment; answer = t.answer } in t2) read
     ∙ ap (λ (n : ℕ).
-    let t2 : Told = record { reading = reading; moment = n; answer = t.answer } in t2) moment
+    let t2 : BookAnswer = record { reading = reading; moment = n; answer = t.answer } in t2) moment
     ∙ ap (λ (y : Answer).
-    let t2 : Told = record { reading = reading; moment = moment_at b reading; answer = y } in t2)
+    let t2 : BookAnswer =
+    record { reading = reading; moment = moment_at b reading; answer = y } in t2)
     (told
     ∙ ap (λ (n : ℕ). answer_of b door (moment_at b n)
     (inquiry_at site s.standing (next_of s) t.moment)) read
@@ -62,23 +64,24 @@ not_over : (over : Bool) → true ≡ not over → over ≡ false
 not_over true e = absurd (cc)
 not_over false e = refl
 
-told_of : (site : Site) (door : ℕ) (s : State) (b : book.State) (reading : ℕ) (told : Option Told)
-    (t : Told) → told ≡ Some t → is_some told ≡ not (is_over s.standing.course)
+told_of : (site : Site) (door : ℕ) (s : State) (b : book.State) (reading : ℕ)
+    (told : Option BookAnswer)
+    (t : BookAnswer) → told ≡ Some t → is_some told ≡ not (is_over s.standing.course)
     → t.reading ≡ reading → IsLegal b (step_events site door s told)
     → told ≡ (if is_over s.standing.course then None else Some (told_now site door s b reading))
 told_of site door s b reading told t so asks read legal =
     let here = not_over (is_over s.standing.course) (ap is_some (sym so) ∙ asks) in
-    so ∙ ap (λ (x : Told). Some x) (told_is site door s b reading t read
-    (subst (λ (o : Option Told). IsLegal b (step_events site door s o)) so legal))
+    so ∙ ap (λ (x : BookAnswer). Some x) (told_is site door s b reading t read
+    (subst (λ (o : Option BookAnswer). IsLegal b (step_events site door s o)) so legal))
     ∙ ap (λ (over : Bool). if over then None else Some (told_now site door s b reading)) (sym here)
 
 -- a round with these answers
-abbrev made : Option Offer → Option Heard → Option Told → Option Offer → Round
+abbrev made : Option Offer → Option Heard → Option BookAnswer → Option Offer → Round
 made waited heard told spoke =
     record { waited = waited; heard = heard; told = told; spoke = spoke }
 
 pub round_is : (site : Site) (door : ℕ) (l : Connected) (b : book.State) (reading : ℕ) (r : Round)
-    (t : Told) → IsRound site l.state r → r.told ≡ Some t → t.reading ≡ reading
+    (t : BookAnswer) → IsRound site l.state r → r.told ≡ Some t → t.reading ≡ reading
     → AreLed l.steering (round_calls site l.state r)
     → IsLegal b (round_events site door l.state r) → r ≡ round_at site door l b reading
 round_is site door l b reading r t is so read led legal =
@@ -107,7 +110,7 @@ round_is site door l b reading r t is so read led legal =
     let after : before_speak site s r
     ≡ stepped site (listened_at l) (told_at site door l b reading) =
     ap (λ (u : State). stepped site u r.told) before
-    ∙ ap (λ (o : Option Told). stepped site (listened_at l) o) told in
+    ∙ ap (λ (o : Option BookAnswer). stepped site (listened_at l) o) told in
     let spoke : r.spoke ≡ spoke_at l (stepped site (listened_at l)
     (told_at site door l b reading)) =
     led_offer (after_calls st (listen_calls s r.waited r.heard)) (before_speak site s r).standing
@@ -120,6 +123,6 @@ round_is site door l b reading r t is so read led legal =
     ∙ ap (λ (u : State). spoke_at l u) after in
     ap (λ (w : Option Offer). made w r.heard r.told r.spoke) waited
     ∙ ap (λ (x : Option Heard). made (waited_at l) x r.told r.spoke) heard
-    ∙ ap (λ (o : Option Told). made (waited_at l) (heard_at l) o r.spoke) told
+    ∙ ap (λ (o : Option BookAnswer). made (waited_at l) (heard_at l) o r.spoke) told
     ∙ ap (λ (o : Option Offer). made (waited_at l) (heard_at l) (told_at site door l b reading) o)
     spoke

@@ -1,4 +1,4 @@
-pub mod Said
+pub mod LinkLines
 pub mod Connected
 pub mod Rounds
 pub mod Asked

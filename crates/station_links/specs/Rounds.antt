@@ -14,11 +14,12 @@ use Rattle.drill_text.specs.declared.end_word.EndWord.{EndWord}
 use Rattle.session_core.specs.Course.{is_over}
 use Rattle.session_core.specs.Inquiry.{answer_of}
 use Rattle.session_core.specs.Steps.{waits, may_poll, may_speak, inquiry_at}
-use Rattle.session_core.specs.Session.{State, Told, Round, next_of, poll_space, cleared, listened}
+use Rattle.session_core.specs.Session.{State, BookAnswer, Round, next_of, poll_space, cleared}
+use Rattle.session_core.specs.Session.{listened}
 use Rattle.session_core.specs.Session.{offer_calls, listen_calls, stepped, after_round, round_calls}
 use Rattle.session_core.specs.Session.{round_events, spoken_of}
 use Rattle.station_links.specs.declared.link_line.LinkLine.{LinkLine}
-use Rattle.station_links.specs.Said.{lines_in, end_of, end_lines}
+use Rattle.station_links.specs.LinkLines.{lines_in, end_of, end_lines}
 use Rattle.station_links.specs.Connected.{Connected, after_calls}
 
 -- ---- the answers
@@ -45,7 +46,7 @@ abbrev pub listened_at : Connected → State
 listened_at l = listened l.state (waited_at l) (heard_at l)
 
 -- what a book tells a session that hasn't ended
-abbrev pub told_now : Site → ℕ → State → book.State → ℕ → Told
+abbrev pub told_now : Site → ℕ → State → book.State → ℕ → BookAnswer
 told_now site door s b reading =
     record {
       reading = reading;
@@ -55,7 +56,7 @@ told_now site door s b reading =
           (inquiry_at site s.standing (next_of s) (moment_at b reading));
     }
 
-abbrev pub told_at : Site → ℕ → Connected → book.State → ℕ → Option Told
+abbrev pub told_at : Site → ℕ → Connected → book.State → ℕ → Option BookAnswer
 told_at site door l b reading =
     if is_over (listened_at l).standing.course then None
     else Some (told_now site door (listened_at l) b reading)

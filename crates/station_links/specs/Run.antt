@@ -12,7 +12,7 @@ use Rattle.drill_text.specs.declared.end_word.EndWord.{EndWord}
 use Rattle.session_core.specs.Session.{State, Round, AreRounds, AreOctets, session_calls}
 use Rattle.session_core.specs.Session.{session_events, session_end}
 use Rattle.station_links.specs.declared.link_line.LinkLine.{LinkLine}
-use Rattle.station_links.specs.Said.{lines_in, end_of, end_lines}
+use Rattle.station_links.specs.LinkLines.{lines_in, end_of, end_lines}
 use Rattle.station_links.specs.Connected.{Connected, steered_by}
 use Rattle.station_links.specs.Rounds.{round_at, round_of, stands_after, end_after}
 

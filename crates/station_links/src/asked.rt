@@ -26,12 +26,12 @@ const PORT: &[u8] = b"PORT1";
 const PROTOCOL: &[u8] = b"ISP1\0\0\0\x01";
 
 /// The octets of a message, as one piece.
-pub(crate) fn message_of(alloc: Global, asked: &AskLine) -> Result<Octets, AskFault>
-    requires { ask.Fits asked.now }
-    ensures ok { IfOk result (λ octets. IsAsked octets (message_of asked.now)) }
-    ensures not_built { IfErr result (λ fault. fault ≡ NotBuilt → message_of asked.now ≡ None) }
+pub(crate) fn message_of(alloc: Global, line: &AskLine) -> Result<Octets, AskFault>
+    requires { ask.Fits line.now }
+    ensures ok { IfOk result (λ octets. IsAsked octets (message_of line.now)) }
+    ensures not_built { IfErr result (λ fault. fault ≡ NotBuilt → message_of line.now ≡ None) }
 {
-    match asked {
+    match line {
         AskLine::Context { interval, factor } => Ok(context_message(alloc, *interval, *factor)?),
         AskLine::Bind {
             name,
@@ -89,13 +89,13 @@ fn bind_message<'a>(
     put_bind(alloc, &sent)
 }
 
-fn put_bind(alloc: Global, sent: &Bind<'_>) -> Result<Octets, Memory>
-    requires { bind.Fits (bind_of sent.now) }
+fn put_bind(alloc: Global, message: &Bind<'_>) -> Result<Octets, Memory>
+    requires { bind.Fits (bind_of message.now) }
     ensures { IfOk result (λ octets. octets
-        ≡ spelling (pdu (canonical (bind.tree (bind_of sent.now))))) }
+        ≡ spelling (pdu (canonical (bind.tree (bind_of message.now))))) }
 {
-    let mut writer = begin(alloc, sent.length())?;
-    sent.encode(&mut writer);
+    let mut writer = begin(alloc, message.length())?;
+    message.encode(&mut writer);
     Octets::copy_of(alloc, writer.octets())
 }
 
@@ -110,12 +110,12 @@ fn unbind_message(alloc: Global) -> Result<Octets, Memory>
     put_unbind(alloc, &sent)
 }
 
-fn put_unbind(alloc: Global, sent: &Unbind<'_>) -> Result<Octets, Memory>
-    requires { unbind.Fits (unbind_of sent.now) }
+fn put_unbind(alloc: Global, message: &Unbind<'_>) -> Result<Octets, Memory>
+    requires { unbind.Fits (unbind_of message.now) }
     ensures { IfOk result (λ octets. octets
-        ≡ spelling (pdu (canonical (unbind.tree (unbind_of sent.now))))) }
+        ≡ spelling (pdu (canonical (unbind.tree (unbind_of message.now))))) }
 {
-    let mut writer = begin(alloc, sent.length())?;
-    sent.encode(&mut writer);
+    let mut writer = begin(alloc, message.length())?;
+    message.encode(&mut writer);
     Octets::copy_of(alloc, writer.octets())
 }

@@ -30,9 +30,9 @@ pub struct Connection {
 
 impl Model for Connection {
     ghost use Rattle.std.specs.Prelude.{◌≡◌, Some, []};
-    ghost use Rattle.station_links.specs.Lives.{Seen};
+    ghost use Rattle.station_links.specs.Lives.{ConnectionState};
 
-    ghost Value = { Seen };
+    ghost Value = { ConnectionState };
 
     ghost view = { λ c. record {
       c = c.c;
@@ -45,12 +45,12 @@ impl Model for Connection {
 
 impl Connection {
     /// Connection `c` is opened, at a moment.
-    pub fn new(alloc: Global, c: u32, entered: u128) -> Result<Connection, Memory>
+    pub fn new(alloc: Global, c: u32, now: u128) -> Result<Connection, Memory>
         ensures { IfOk result (λ connection. (site : Site)
-            → Lives (began site c entered) connection (opened c entered)) }
+            → Lives (began site c now) connection (opened c now)) }
     {
         laws::no_round_yet();
-        let session = Session::new(alloc, c, DRAW, entered)?;
+        let session = Session::new(alloc, c, DRAW, now)?;
         let failing = Vec::new(alloc);
         let link = MemoryLink::new(alloc, failing);
         Ok(Connection { c, session, link })
@@ -66,14 +66,14 @@ impl Connection {
     }
 
     /// One whole message arrives, as one piece.
-    pub fn ask(&mut self, alloc: Global, asked: &AskLine) -> Result<(), AskFault>
-        requires { ask.Fits asked.now }
-        ensures ok { OnOk result (Comes self.old self.new (message_of asked.now)) }
+    pub fn ask(&mut self, alloc: Global, line: &AskLine) -> Result<(), AskFault>
+        requires { ask.Fits line.now }
+        ensures ok { OnOk result (Comes self.old self.new (message_of line.now)) }
         ensures not_built { IfErr result (λ fault. fault ≡ NotBuilt
-            → message_of asked.now ≡ None) }
+            → message_of line.now ≡ None) }
         ensures err { OnErr result (self.new ≡ self.old) }
     {
-        let message = message_of(alloc, asked)?;
+        let message = message_of(alloc, line)?;
         self.link.arrive(message)?;
         Ok(())
     }

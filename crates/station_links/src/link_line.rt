@@ -1,8 +1,8 @@
 // What a connection says in the transcript.
 ghost use Rattle.std.specs.Prelude.{◌≡◌, ◌++◌, ◌∷◌, [], IfOk, OnOk};
 ghost use Rattle.drill_text.specs.Transcript.{said};
-ghost use Rattle.station_links.specs.Said.{lines_in, end_of, end_word, end_lines};
-ghost use Rattle.station_links.specs.Said.{fault_number, says_of};
+ghost use Rattle.station_links.specs.LinkLines.{lines_in, end_of, end_word, end_lines};
+ghost use Rattle.station_links.specs.LinkLines.{fault_number, says_of};
 
 use drill_text::{EndWord, TranscriptLine};
 use isp1_tml::TmlFault;

@@ -1,4 +1,4 @@
 pub mod Counting
 pub mod Valid
-pub mod Told
+pub mod CountLines
 pub mod Kept

@@ -6,7 +6,7 @@ ghost use Rattle.archive_terms.specs.Archive.{is_valid};
 ghost use Rattle.archive_terms.specs.Archive as terms;
 ghost use Rattle.record_form.specs.Entry.{entry_of};
 ghost use Rattle.frame_archive.specs.State.{with_waiting};
-ghost use Rattle.frame_archive.specs.Held.{Acknowledges};
+ghost use Rattle.frame_archive.specs.Acknowledges.{Acknowledges};
 ghost use Rattle.store_sample.specs.Numbered.{numbered_between, count_line, counts};
 ghost use Rattle.store_sample.specs.Storing.{Rests};
 ghost use Rattle.store_sample.specs.declared.halt.Halt.TheVariants as Halt;

@@ -64,14 +64,14 @@ fn tell_piece(
     alloc: Global,
     feeder: &mut Feeder,
     piece: &[u8],
-    told: &mut String,
+    text: &mut String,
 ) -> Result<(), AllocError> {
     if feeder.feed(piece) != Ok(piece.len()) {
-        told.push_str("not taken ")?;
+        text.push_str("not taken ")?;
     }
     // A piece ends no more messages than it has octets.
     for _ in piece {
-        told.push_str(&next(alloc, feeder)?)?;
+        text.push_str(&next(alloc, feeder)?)?;
     }
     Ok(())
 }

@@ -18,7 +18,7 @@ use Rattle.atomic_table.proofs.Lists.{at_set, at_snoc, at_longer, set_else}
 use Rattle.turn_lock.specs.declared.view.View.{View}
 use Rattle.turn_lock.specs.Own.{counts, mark, times, total, AllStand, MakeUp}
 use Rattle.turn_lock.specs.Rule.{own_lists, pending, is_ticket, with_added, fresh_view, spent_view}
-use Rattle.turn_lock.specs.Rule.{IsOf, Fits, IsHome, IsOut, Kept}
+use Rattle.turn_lock.specs.Rule.{IsOf, Fits, IsHome, IsOut, TableStands}
 use Rattle.turn_lock.specs.Steps.{entering, finding, holding, seeing, adding, resting, giving}
 use Rattle.turn_lock.specs.Steps.{given, Draws, Takes, Looks, Sees, Adds, Ends, Learns, Closes}
 use Rattle.turn_lock.proofs.Prefixes.{prefix_self, prefix_trans}
@@ -48,7 +48,7 @@ module _ {T E O : Type 0} (origin : T → O) (stands : T → List E
   M = Me (Option T) V
 
   abbrev Rule : S → Type 0
-  Rule = Kept origin stands first turns
+  Rule = TableStands origin stands first turns
 
   of_same : (v w : V) → w.turns ≡ v.turns → v ≢ spent_view → (o : Option O) → IsOf first turns v o
       → IsOf first turns w o

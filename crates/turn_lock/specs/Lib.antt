@@ -1,4 +1,4 @@
 pub mod Own
 pub mod Rule
 pub mod Steps
-pub mod Known
+pub mod PassState

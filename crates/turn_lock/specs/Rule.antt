@@ -107,7 +107,7 @@ module _ {E O : Type 0} where
     IsOut homes views = (seat : ℕ) × (v : View E O) × (h : List E) × (homes ≡ none ∷ [])
         × (get_elem? views seat ≡ some v) × (v.kept ≡ Some h)
 
-  pub record Kept {T : Type 0} (origin : T → O) (stands : T → List E
+  pub record TableStands {T : Type 0} (origin : T → O) (stands : T → List E
       → Type 0) (first : O) (turns : ℕ) (s : State (Option T) (View E O)) : Type 0 where
     pub ticket : ℕ
     pub serving : ℕ

@@ -3,6 +3,8 @@ use Rattle.std.specs.Prelude.{◌≡◌, ◌==◌, ℕ, ◌+◌, ◌-◌, ◌<�
 use Rattle.std.specs.Prelude.{if◌then◌else◌, Option, Some, None, MatchBool}
 use mathlib.Core.List.{IsPrefix}
 use Rattle.atomic_table.specs.Table.{Me, Step, rest}
+use Rattle.atomic_table.specs.Seated.{TableId}
+use Rattle.atomic_table.specs.declared.shared.Seat.{Seat}
 use Rattle.turn_lock.specs.declared.view.View.{View}
 use Rattle.turn_lock.specs.Own.{own_with, AllStand, MakeUp}
 use Rattle.turn_lock.specs.Rule.{own_lists, with_added}
@@ -16,6 +18,14 @@ shorter xs ys = if nat_lt (length xs) (length ys) then xs else ys
 abbrev pub list_of : {E : Type 0} → Option (List E) → List E
 list_of (Some h) = h
 list_of None = []
+
+-- it is a seat of this table, which has the lock's three words
+abbrev pub IsSeatOf : {S V : Type 0} → TableId → Seat S V → Type 0
+IsSeatOf table seat = (seat.table_id ≡ table) × (table.words ≡ 3)
+
+-- it is the same seat of the same table
+abbrev pub IsSameSeat : {S V : Type 0} → Seat S V → Seat S V → Type 0
+IsSameSeat old new = (new.table_id ≡ old.table_id) × (new.id ≡ old.id)
 
 -- a seat's view, and the slots that it holds
 abbrev Sat : Type 0 → Type 0 → Type 0 → Type 0

@@ -1,6 +1,6 @@
 // A thread's leave to enter turns.
 ghost use Rattle.std.specs.Prelude.{◌≡◌, ◌+◌, ◌-◌, ◌^◌, ◌<◌, ◌≤◌, [], ◌∷◌, None};
-ghost use Rattle.turn_lock.specs.Known.{view_of, known_of, stubbed};
+ghost use Rattle.turn_lock.specs.PassState.{view_of, pass_state, stubbed};
 ghost use Rattle.turn_lock.specs.declared.pass.Standing.TheVariants.{Ready, InTurn, Closed};
 
 use crate::event::HistoryEvent;
@@ -31,9 +31,10 @@ pub struct Pass<E: HistoryEvent> {
 impl<E: HistoryEvent> Model for Pass<E> {
     ghost use Rattle.std.specs.Prelude.{◌≡◌, ◌+◌, ◌^◌, ◌≤◌};
     ghost use Rattle.turn_lock.specs.declared.pass.Standing.TheVariants.{Ready};
-    ghost use Rattle.turn_lock.specs.Known.{Known, lock_of, view_of, own_of, joined_of, IsReady};
+    ghost use Rattle.turn_lock.specs.PassState.{PassState, lock_of, view_of, own_of, joined_of};
+    ghost use Rattle.turn_lock.specs.PassState.{IsReady};
 
-    ghost Value = { Known E E.Origin };
+    ghost Value = { PassState E E.Origin };
 
     ghost view = { λ p. record {
       lock = lock_of p.badge.table_id (view_of p.badge.views);
@@ -65,17 +66,18 @@ impl<E: HistoryEvent> Pass<E> {
     }
 
     /// A pass over a badge with no open turn.
-    pub(crate) fn over(badge: Badge<View<E>>, left: u64, entered: u64) -> Pass<E>
+    pub(crate) fn over(badge: Badge<View<E>>, turns_left: u64, turns_entered: u64) -> Pass<E>
         requires view { (badge.views ≡ view_of badge.views ∷ [])
-            × ((view_of badge.views).left ≡ left) × ((view_of badge.views).entered ≡ entered) }
+            × ((view_of badge.views).left ≡ turns_left) × ((view_of badge.views).entered
+            ≡ turns_entered) }
         requires rests { ((view_of badge.views).ticket ≡ None)
             × ((view_of badge.views).kept ≡ None) }
-        requires small { left + entered ≤ 2 ^ 62 + 1 }
-        ensures { result ≡ known_of badge.table_id (view_of badge.views) Ready }
+        requires small { turns_left + turns_entered ≤ 2 ^ 62 + 1 }
+        ensures { result ≡ pass_state badge.table_id (view_of badge.views) Ready }
     {
         Pass {
-            left,
-            entered,
+            left: turns_left,
+            entered: turns_entered,
             standing: Standing::Ready,
             badge,
         }
@@ -86,7 +88,7 @@ impl<E: HistoryEvent> Pass<E> {
         requires { self.old.standing ≡ Ready }
         ensures view { (result.views ≡ view_of result.views ∷ [])
             × ((view_of result.views).ticket ≡ None) × ((view_of result.views).kept ≡ None) }
-        ensures known { self.old ≡ known_of result.table_id (view_of result.views) Ready }
+        ensures known { self.old ≡ pass_state result.table_id (view_of result.views) Ready }
         ensures pass { self.new ≡ record self.old {
           lock = None;
           standing = InTurn;
@@ -122,7 +124,7 @@ impl<E: HistoryEvent> Pass<E> {
         requires pass { self.old.standing ≡ InTurn }
         requires turns { (self.old.left ≡ (view_of badge.views).left)
             × (self.old.entered ≡ (view_of badge.views).entered) }
-        ensures { self.new ≡ known_of badge.table_id (view_of badge.views) Ready }
+        ensures { self.new ≡ pass_state badge.table_id (view_of badge.views) Ready }
     {
         self.badge = badge;
         self.standing = Standing::Ready;

@@ -21,13 +21,13 @@ pub struct Turn<T: StandsFor<E>, E: HistoryEvent> {
 impl<T: StandsFor<E>, E: HistoryEvent> Model for Turn<T, E> {
     ghost use Rattle.std.specs.Prelude.{◌≡◌, [], ◌∷◌, IsSome, None};
     ghost use Rattle.turn_lock.specs.declared.pass.Standing.TheVariants.{InTurn};
-    ghost use Rattle.turn_lock.specs.Known.{Held, known_of};
+    ghost use Rattle.turn_lock.specs.PassState.{TurnState, pass_state};
     ghost use Rattle.turn_lock.specs.Steps.{list_of};
 
-    ghost Value = { Held T E E.Origin };
+    ghost Value = { TurnState T E E.Origin };
 
     ghost view = { λ t. record {
-      pass = known_of t.seat.table_id t.seat.me.0 InTurn;
+      pass = pass_state t.seat.table_id t.seat.me.0 InTurn;
       list = list_of t.seat.me.0.kept;
       value = t.value;
     } };

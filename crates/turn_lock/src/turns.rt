@@ -2,12 +2,12 @@
 ghost use Rattle.std.specs.Prelude.{◌≡◌, ◌≢◌, ℕ, ◌+◌, ◌-◌, ◌^◌, ◌<◌, ◌≤◌, [], ◌∷◌, ◌++◌, IfOk};
 ghost use Rattle.std.specs.Prelude.{IfErr, IsOk, IsOkAnd, MatchResult, IsSome, Some, None};
 ghost use mathlib.Core.List.{IsPrefix};
-ghost use Rattle.turn_lock.specs.Known.{lock_of, known_of};
+ghost use Rattle.turn_lock.specs.PassState.{lock_of, pass_state};
 ghost use Rattle.turn_lock.specs.Own.{mark, own_with, AllStand, MakeUp};
 ghost use Rattle.turn_lock.specs.Rule.{own_lists, with_added};
 ghost use Rattle.turn_lock.specs.Steps.{entering, finding, Takes, HasTaken, seeing, adding};
 ghost use Rattle.turn_lock.specs.Steps.{resting, giving, given, given_back, both, lent, longer};
-ghost use Rattle.turn_lock.specs.Steps.{list_of};
+ghost use Rattle.turn_lock.specs.Steps.{list_of, IsSameSeat, IsSeatOf};
 ghost use Rattle.turn_lock.specs.declared.pass.Standing.TheVariants.{Ready, InTurn, Closed};
 
 use crate::event::{HistoryEvent, Names, StandsFor};
@@ -51,7 +51,7 @@ pub struct Turns<T: StandsFor<E>, E: HistoryEvent> {
 
 impl<T: StandsFor<E>, E: HistoryEvent> Model for Turns<T, E> {
     ghost use Rattle.std.specs.Prelude.{◌≡◌, ◌^◌, ◌≤◌, [], ◌∷◌};
-    ghost use Rattle.turn_lock.specs.Known.{Lock, IsKeeper};
+    ghost use Rattle.turn_lock.specs.PassState.{Lock, IsKeeper};
 
     ghost Value = { Lock E.Origin };
 
@@ -68,23 +68,23 @@ impl<T: StandsFor<E>, E: HistoryEvent> Model for Turns<T, E> {
 }
 
 /// Draws a ticket for a turn.
-fn draw<T: StandsFor<E>, E: HistoryEvent>(shared: &Words<T, E>, seat: &mut Place<T, E>) -> u64
-    requires table { (seat.old.table_id ≡ shared.now.table_id) × (shared.now.table_id.words ≡ 3)
-        × (shared.now.key.turns ≤ 2 ^ 62) }
+fn draw<T: StandsFor<E>, E: HistoryEvent>(words: &Words<T, E>, seat: &mut Place<T, E>) -> u64
+    requires table { IsSeatOf words.now.table_id seat.old
+        × (words.now.key.turns ≤ 2 ^ 62) }
     requires ready { (seat.old.me.0.ticket ≡ None) × (seat.old.me.0.kept ≡ None)
         × (0 < seat.old.me.0.left) }
-    ensures seat { (seat.new.table_id ≡ seat.old.table_id) × (seat.new.id ≡ seat.old.id) }
+    ensures seat { IsSameSeat seat.old seat.new }
     ensures drawn { seat.new.me ≡ (entering seat.old.me.0 result, seat.old.me.1) }
 {
-    shared.fetch_add::<Draw>(seat, TICKET, 1)
+    words.fetch_add::<Draw>(seat, TICKET, 1)
 }
 
 /// Spins for a short time, and says whether another ticket is served by then.
-fn has_moved<T: StandsFor<E>, E: HistoryEvent>(shared: &Words<T, E>, serving: u64) -> bool
-    requires { shared.now.table_id.words ≡ 3 }
+fn has_moved<T: StandsFor<E>, E: HistoryEvent>(words: &Words<T, E>, serving: u64) -> bool
+    requires { words.now.table_id.words ≡ 3 }
 {
     for _ in 0..SPINS {
-        if shared.peek(SERVING) != serving {
+        if words.peek(SERVING) != serving {
             return true;
         }
         hint::spin_loop();
@@ -94,39 +94,39 @@ fn has_moved<T: StandsFor<E>, E: HistoryEvent>(shared: &Words<T, E>, serving: u6
 
 /// Reads which ticket is served, and takes the value where it is the seat's.
 fn look<T: StandsFor<E>, E: HistoryEvent>(
-    shared: &Words<T, E>,
+    words: &Words<T, E>,
     seat: &mut Place<T, E>,
     ticket: u64,
 ) -> u64
-    requires table { (seat.old.table_id ≡ shared.now.table_id) × (shared.now.table_id.words ≡ 3) }
+    requires table { IsSeatOf words.now.table_id seat.old }
     requires waits { (seat.old.me.0.ticket ≡ Some ticket) × (seat.old.me.0.kept ≡ None) }
-    ensures seat { (seat.new.table_id ≡ seat.old.table_id) × (seat.new.id ≡ seat.old.id) }
+    ensures seat { IsSameSeat seat.old seat.new }
     ensures takes { result ≡ ticket
         → Takes T.origin T.stands seat.old.me.0 seat.old.me seat.new.me }
     ensures stays { result ≢ ticket → seat.new.me ≡ seat.old.me }
 {
-    shared.load::<Look>(seat, SERVING)
+    words.load::<Look>(seat, SERVING)
 }
 
 /// Waits for the ticket of the seat, and takes the value.
 fn wait_for<T: StandsFor<E>, E: HistoryEvent, R: Wait>(
     rt: &R,
-    shared: &Words<T, E>,
+    words: &Words<T, E>,
     seat: &mut Place<T, E>,
     ticket: u64,
 )
-    requires table { (seat.old.table_id ≡ shared.now.table_id) × (shared.now.table_id.words ≡ 3) }
+    requires table { IsSeatOf words.now.table_id seat.old }
     requires waits { (seat.old.me.0.ticket ≡ Some ticket) × (seat.old.me.0.kept ≡ None) }
-    ensures seat { (seat.new.table_id ≡ seat.old.table_id) × (seat.new.id ≡ seat.old.id) }
+    ensures seat { IsSameSeat seat.old seat.new }
     ensures takes { Takes T.origin T.stands seat.old.me.0 seat.old.me seat.new.me }
 {
     for _ in rt.forever() {
-        let serving = look(shared, seat, ticket);
+        let serving = look(words, seat, ticket);
         if serving == ticket {
             return;
         }
-        if !has_moved(shared, serving) {
-            shared.park(rt, SERVING, (serving % (1 << 32)) as u32);
+        if !has_moved(words, serving) {
+            words.park(rt, SERVING, (serving % (1 << 32)) as u32);
         }
     }
     unreachable!()
@@ -135,161 +135,158 @@ fn wait_for<T: StandsFor<E>, E: HistoryEvent, R: Wait>(
 /// Draws a ticket, waits for it, and takes the value out of the slot.
 fn take_turn<T: StandsFor<E>, E: HistoryEvent, R: Wait>(
     rt: &R,
-    shared: &Words<T, E>,
+    words: &Words<T, E>,
     seat: &mut Place<T, E>,
 ) -> T
-    requires table { (seat.old.table_id ≡ shared.now.table_id) × (shared.now.table_id.words ≡ 3)
-        × (shared.now.key.turns ≤ 2 ^ 62) }
+    requires table { IsSeatOf words.now.table_id seat.old
+        × (words.now.key.turns ≤ 2 ^ 62) }
     requires ready { (seat.old.me.0.ticket ≡ None) × (seat.old.me.0.kept ≡ None)
         × (0 < seat.old.me.0.left) }
-    ensures seat { (seat.new.table_id ≡ seat.old.table_id) × (seat.new.id ≡ seat.old.id) }
+    ensures seat { IsSameSeat seat.old seat.new }
     ensures value { HasTaken T.origin T.stands seat.old.me seat.new.me result }
 {
-    let ticket = draw(shared, seat);
-    wait_for(rt, shared, seat, ticket);
-    shared.exchange(seat, 0, None).unwrap()
+    let ticket = draw(words, seat);
+    wait_for(rt, words, seat, ticket);
+    words.exchange(seat, 0, None).unwrap()
 }
 
 /// Cuts turns off a seat, for a new one.
 fn cut<N: Share, T: StandsFor<E>, E: HistoryEvent>(
-    shared: &Words<T, E>,
+    words: &Words<T, E>,
     seat: &mut Place<T, E>,
     turns: u64,
 ) -> Place<T, E>
-    requires table { (seat.old.table_id ≡ shared.now.table_id) × (shared.now.table_id.words ≡ 3) }
+    requires table { IsSeatOf words.now.table_id seat.old }
     requires ready { IsSome seat.old.me.0.origin }
     requires turns { (turns ≡ N.turns) × (turns ≤ seat.old.me.0.left) }
-    ensures seat { (seat.new.table_id ≡ seat.old.table_id) × (seat.new.id ≡ seat.old.id)
+    ensures seat { IsSameSeat seat.old seat.new
         × (seat.new.me ≡ (giving seat.old.me.0 turns, seat.old.me.1)) }
     ensures new { (result.table_id ≡ seat.old.table_id)
         × (result.me ≡ (given seat.old.me.0 turns, [])) }
 {
-    shared.split_seat::<Give<N>>(seat)
+    words.split_seat::<Give<N>>(seat)
 }
 
 /// A seat that has no turns, and keeps the lock in mind.
 fn stub<T: StandsFor<E>, E: HistoryEvent>(
-    shared: &Words<T, E>,
+    words: &Words<T, E>,
     seat: &mut Place<T, E>,
 ) -> Badge<View<E>>
-    requires table { (seat.old.table_id ≡ shared.now.table_id) × (shared.now.table_id.words ≡ 3) }
+    requires table { IsSeatOf words.now.table_id seat.old }
     requires ready { IsSome seat.old.me.0.origin }
-    ensures seat { (seat.new.table_id ≡ seat.old.table_id) × (seat.new.id ≡ seat.old.id)
+    ensures seat { IsSameSeat seat.old seat.new
         × (seat.new.me ≡ seat.old.me) }
     ensures stub { (result.table_id ≡ seat.old.table_id)
         × (result.views ≡ given seat.old.me.0 0 ∷ []) }
 {
-    shared.split_seat::<Stub>(seat).into_badge()
+    words.split_seat::<Stub>(seat).into_badge()
 }
 
 /// Takes in another seat.
 fn unite<T: StandsFor<E>, E: HistoryEvent>(
-    shared: &Words<T, E>,
+    words: &Words<T, E>,
     seat: &mut Place<T, E>,
     other: Place<T, E>,
 )
-    requires table { (seat.old.table_id ≡ shared.now.table_id)
-        × (other.table_id ≡ shared.now.table_id) × (shared.now.table_id.words ≡ 3) }
+    requires table { IsSeatOf words.now.table_id seat.old
+        × IsSeatOf words.now.table_id other }
     requires ready { (seat.old.me.0.ticket ≡ None) × (seat.old.me.0.kept ≡ None)
         × IsSome seat.old.me.0.origin }
     requires other { (other.me.0.ticket ≡ None) × (other.me.0.kept ≡ None) × (other.me.1 ≡ []) }
-    ensures seat { (seat.new.table_id ≡ seat.old.table_id) × (seat.new.id ≡ seat.old.id) }
+    ensures seat { IsSameSeat seat.old seat.new }
     ensures both { seat.new.me ≡ (both seat.old.me.0 other.me.0, seat.old.me.1) }
     ensures few { seat.new.me.0.left + seat.new.me.0.entered ≤ seat.new.me.0.turns + 1 }
     ensures begins { IsPrefix seat.old.me.0.seen seat.new.me.0.seen
         × IsPrefix other.me.0.seen seat.new.me.0.seen }
 {
-    shared.join_seat::<Unite>(seat, other);
-    shared.load::<Learn>(seat, TICKET);
+    words.join_seat::<Unite>(seat, other);
+    words.load::<Learn>(seat, TICKET);
 }
 
 /// Takes in the turn that closes the lock.
 fn borrow_last<T: StandsFor<E>, E: HistoryEvent>(
-    shared: &Words<T, E>,
+    words: &Words<T, E>,
     seat: &mut Place<T, E>,
     keeper: Place<T, E>,
 )
-    requires table { (seat.old.table_id ≡ shared.now.table_id)
-        × (keeper.table_id ≡ shared.now.table_id) × (shared.now.table_id.words ≡ 3) }
+    requires table { IsSeatOf words.now.table_id seat.old
+        × IsSeatOf words.now.table_id keeper }
     requires ready { (seat.old.me.0.ticket ≡ None) × (seat.old.me.0.kept ≡ None)
         × IsSome seat.old.me.0.origin }
     requires keeper { (keeper.me.0.ticket ≡ None) × (keeper.me.0.kept ≡ None) × (keeper.me.1 ≡ [])
         × (own_lists keeper.me.0 ≡ [] ∷ []) }
-    ensures seat { (seat.new.table_id ≡ seat.old.table_id) × (seat.new.id ≡ seat.old.id) }
+    ensures seat { IsSameSeat seat.old seat.new }
     ensures lent { seat.new.me ≡ (lent seat.old.me.0 keeper.me.0, seat.old.me.1) }
 {
-    shared.join_seat::<Lend>(seat, keeper);
+    words.join_seat::<Lend>(seat, keeper);
 }
 
 /// Enters the last turn and takes the value, if all turns so far were entered by the seat. Says how
 /// many there were.
 fn take_last<T: StandsFor<E>, E: HistoryEvent>(
-    shared: &Words<T, E>,
+    words: &Words<T, E>,
     seat: &mut Place<T, E>,
-    entered: u64,
+    turns_entered: u64,
 ) -> u64
-    requires table { (seat.old.table_id ≡ shared.now.table_id) × (shared.now.table_id.words ≡ 3) }
+    requires table { IsSeatOf words.now.table_id seat.old }
     requires ready { (seat.old.me.0.ticket ≡ None) × (seat.old.me.0.kept ≡ None)
         × IsSome seat.old.me.0.origin }
-    requires turns { (0 < seat.old.me.0.left) × (seat.old.me.0.entered ≡ entered)
-        × (entered < 2 ^ 63) }
-    ensures seat { (seat.new.table_id ≡ seat.old.table_id) × (seat.new.id ≡ seat.old.id) }
-    ensures takes { result ≡ entered
+    requires turns { (0 < seat.old.me.0.left) × (seat.old.me.0.entered ≡ turns_entered)
+        × (turns_entered < 2 ^ 63) }
+    ensures seat { IsSameSeat seat.old seat.new }
+    ensures takes { result ≡ turns_entered
         → Takes T.origin T.stands (entering (finding seat.old.me.0 result) result) seat.old.me
         seat.new.me × MakeUp (given_back seat.new.me.0) (own_lists seat.old.me.0) }
-    ensures stays { result ≢ entered → (seat.new.me ≡ (finding seat.old.me.0 result, seat.old.me.1))
-        × (entered < result) × (seat.old.me.0.left + result ≤ seat.old.me.0.turns + 1) }
+    ensures stays { result ≢ turns_entered
+        → (seat.new.me ≡ (finding seat.old.me.0 result, seat.old.me.1))
+        × (turns_entered < result) × (seat.old.me.0.left + result ≤ seat.old.me.0.turns + 1) }
 {
-    shared.compare_exchange::<Close>(seat, TICKET, entered, entered + 1)
+    words.compare_exchange::<Close>(seat, TICKET, turns_entered, turns_entered + 1)
 }
 
 /// Sees the history.
-fn see<T: StandsFor<E>, E: HistoryEvent>(shared: &Words<T, E>, seat: &mut Place<T, E>)
-    requires table { (seat.old.table_id ≡ shared.now.table_id) × (shared.now.table_id.words ≡ 3) }
+fn see<T: StandsFor<E>, E: HistoryEvent>(words: &Words<T, E>, seat: &mut Place<T, E>)
+    requires table { IsSeatOf words.now.table_id seat.old }
     requires holds { IsSome seat.old.me.0.origin × IsSome seat.old.me.0.kept }
-    ensures seat { (seat.new.table_id ≡ seat.old.table_id) × (seat.new.id ≡ seat.old.id) }
+    ensures seat { IsSameSeat seat.old seat.new }
     ensures sees { seat.new.me ≡ (seeing seat.old.me.0 (given_back seat.old.me.0), seat.old.me.1) }
     ensures prefix { IsPrefix seat.old.me.0.seen (given_back seat.old.me.0) }
     ensures own { AllStand (given_back seat.old.me.0) (own_lists seat.old.me.0) }
 {
-    shared.load::<See>(seat, COUNT);
+    words.load::<See>(seat, COUNT);
 }
 
 /// Adds an event to the history.
-fn add<N: Naming<E>, T: StandsFor<E>, E: HistoryEvent>(shared: &Words<T, E>, seat: &mut Place<T, E>)
-    requires table { (seat.old.table_id ≡ shared.now.table_id) × (shared.now.table_id.words ≡ 3)
-        × (shared.now.key.turns ≤ 2 ^ 62) }
+fn add<N: Naming<E>, T: StandsFor<E>, E: HistoryEvent>(words: &Words<T, E>, seat: &mut Place<T, E>)
+    requires table { IsSeatOf words.now.table_id seat.old
+        × (words.now.key.turns ≤ 2 ^ 62) }
     requires holds { IsSome seat.old.me.0.kept × (seat.old.me.0.added ≡ None) }
     requires event { IsSome N.event }
-    ensures seat { (seat.new.table_id ≡ seat.old.table_id) × (seat.new.id ≡ seat.old.id) }
+    ensures seat { IsSameSeat seat.old seat.new }
     ensures adds { seat.new.me ≡ (
       adding seat.old.me.0 (list_of seat.old.me.0.kept) N.event,
       seat.old.me.1,
     ) }
     ensures own { AllStand seat.new.me.0.seen (own_lists seat.new.me.0) }
 {
-    shared.fetch_add::<Add<N>>(seat, COUNT, 1);
+    words.fetch_add::<Add<N>>(seat, COUNT, 1);
 }
 
 /// Gives the value back, serves the next ticket, and wakes those who wait for it.
-fn end_turn<T: StandsFor<E>, E: HistoryEvent>(
-    shared: &Words<T, E>,
-    seat: &mut Place<T, E>,
-    value: T,
-)
-    requires table { (seat.old.table_id ≡ shared.now.table_id) × (shared.now.table_id.words ≡ 3)
-        × (shared.now.key.turns ≤ 2 ^ 62) }
+fn end_turn<T: StandsFor<E>, E: HistoryEvent>(words: &Words<T, E>, seat: &mut Place<T, E>, value: T)
+    requires table { IsSeatOf words.now.table_id seat.old
+        × (words.now.key.turns ≤ 2 ^ 62) }
     requires holds { (seat.old.me.1 ≡ (0, None) ∷ []) × IsSome seat.old.me.0.kept }
     requires value { (seat.old.me.0.origin ≡ Some (T.origin value))
         × T.stands value (given_back seat.old.me.0) }
-    ensures seat { (seat.new.table_id ≡ seat.old.table_id) × (seat.new.id ≡ seat.old.id) }
+    ensures seat { IsSameSeat seat.old seat.new }
     ensures rests { seat.new.me ≡ (resting seat.old.me.0, []) }
 {
-    let out = shared.exchange(seat, 0, Some(value));
+    let out = words.exchange(seat, 0, Some(value));
     let None = out else { unreachable!() };
-    let served = shared.fetch_add::<End>(seat, SERVING, 1);
-    if shared.peek(TICKET) != served.wrapping_add(1) {
-        shared.wake_all(SERVING);
+    let served = words.fetch_add::<End>(seat, SERVING, 1);
+    if words.peek(TICKET) != served.wrapping_add(1) {
+        words.wake_all(SERVING);
     }
 }
 

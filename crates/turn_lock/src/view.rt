@@ -49,9 +49,9 @@ pub struct Law;
 
 impl<T: StandsFor<E>, E: HistoryEvent> TableRule<Option<T>, View<E>, Start<T>> for Law {
     ghost use Rattle.std.specs.Prelude.{◌+◌};
-    ghost use Rattle.turn_lock.specs.Rule.{Kept, fresh_view};
+    ghost use Rattle.turn_lock.specs.Rule.{TableStands, fresh_view};
 
-    ghost holds = { λ key. Kept T.origin T.stands (T.origin key.value.value) key.turns };
+    ghost holds = { λ key. TableStands T.origin T.stands (T.origin key.value.value) key.turns };
 
     ghost first = { λ key. fresh_view (T.origin key.value.value) key.turns (key.turns + 1) };
 }

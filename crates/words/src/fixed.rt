@@ -7,7 +7,7 @@ use std::alloc::{AllocError, Global};
 use std::marker::PhantomData;
 
 /// A text that is known.
-pub trait Known {
+pub trait FixedText {
     ghost TEXT: { List ℕ };
 
     fn text() -> &'static [u8]
@@ -17,7 +17,7 @@ pub trait Known {
 /// A fixed word.
 pub struct Fixed<T>(PhantomData<T>);
 
-impl<T: Known> Word for Fixed<T> {
+impl<T: FixedText> Word for Fixed<T> {
     ghost use Rattle.words.specs.Fixed.{fixed};
 
     type Value = ();

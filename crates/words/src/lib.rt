@@ -38,7 +38,7 @@ mod words_row;
 
 pub use cause::Cause;
 pub use channel_word::{ChannelWord, OfMaster};
-pub use fixed::{Fixed, Known};
+pub use fixed::{Fixed, FixedText};
 pub use hex_octets::{Hex, LentOctets};
 pub use identifier::{Identifier, PartWord, ValueWord};
 pub use last::Last;

@@ -36,7 +36,7 @@ pub struct Call {
 
 // An answer.
 #[derive(Clone, Copy, Debug, PartialEq, Eq)]
-pub enum Told {
+pub enum Answer {
     Fine,
     // A reply without a notice, and with one of this kind.
     Said(BookReply),
@@ -56,7 +56,7 @@ pub enum Told {
 
 // Who answers calls.
 pub trait Desk {
-    fn call(&mut self, call: &Call) -> Result<Told, Memory>;
+    fn call(&mut self, call: &Call) -> Result<Answer, Memory>;
 }
 
 fn number(word: Option<&str>) -> u32 {

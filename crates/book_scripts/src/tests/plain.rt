@@ -1,6 +1,6 @@
 // The book as a plain program, in which all is a list, and a line is a sentence of the rules. A
 // CLTU has one octet and no window.
-use super::call::{Call, Desk, Told, What};
+use super::call::{Answer, Call, Desk, What};
 use cltu_queue::{BookReply, Room};
 use octet_core::Memory;
 use std::alloc::Global;
@@ -234,16 +234,16 @@ impl Plain {
         }
     }
 
-    fn ask(&mut self, call: &Call) -> Result<Told, Memory> {
+    fn ask(&mut self, call: &Call) -> Result<Answer, Memory> {
         self.read(call.reading);
         let reply = self.reply(call)?;
         let is_quiet = matches!(call.what, What::Quiet);
         if reply == BookReply::Lost || is_quiet || !self.has_run(call.door) {
-            return Ok(Told::Said(reply));
+            return Ok(Answer::Said(reply));
         }
         Ok(match first_of(&mut self.notices) {
-            Some(kind) => Told::Told(reply, kind),
-            None => Told::Said(reply),
+            Some(kind) => Answer::Told(reply, kind),
+            None => Answer::Said(reply),
         })
     }
 
@@ -251,15 +251,15 @@ impl Plain {
         self.moment = self.moment.max(reading);
     }
 
-    fn publish(&mut self, call: &Call) -> Result<Told, Memory> {
+    fn publish(&mut self, call: &Call) -> Result<Answer, Memory> {
         let count = self.times.len();
         self.times.push(call.first)?;
         self.times.push(call.second)?;
         if is_sorted(&self.times) {
-            return Ok(Told::Fine);
+            return Ok(Answer::Fine);
         }
         self.times.truncate(count);
-        Ok(Told::Foreign(2))
+        Ok(Answer::Foreign(2))
     }
 
     // The places of good frames from the first place on and up to the stop: how many are given, the
@@ -280,22 +280,22 @@ impl Plain {
         found
     }
 
-    fn look(&self, call: &Call) -> Told {
+    fn look(&self, call: &Call) -> Answer {
         let front = self.times.len() as u64;
         let (items, next, more) = self.found(call);
         let closed = self.times.iter().any(|millis| *millis > call.reading);
-        Told::Seen(front, items, next, more, closed)
+        Answer::Seen(front, items, next, more, closed)
     }
 
-    fn take(&mut self) -> Told {
+    fn take(&mut self) -> Answer {
         if self.blocked || self.air.is_some() || self.production != 0 {
-            return Told::Idle;
+            return Answer::Idle;
         }
         let Some(id) = first_of(&mut self.waiting) else {
-            return Told::Idle;
+            return Answer::Idle;
         };
         self.air = Some((self.run, id));
-        Told::Radiates(self.run, id)
+        Answer::Radiates(self.run, id)
     }
 
     fn discard(&mut self) {
@@ -353,7 +353,7 @@ impl Plain {
         Ok(())
     }
 
-    fn radiate(&mut self, call: &Call) -> Result<Told, Memory> {
+    fn radiate(&mut self, call: &Call) -> Result<Answer, Memory> {
         self.read(call.reading);
         let run = u64::from(call.first);
         match call.what {
@@ -362,15 +362,15 @@ impl Plain {
             What::Interrupted => self.interrupted(run, call.second)?,
             _ => self.uplink((call.first % 4) as u8)?,
         }
-        Ok(Told::Fine)
+        Ok(Answer::Fine)
     }
 }
 
 impl Desk for Plain {
-    fn call(&mut self, call: &Call) -> Result<Told, Memory> {
+    fn call(&mut self, call: &Call) -> Result<Answer, Memory> {
         match call.what {
             What::Publish => self.publish(call),
-            What::Nowhere | What::Front => Ok(Told::Seen(
+            What::Nowhere | What::Front => Ok(Answer::Seen(
                 self.times.len() as u64,
                 0,
                 0,
@@ -379,10 +379,10 @@ impl Desk for Plain {
             )),
             What::Look => Ok(self.look(call)),
             What::Take | What::Done | What::Interrupted | What::Uplink => self.radiate(call),
-            What::View => Ok(Told::Queue(u128::from(self.moment), self.free(), self.production)),
+            What::View => Ok(Answer::Queue(u128::from(self.moment), self.free(), self.production)),
             What::Quit => {
                 self.quit(call.door);
-                Ok(Told::Fine)
+                Ok(Answer::Fine)
             }
             _ => self.ask(call),
         }

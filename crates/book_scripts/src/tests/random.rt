@@ -1,8 +1,8 @@
 // Random calls of the book and of the plain program.
 ghost use Rattle.std.specs.Prelude.{◌<◌};
 
+use super::book_desk::BookDesk;
 use super::call::{Call, Desk, What};
-use super::kept::Kept;
 use super::plain::Plain;
 use std::alloc::{AllocError, Global};
 use std::process::Abort;
@@ -61,7 +61,7 @@ fn agree<A: Desk, B: Desk>(book: &mut A, plain: &mut B, call: &Call) -> Result<b
 
 // They do so over 150 calls, picked from the seed on.
 pub fn compare(rt: &impl Abort, alloc: Global, seed: u64) -> Result<(), AllocError> {
-    let mut book = Kept::new(alloc).map_err(AllocError::from)?;
+    let mut book = BookDesk::new(alloc).map_err(AllocError::from)?;
     let mut plain = Plain::new(alloc);
     let mut random = seed;
     for place in 0..150 {

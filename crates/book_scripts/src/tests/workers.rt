@@ -1,7 +1,7 @@
 // The ends of workers.
 ghost use Rattle.std.specs.Prelude.{◌≡◌, ◌≤◌};
 
-use super::kept::book_of;
+use super::book_desk::book_of;
 use super::random::{below, next_random};
 use station_book::Book;
 use std::alloc::{AllocError, Global};

@@ -94,14 +94,14 @@ impl Station {
         Ok(true)
     }
 
-    fn ask(&mut self, site: &Site, c: u32, asked: &AskLine) -> Result<bool, AskFault>
+    fn ask(&mut self, site: &Site, c: u32, line: &AskLine) -> Result<bool, AskFault>
         requires site { IsSite site.now }
-        requires fits { ask.Fits asked.now }
+        requires fits { ask.Fits line.now }
     {
         let Some(mut connection) = self.take_out(c) else {
             return Ok(false);
         };
-        connection.ask(self.alloc, asked)?;
+        connection.ask(self.alloc, line)?;
         Ok(self.turn(site, c, connection, 1)?)
     }
 }

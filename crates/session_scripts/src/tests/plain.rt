@@ -138,8 +138,8 @@ impl Plain {
     }
 
     // A poll of a piece, or of what is free of the room of a longest message.
-    fn poll(&mut self, link: &mut MemoryLink, held: usize) -> Result<(), Memory> {
-        let space = ROOM.saturating_sub(held).min(PIECE);
+    fn poll(&mut self, link: &mut MemoryLink, unread: usize) -> Result<(), Memory> {
+        let space = ROOM.saturating_sub(unread).min(PIECE);
         let space = space.min(self.space.len());
         match link.poll(&mut self.space[..space]) {
             Poll::Arrived(count) => {
@@ -180,11 +180,11 @@ impl Plain {
     // What a BIND leads to. The book was asked where there is no reason against it.
     fn bind(
         &mut self,
-        wanted: Result<u32, u8>,
+        judgement: Result<u32, u8>,
         version: u8,
         reply: BookReply,
     ) -> Result<(), Memory> {
-        match wanted {
+        match judgement {
             Err(diagnostic) => self.answer_bind(Err(diagnostic)),
             Ok(_) if reply == BookReply::Bound => {
                 self.state = State::Ready;
@@ -315,7 +315,7 @@ impl Plain {
 }
 
 impl Talker for Plain {
-    fn begin(alloc: Global, door: u32, entered: u128) -> Result<Plain, Memory> {
+    fn begin(alloc: Global, door: u32, now: u128) -> Result<Plain, Memory> {
         Ok(Plain {
             alloc,
             door,
@@ -326,9 +326,9 @@ impl Talker for Plain {
             course: Course::Going,
             interval: 0,
             patience: 0,
-            sent: entered,
-            heard: entered,
-            moment: entered,
+            sent: now,
+            heard: now,
+            moment: now,
             block: Vec::new(alloc),
             arrival: Arrival::Nothing,
             relieved: false,

@@ -52,8 +52,8 @@ const REFUSED: [&str; 4] = ["MOC-0-3-RC", "MOC-2-5-RC", "NOBODY-0-5-RC", "OTHER-
 const OTHERS: [&str; 4] = ["ABORT", "STOP", "CONTEXT", "0300000001"];
 
 // What a user says next: first mostly a context, and then mostly a BIND.
-fn word_of(said: u32, dice: &mut Dice) -> &'static str {
-    match (said, dice.below(20)) {
+fn word_of(place: u32, dice: &mut Dice) -> &'static str {
+    match (place, dice.below(20)) {
         (0, 0) => "BEAT",
         (0, _) => dice.one_of(&CONTEXTS),
         (1, 0..=13) | (_, 0) => dice.one_of(&BINDS),
@@ -235,8 +235,8 @@ const SECONDS: [u32; 8] = [0, 0, 1, 2, 4, 5, 10, 25];
 const BOUND: [u32; 3] = [0, 1, 5];
 
 // A message of ends and faults has a capital letter.
-fn is_end(told: &str) -> bool {
-    told.bytes().any(|letter| letter.is_ascii_uppercase())
+fn is_end(line: &str) -> bool {
+    line.bytes().any(|letter| letter.is_ascii_uppercase())
 }
 
 fn new_user(alloc: Global, door: u32) -> User {

@@ -23,10 +23,10 @@ fn further(place: usize, octets: usize) -> u64 {
 }
 
 // Where the first octet stands that isn't as wanted.
-fn difference(octets: &[u8], wanted: &[u8]) -> Option<usize> {
+fn difference(octets: &[u8], pattern: &[u8]) -> Option<usize> {
     octets
         .iter()
-        .zip(wanted)
+        .zip(pattern)
         .position(|(octet, want)| octet != want)
 }
 

@@ -12,7 +12,7 @@ use std::alloc::Global;
 
 pub trait Talker: Drop {
     // At a door, begun at a moment, with the draw 1.
-    fn begin(alloc: Global, door: u32, entered: u128) -> Result<Self, Memory>;
+    fn begin(alloc: Global, door: u32, now: u128) -> Result<Self, Memory>;
 
     fn listen(&mut self, link: &mut MemoryLink) -> Result<(), Memory>;
 
@@ -34,8 +34,8 @@ pub trait Talker: Drop {
 }
 
 impl Talker for Session {
-    fn begin(alloc: Global, door: u32, entered: u128) -> Result<Session, Memory> {
-        Session::new(alloc, door, 1, entered)
+    fn begin(alloc: Global, door: u32, now: u128) -> Result<Session, Memory> {
+        Session::new(alloc, door, 1, now)
     }
 
     fn listen(&mut self, link: &mut MemoryLink) -> Result<(), Memory> {

@@ -9,8 +9,8 @@ pub fn digits(alloc: Global, octets: &[u8]) -> Result<String, AllocError> {
     hex::encode(alloc, octets)
 }
 
-fn heard_told(alloc: Global, heard: &Heard) -> Result<String, AllocError> {
-    match heard {
+fn heard_told(alloc: Global, poll: &Heard) -> Result<String, AllocError> {
+    match poll {
         Heard::Arrived(octets) => {
             let count = octets.len();
             format!(in alloc; "heard {count} ")

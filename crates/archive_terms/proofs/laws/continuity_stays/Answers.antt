@@ -1,4 +1,5 @@
-use Rattle.archive_terms.proofs.Told.{continuity_stays, buffers_stay, offline_stay, run_stays}
+use Rattle.archive_terms.proofs.ToldBuffers.{continuity_stays, buffers_stay, offline_stay}
+use Rattle.archive_terms.proofs.ToldBuffers.{run_stays}
 use Rattle.archive_terms.proofs.laws.continuity_stays.Goals as goal
 
 pub returns-clause-of_a_frame : goal.returns-clause-of_a_frame

@@ -1,4 +1,4 @@
-use Rattle.archive_terms.proofs.Told.{told-join, told_continuities}
+use Rattle.archive_terms.proofs.ToldBuffers.{told-join, told_continuities}
 use Rattle.archive_terms.proofs.laws.told_in_order.Goals as goal
 
 pub returns-clause-by_buffer : goal.returns-clause-by_buffer

@@ -1,7 +1,7 @@
 use Rattle.std.proofs.Common.{◌+◌, [], ◌∷◌}
 use Rattle.disk_model.specs.Calls.{runs_and, follows_if_ok}
 use Rattle.disk_model.specs.declared.call.Call.TheVariants.{Write, Sync}
-use Rattle.gate_journal.specs.Kept.{IsOldOrNew}
+use Rattle.gate_journal.specs.JournalState.{IsOldOrNew}
 use Rattle.disk_model.specs.Throughout.{weaker, and_then}
 use Rattle.gate_journal.proofs.Adding.{first_holds, second_holds, added, rests_again}
 use Rattle.gate_journal.proofs.journal.put.Goals as goal

@@ -7,4 +7,4 @@ pub append-requires-clause-archive : goal.append-requires-clause-archive
 append-requires-clause-archive c κs entries keeps =
     let passed : c.follows.result ≡ true = search rules in
     c.a_batch_may_follow.ensures.archive (Some (pending_of c.args.journal.now.disk))
-    c.args.stored.now c.args.batch.now entries c.requires (sym c.follows.ensures ∙ passed) keeps
+    c.args.before.now c.args.batch.now entries c.requires (sym c.follows.ensures ∙ passed) keeps

@@ -1,5 +1,5 @@
 use Rattle.std.proofs.Common.{[], ◌∷◌, Some, rules}
-use Rattle.lock_sample.specs.Told.{Adds}
+use Rattle.lock_sample.specs.DeskReport.{Adds}
 use Rattle.lock_sample.proofs.Serving.{serving_more}
 use Rattle.lock_sample.proofs.serve.serve_desk.Goals as goal
 

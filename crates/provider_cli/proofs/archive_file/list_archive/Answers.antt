@@ -2,7 +2,7 @@ use Rattle.std.proofs.Common.{inl, inr, refl}
 use Rattle.disk_model.specs.Moments.{IsImageOf}
 use Rattle.disk_model.specs.Throughout.{started, goes_on, weaker, and_then}
 use Rattle.provider_cli.specs.Archives.{failed}
-use Rattle.provider_cli.proofs.Listed.{reads_hold, image_before, leaves_before, stands_after}
+use Rattle.provider_cli.proofs.ListOutcomes.{reads_hold, image_before, leaves_before, stands_after}
 use Rattle.provider_cli.proofs.archive_file.list_archive.Goals as goal
 
 pub returns-in-Ok : goal.returns-in-Ok

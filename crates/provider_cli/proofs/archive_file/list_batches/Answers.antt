@@ -3,9 +3,9 @@ use Rattle.provider_cli.specs.Archives.{listed, failed_behind, stopped_behind, c
 use Rattle.provider_cli.specs.Archives.{ReadTo}
 use Rattle.provider_cli.specs.declared.status.Status.TheVariants as ends
 use Rattle.provider_cli.proofs.Outcomes.{closes_by}
-use Rattle.provider_cli.proofs.Listed.{all_listed, still_kept, none_other, reads_hold}
-use Rattle.provider_cli.proofs.Listed.{closes_behind}
-use Rattle.provider_cli.proofs.Listed.{closes_written, closes_stop}
+use Rattle.provider_cli.proofs.ListOutcomes.{all_listed, still_kept, none_other, reads_hold}
+use Rattle.provider_cli.proofs.ListOutcomes.{closes_behind}
+use Rattle.provider_cli.proofs.ListOutcomes.{closes_written, closes_stop}
 use Rattle.provider_cli.proofs.archive_file.list_batches.Goals as goal
 
 pub returns-in-Ok-Whole : goal.returns-in-Ok-Whole

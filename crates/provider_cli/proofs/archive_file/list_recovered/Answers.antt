@@ -1,5 +1,5 @@
 use Rattle.provider_cli.specs.Archives.{listed}
-use Rattle.provider_cli.proofs.Listed.{all_listed, stands_for, none_other}
+use Rattle.provider_cli.proofs.ListOutcomes.{all_listed, stands_for, none_other}
 use Rattle.provider_cli.proofs.archive_file.list_recovered.Goals as goal
 
 pub returns-in-Ok : goal.returns-in-Ok

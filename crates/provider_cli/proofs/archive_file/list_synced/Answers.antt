@@ -1,7 +1,7 @@
 use Rattle.std.proofs.Common.{inl, refl, inr, ap, Err}
 use Rattle.provider_cli.specs.declared.status.Status.TheVariants as ends
 use Rattle.provider_cli.specs.Archives.{failed, unread}
-use Rattle.provider_cli.proofs.Listed.{reads_hold, closes_unwritten}
+use Rattle.provider_cli.proofs.ListOutcomes.{reads_hold, closes_unwritten}
 use Rattle.provider_cli.proofs.archive_file.list_synced.Goals as goal
 
 pub returns-in-Err-DiskFault : goal.returns-in-Err-DiskFault

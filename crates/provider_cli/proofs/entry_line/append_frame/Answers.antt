@@ -3,7 +3,7 @@ use Rattle.provider_cli.proofs.entry_line.append_frame.Goals as goal
 
 pub returns : goal.returns
 returns c =
-    let is = line_is c.args.into.now.items c.args.ert c.args.quality c.args.antenna.now c.args.lost
+    let is = line_is c.args.into.now.items c.args.ert c.args.quality c.args.antenna.now c.args.gap
     c.args.octets.now in
     cc (
       is,

@@ -1,5 +1,5 @@
 use Rattle.std.proofs.Common.{◌++◌, Err, ⊎_elim, ap, subst, sym, ◌∙◌}
-use Rattle.gate_journal.specs.Batches.{Passed, StandsForSome}
+use Rattle.gate_journal.specs.Batches.{HasPassed, StandsForSome}
 use Rattle.provider_cli.proofs.Gathering.{front_read, tells_nothing, gathered_none}
 use Rattle.provider_cli.proofs.Gathering.{gathered_by, gathered_stop, batch_put, batch_stopped}
 use Rattle.provider_cli.proofs.listing.put_batches.Goals as goal
@@ -18,7 +18,7 @@ put_batch-requires g c =
     let going = c.loop-batches.invariant.0 in
     rw c.batch.ensures (c.a_batch_may_follow.ensures.storable going.entries c.next.new.self.batch
     (c.in-Ok-true.ensures.batch c.in-Ok-true.field-0-test going.entries
-    (subst (λ d. Passed (g.D.Disk.pending d) going.entries c.loop-batches.batches)
+    (subst (λ d. HasPassed (g.D.Disk.pending d) going.entries c.loop-batches.batches)
     (sym c.loop-batches.invariant.1) going.passed)).knows.0)
 
 pub returns-in_err-put_batch-in-Ok-true-clause-gathers :
@@ -28,10 +28,11 @@ returns-in_err-put_batch-in-Ok-true-clause-gathers g c =
     let going = c.loop-batches.invariant.0 in
     let batch = c.next.new.self.batch in
     let same = ⊎_elim (λ is. absurd cc) (λ same. same) c.in-Ok-true.ensures.same in
-    let passed = subst (λ d. Passed (g.D.Disk.pending d) (going.entries ++ batch) c.next.new.self)
+    let passed = subst
+    (λ d. HasPassed (g.D.Disk.pending d) (going.entries ++ batch) c.next.new.self)
     (same ∙ c.loop-batches.invariant.1)
     (c.in-Ok-true.ensures.batch c.in-Ok-true.field-0-test going.entries
-    (subst (λ d. Passed (g.D.Disk.pending d) going.entries c.loop-batches.batches)
+    (subst (λ d. HasPassed (g.D.Disk.pending d) going.entries c.loop-batches.batches)
     (sym c.loop-batches.invariant.1) going.passed)) in
     gathered_stop pending (g.O.Sink.written c.args.output.now)
     (g.O.Sink.written c.put_batch.new.output) (g.O.Sink.faults c.args.output.now)
@@ -54,10 +55,11 @@ loop-batches-preserved g c =
     let same = ⊎_elim (λ is. absurd cc) (λ same. same) c.in-Ok-true.ensures.same in (
       record {
         entries = going.entries ++ batch;
-        passed = subst (λ d. Passed (g.D.Disk.pending d) (going.entries ++ batch) c.next.new.self)
+        passed = subst
+            (λ d. HasPassed (g.D.Disk.pending d) (going.entries ++ batch) c.next.new.self)
             (same ∙ c.loop-batches.invariant.1)
             (c.in-Ok-true.ensures.batch c.in-Ok-true.field-0-test going.entries
-            (subst (λ d. Passed (g.D.Disk.pending d) going.entries c.loop-batches.batches)
+            (subst (λ d. HasPassed (g.D.Disk.pending d) going.entries c.loop-batches.batches)
             (sym c.loop-batches.invariant.1) going.passed));
         behind = batch_put (g.O.Sink.written c.args.output.now)
             (g.O.Sink.written c.loop-batches.output) (g.O.Sink.faults c.args.output.now)
@@ -82,6 +84,6 @@ returns-in-Err-next-clause-gathers g c =
     (front_read c.what_is_read_is_a_front.ensures pending going.entries c.loop-batches.batches
     c.requires.whole going.passed) c.in-Err-next.fault c.gate.result
     (λ is. tells_nothing pending c.requires.whole
-    (subst (λ d. Passed (g.D.Disk.pending d) going.entries c.loop-batches.batches
+    (subst (λ d. HasPassed (g.D.Disk.pending d) going.entries c.loop-batches.batches
     → StandsForSome (g.D.Disk.pending d) → ⊥) c.loop-batches.invariant.1
     (c.in-Err-next.ensures.unfit (ap (λ f. Err f) is) going.entries) going.passed)))

@@ -2,7 +2,7 @@ use Rattle.std.proofs.Common.{List, take, subst}
 use Rattle.std.proofs.lemmas.List.{take-map}
 use Rattle.archive_terms.specs.Archive as archive
 use Rattle.record_form.specs.Entry.{entry_of, entries_of}
-use Rattle.archive_index.specs.Kept.{Indexes}
+use Rattle.archive_index.specs.IndexState.{Indexes}
 use Rattle.return_rows.proofs.index.cut_to.Goals as goal
 
 pub returns : goal.returns

@@ -1,6 +1,6 @@
 use Rattle.std.proofs.Common.{take}
 use Rattle.record_form.specs.Entry.{entries_of}
-use Rattle.archive_index.specs.Kept.{Indexes}
+use Rattle.archive_index.specs.IndexState.{Indexes}
 use Rattle.return_rows.proofs.index.index_of.Given as goal
 
 abbrev pub invariant-loop-entry : goal.invariant-loop-entry

@@ -8,10 +8,10 @@ use Rattle.station_book.proofs.extend.extend.Goals as goal
 pub returns-then-not-may_follow-clause-foreign : goal.returns-then-not-may_follow-clause-foreign
 returns-then-not-may_follow-clause-foreign c = λ _.
     let xs = c.args.entries.now in
-    let old = c.args.held.now.items in
+    let old = c.args.archive.now.items in
     let i = c.loop-entry.entry-index in
     let e = c.entry-item.result in
-    let held = c.loop-entry.held.items in
+    let held = c.loop-entry.archive.items in
     let judged = c.may_follow.ensures (entries_of held) c.loop-entry.invariant.indexed in
     let follows : may_follow (entries_of held) (entry_of e) ≡ false =
     cc (judged, c.if-not-may_follow.true) in

@@ -1,5 +1,5 @@
 use Rattle.disk_model.specs.Moments.{IsImageOf}
-use Rattle.station_law.specs.Held.{told_by}
+use Rattle.station_law.specs.IsHeld.{told_by}
 use Rattle.station_law.proofs.Disks.{at_end, image_before}
 use Rattle.station_law.proofs.Reopening.{found_left, rests_left}
 use Rattle.station_law.proofs.storing.restart.Goals as goal

@@ -1,9 +1,9 @@
 use Rattle.std.proofs.Common.{ℕ, List, [], ◌∷◌}
 use Rattle.archive_terms.specs.Archive.{Entry}
 use Rattle.record_form.specs.Entry.{entry_of}
-use Rattle.station_law.specs.Held.{HoldsAllOrNone}
+use Rattle.station_law.specs.IsHeld.{HoldsAllOrNone}
 use Rattle.station_law.specs.Storing.{HasFailed}
-use Rattle.station_law.proofs.Held.{on_err}
+use Rattle.station_law.proofs.WorldArchives.{on_err}
 use Rattle.station_law.proofs.storing.settle.Goals as goal
 
 pub returns-in_err-opened-clause-images : goal.returns-in_err-opened-clause-images

@@ -1,6 +1,6 @@
 use Rattle.std.proofs.Common.{◌-◌}
-use Rattle.gate_journal.specs.Kept.{appending}
-use Rattle.station_law.proofs.Held.{store_images, stored_now}
+use Rattle.gate_journal.specs.JournalState.{appending}
+use Rattle.station_law.proofs.WorldArchives.{store_images, stored_now}
 use Rattle.station_law.proofs.storing.store.Goals as goal
 
 pub returns-in_default-clause-images : goal.returns-in_default-clause-images

@@ -3,7 +3,7 @@ use Rattle.record_form.specs.Entry.{entry_of}
 use Rattle.disk_model.specs.Calls.{follows_if_ok}
 use Rattle.frame_archive.specs.declared.fault.OfferFault.{OfferFault}
 use Rattle.frame_archive.specs.Faults.{IsRefusal}
-use Rattle.station_law.proofs.Held.{none_stored, takes_so, waits_now}
+use Rattle.station_law.proofs.WorldArchives.{none_stored, takes_so, waits_now}
 use Rattle.station_law.proofs.Results.{on_err}
 use Rattle.station_law.proofs.storing.store_again.Goals as goal
 

@@ -2,8 +2,8 @@ use Rattle.std.proofs.Common.{List, [], ◌∷◌, subst}
 use Rattle.archive_terms.specs.Archive.{Entry}
 use Rattle.record_form.specs.Entry.{entry_of}
 use Rattle.record_form.specs.declared.entry.Entry as form
-use Rattle.station_law.specs.Held.{Waits, HoldsAllOrNone}
-use Rattle.station_law.proofs.Held.{on_err}
+use Rattle.station_law.specs.IsHeld.{Waits, HoldsAllOrNone}
+use Rattle.station_law.proofs.WorldArchives.{on_err}
 use Rattle.station_law.proofs.Reopening.{failed_so, settled_failed}
 use Rattle.station_law.proofs.storing.store_struck.Goals as goal
 

@@ -2,9 +2,9 @@ use Rattle.std.proofs.Common.{◌≡◌, ◌∙◌, ap, rules, List, [], ◌∷�
 use Rattle.archive_terms.specs.Archive.{Entry}
 use Rattle.disk_model.specs.declared.orders.Orders.{Orders}
 use Rattle.disk_model.specs.MemoryDisk.{steered}
-use Rattle.station_law.specs.Held.{Waits, HoldsAllOrNone}
+use Rattle.station_law.specs.IsHeld.{Waits, HoldsAllOrNone}
 use Rattle.station_law.specs.Storing.{orders_by}
-use Rattle.station_law.proofs.Held.{none_stored}
+use Rattle.station_law.proofs.WorldArchives.{none_stored}
 use Rattle.station_law.proofs.Striking.{Struck, never_made, struck_by, told_as, told_still}
 use Rattle.station_law.proofs.Striking.{told_images, images_told, failed_there}
 use Rattle.station_law.proofs.storing.strike.Goals as goal

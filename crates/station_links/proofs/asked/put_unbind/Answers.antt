@@ -5,4 +5,4 @@ use Rattle.station_links.proofs.asked.put_unbind.Goals as goal
 
 pub begin-requires : goal.begin-requires
 begin-requires c =
-    omega (arith, c.length.ensures, few_unbind (unbind_of c.args.sent.now) c.requires)
+    omega (arith, c.length.ensures, few_unbind (unbind_of c.args.message.now) c.requires)

@@ -1,8 +1,8 @@
 use Rattle.std.proofs.Common.{◌∙◌, arith}
 use Rattle.record_form.specs.Entry.{entry_of}
-use Rattle.frame_archive.specs.Held.{Acknowledges}
+use Rattle.frame_archive.specs.Acknowledges.{Acknowledges}
 use Rattle.store_sample.proofs.Kept.{kept_none, kept_one}
-use Rattle.store_sample.proofs.Told.{told_one}
+use Rattle.store_sample.proofs.CountLines.{told_one}
 use Rattle.store_sample.proofs.storing.store_one.Goals as goal
 
 pub returns-in_err-count-clause-acknowledged : goal.returns-in_err-count-clause-acknowledged

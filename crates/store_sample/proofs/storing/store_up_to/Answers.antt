@@ -1,8 +1,8 @@
 use Rattle.std.proofs.Common.{◌+◌, ◌++◌, arith}
-use Rattle.frame_archive.specs.Held.{Acknowledges}
+use Rattle.frame_archive.specs.Acknowledges.{Acknowledges}
 use Rattle.store_sample.specs.Numbered.{numbered_between}
 use Rattle.store_sample.proofs.Kept.{kept_on, kept_more}
-use Rattle.store_sample.proofs.Told.{told_more, told_stopped}
+use Rattle.store_sample.proofs.CountLines.{told_more, told_stopped}
 use Rattle.store_sample.proofs.storing.store_up_to.Goals as goal
 
 pub returns-in_err-store_one-clause-told : goal.returns-in_err-store_one-clause-told

@@ -1,7 +1,7 @@
 use Rattle.std.proofs.Common.{◌≡◌, ◌≤◌, ◌++◌, ℕ, Ok, max, List}
 use Rattle.octet_core.specs.Written.{Writes}
 use Rattle.archive_terms.specs.Archive.{Entry}
-use Rattle.frame_archive.specs.Held.{Acknowledges}
+use Rattle.frame_archive.specs.Acknowledges.{Acknowledges}
 use Rattle.store_sample.specs.Numbered.{numbered_between, counts}
 use Rattle.store_sample.specs.Storing.{Rests}
 use Rattle.store_sample.specs.declared.halt.Halt.TheVariants.{WriteFault}

@@ -10,7 +10,7 @@ fetch_add-requires g c =
     let e = some_is g.N.Naming.event c.requires.event in (
       search rules,
       search rules,
-      adds _ _ _ _ _ _ _ h.0 _ e.0 e.1 c.requires.table.2 h.1
+      adds _ _ _ _ _ _ _ h.0 _ e.0 e.1 c.requires.table.1 h.1
           c.requires.holds.1,
     )
 

@@ -6,5 +6,5 @@ pub fetch_add-requires : goal.fetch_add-requires
 fetch_add-requires g c = (
   search rules,
   search rules,
-  draws _ _ _ _ _ _ _ c.requires.table.2 c.requires.ready.0 c.requires.ready.1 c.requires.ready.2,
+  draws _ _ _ _ _ _ _ c.requires.table.1 c.requires.ready.0 c.requires.ready.1 c.requires.ready.2,
 )

@@ -21,6 +21,6 @@ fetch_add-served-requires g c =
     (sym now) before in (
       search rules,
       search rules,
-      ends _ _ _ _ _ _ _ x h.0 c.requires.table.2 carries value origin
+      ends _ _ _ _ _ _ _ x h.0 c.requires.table.1 carries value origin
           stands,
     )

@@ -12,11 +12,11 @@ compare_exchange-requires g c =
     )
 
 pub returns-clause-takes : goal.returns-clause-takes
-returns-clause-takes g c e = rw (eq-eqb c.compare_exchange.result c.args.entered e) at
+returns-clause-takes g c e = rw (eq-eqb c.compare_exchange.result c.args.turns_entered e) at
     c.compare_exchange.ensures.2
 
 pub returns-clause-stays : goal.returns-clause-stays
 returns-clause-stays g c other =
-    let h = rw (ne_eqb c.compare_exchange.result c.args.entered other) at
+    let h = rw (ne_eqb c.compare_exchange.result c.args.turns_entered other) at
     c.compare_exchange.ensures.2 in
     (h.0, omega (arith, h.1, c.requires.turns.1), h.2)

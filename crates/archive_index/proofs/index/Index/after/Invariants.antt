@@ -2,7 +2,7 @@ use Rattle.std.proofs.Common.{◌≡◌, List}
 use Rattle.archive_terms.specs.Archive as archive
 use Rattle.archive_terms.specs.Glimpse.{picked_from}
 use Rattle.frame_select.specs.Selection.{selection_of}
-use Rattle.archive_index.specs.Kept.{Indexes}
+use Rattle.archive_index.specs.IndexState.{Indexes}
 use Rattle.archive_index.proofs.index.Index.after.Given as goal
 
 -- nothing is picked before the place

@@ -17,7 +17,7 @@ returns-then-is_full c =
     let n : IsNext (entries_of c.args.entries.now) (selection_of c.args.selection.now)
     c.loop-place.cursor.place c.in-Some.place =
     at c.args.entries.now _ _ _ c.after.result c.in-Some.is (c.after.ensures _ c.requires) in
-    gives_full (entries_of c.args.entries.now) (selection_of c.args.selection.now) c.args.wanted
+    gives_full (entries_of c.args.entries.now) (selection_of c.args.selection.now) c.args.first
     c.loop-place.cursor c.loop-place.items c.in-Some.place n.entry c.loop-place.invariant
     (sym c.is_full.ensures ∙ c.if-is_full.true) n.first
 
@@ -85,20 +85,20 @@ loop-place-preserved c =
     c.in_ok-item.ensures entries c.requires
     ∙ ap (λ e. said_of (archived place e, continuity_of entries (now.since, archived place e)))
     (sym e) in
-    let step : Remains entries s c.args.wanted (c.loop-place.items ++ item ∷ [])
+    let step : Remains entries s c.args.first (c.loop-place.items ++ item ∷ [])
     (behind now place n.entry) =
-    remains_behind entries s c.args.wanted now c.loop-place.items place n.entry item
+    remains_behind entries s c.args.first now c.loop-place.items place n.entry item
     c.loop-place.invariant
     (sym c.is_full.ensures ∙ c.if-is_full.false) n.first said in
     let after : behind now place n.entry ≡ c.behind-cursor.result = ap (behind now place) e
     ∙ sym c.behind-cursor.ensures in
-    subst (λ items. Remains entries s c.args.wanted items c.behind-cursor.result)
+    subst (λ items. Remains entries s c.args.first items c.behind-cursor.result)
     (sym c.in_ok-push.ensures.ok)
-    (subst (λ k. Remains entries s c.args.wanted (c.loop-place.items ++ item ∷ []) k) after step)
+    (subst (λ k. Remains entries s c.args.first (c.loop-place.items ++ item ∷ []) k) after step)
 
 pub returns : goal.returns
 returns c =
-    gives_all (entries_of c.args.entries.now) (selection_of c.args.selection.now) c.args.wanted
+    gives_all (entries_of c.args.entries.now) (selection_of c.args.selection.now) c.args.first
     c.loop-place.cursor c.loop-place.items c.loop-place.invariant
     (no_next (entries_of c.args.entries.now) (selection_of c.args.selection.now)
     c.loop-place.cursor.place (sym c.in_default.is ∙ c.after.ensures _ c.requires))

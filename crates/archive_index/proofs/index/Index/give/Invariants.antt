@@ -6,7 +6,7 @@ use Rattle.archive_index.proofs.index.Index.give.Given as goal
 
 -- all that is wanted is what was given and what remains
 abbrev pub invariant-loop-place : goal.invariant-loop-place
-invariant-loop-place l = Remains (entries_of l.entries) (selection_of l.selection) l.fn.wanted
+invariant-loop-place l = Remains (entries_of l.entries) (selection_of l.selection) l.fn.first
     l.items l.cursor
 
 abbrev pub decreases-loop-place : goal.decreases-loop-place

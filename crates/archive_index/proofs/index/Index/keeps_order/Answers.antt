@@ -1,6 +1,6 @@
 use Rattle.std.proofs.Common.{ap, ◌∙◌}
 use Rattle.record_form.specs.Entry.{entry_of}
-use Rattle.archive_index.specs.Kept.{is_in_order}
+use Rattle.archive_index.specs.IndexState.{is_in_order}
 use Rattle.archive_index.proofs.Orders.{in_order}
 use Rattle.archive_index.proofs.index.Index.keeps_order.Goals as goal
 

@@ -1,7 +1,7 @@
 use Rattle.std.proofs.Common.{◌≡◌, sym, ap, ◌∙◌}
 use Rattle.frame_select.specs.Selection.{selection_of}
-use Rattle.archive_index.specs.Kept.{of_notice, kind_of, kind_seen, tells}
-use Rattle.archive_index.proofs.Told.{notice_picked}
+use Rattle.archive_index.specs.IndexState.{of_notice, kind_of, kind_seen, tells}
+use Rattle.archive_index.proofs.NoticeTotals.{notice_picked}
 use Rattle.archive_index.proofs.mark.Mark.is_picked.Goals as goal
 
 pub returns-in-Notice : goal.returns-in-Notice

@@ -2,7 +2,7 @@ use Rattle.std.proofs.Common.{◌≡◌, None, [], ◌∷◌, take, sym, ap, sub
 use Rattle.std.proofs.lemmas.List.{take-append-le}
 use Rattle.record_form.specs.Entry.{entry_of}
 use Rattle.frame_archive.specs.State.{ArchiveState, failed_batch, refusal, times_after, need}
-use Rattle.frame_archive.specs.Held.{Acknowledges}
+use Rattle.frame_archive.specs.Acknowledges.{Acknowledges}
 use Rattle.frame_archive.proofs.LastTimes.{same_times}
 use Rattle.frame_archive.proofs.Offers.{passes, octets_fit, sound_offered, acknowledges_offered}
 use Rattle.frame_archive.proofs.archive.FrameArchive.offer.Goals as goal

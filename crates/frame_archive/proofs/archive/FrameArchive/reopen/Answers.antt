@@ -1,7 +1,7 @@
 use Rattle.std.proofs.Common.{⊎_elim, sym, ap, subst, ◌∙◌}
 use Rattle.std.proofs.lemmas.Result.{err_from_is_err_and}
 use Rattle.frame_archive.specs.State.{ArchiveState, times_of}
-use Rattle.frame_archive.specs.Held.{Acknowledges}
+use Rattle.frame_archive.specs.Acknowledges.{Acknowledges}
 use Rattle.frame_archive.proofs.Holding.{acknowledges_found, either_of, landed_are, neither_is}
 use Rattle.frame_archive.proofs.Holding.{stands_for, stands_one, unread_opening}
 use Rattle.frame_archive.proofs.archive.FrameArchive.reopen.Goals as goal

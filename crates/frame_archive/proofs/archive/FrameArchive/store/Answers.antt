@@ -1,6 +1,6 @@
 use Rattle.std.proofs.Common.{rules, sym, subst, ◌∙◌}
 use Rattle.frame_archive.specs.State.{ArchiveState}
-use Rattle.frame_archive.specs.Held.{Acknowledges}
+use Rattle.frame_archive.specs.Acknowledges.{Acknowledges}
 use Rattle.frame_archive.proofs.Holding.{acknowledges_failed, failed_at, sound_stored}
 use Rattle.frame_archive.proofs.archive.FrameArchive.store.Goals as goal
 

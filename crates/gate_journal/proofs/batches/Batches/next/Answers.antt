@@ -1,5 +1,5 @@
 use Rattle.std.proofs.Common.{◌≤◌, List, ℕ, subst, ◌++◌, length, Option, Some, IfSome}
-use Rattle.gate_journal.specs.Batches.{Passed, batch_in}
+use Rattle.gate_journal.specs.Batches.{HasPassed, batch_in}
 use Rattle.gate_journal.specs.declared.order.Times.{Times}
 use Rattle.gate_journal.proofs.Batching.{sliced, holds_there, standing}
 use Rattle.gate_journal.proofs.Batching.{shut_next, batch_next, none_next, gate_is}
@@ -33,7 +33,7 @@ returns-in-Ok-Some-clause-batch g c is entries passed =
     passed in
     let found = gate_is _ c.in-Ok-Some.field-0-is
     (c.in-Ok-Some.ensures.exact entries there.passed.knows) in
-    subst (λ (room : List ℕ). Passed (g.D.Disk.pending c.fill.new.disk)
+    subst (λ (room : List ℕ). HasPassed (g.D.Disk.pending c.fill.new.disk)
     (entries ++ batch_in room (Some c.self.inside.at))
     (standing c.self.inside.start c.in-Ok-Some.end c.in-Ok-Some.times room
     (batch_in room (Some c.self.inside.at)))) c.as_slice-room.ensures.value

@@ -2,7 +2,7 @@ use Rattle.std.proofs.Common.{inl, ◌++◌, List, ℕ, ap, sym, subst, ◌∙�
 use Rattle.disk_model.specs.Moments.{HoldsThroughout}
 use Rattle.disk_model.specs.Throughout.{started}
 use Rattle.record_form.specs.Entry.{entries_of}
-use Rattle.gate_journal.specs.Kept.{IsOldOrNew, JournalState, closed_batch}
+use Rattle.gate_journal.specs.JournalState.{IsOldOrNew, JournalState, closed_batch}
 use Rattle.gate_journal.proofs.Adding.{kept_image}
 use Rattle.gate_journal.proofs.Journals.{failed_as}
 use Rattle.gate_journal.proofs.journal.Journal.append.Goals as goal

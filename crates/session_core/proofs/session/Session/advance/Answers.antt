@@ -1,7 +1,7 @@
 use Rattle.std.proofs.Common.{◌≡◌, Some, subst}
 use Rattle.station_book.specs.History.{after}
 use Rattle.session_core.specs.Inquiry.{call_of}
-use Rattle.session_core.specs.Kept.{Kept, asked, told_now, kept_after}
+use Rattle.session_core.specs.SessionState.{SessionState, asked, told_now, kept_after}
 use Rattle.session_core.proofs.Rounds.{keeping}
 use Rattle.session_core.proofs.Advance.{asked_at, advanced_by}
 use Rattle.session_core.proofs.session.Session.advance.Goals as goal
@@ -9,7 +9,7 @@ use Rattle.session_core.proofs.session.Session.advance.Goals as goal
 pub returns-clause-book : goal.returns-clause-book
 returns-clause-book c =
     subst
-    (λ (v : Kept).
+    (λ (v : SessionState).
     c.act.new.book
     ≡ after c.args.book.now
     (call_of v.door c.args.reading (asked c.args.site.now v c.args.book.now c.args.reading)))
@@ -21,7 +21,7 @@ returns-clause-book c =
 pub returns-clause-kept : goal.returns-clause-kept
 returns-clause-kept c =
     subst
-    (λ (v : Kept).
+    (λ (v : SessionState).
     keeping c.self.inside.door c.act.new.feeder c.put_heartbeat.new.self
     ≡ kept_after c.args.site.now v
     (Some (told_now c.args.site.now v c.args.book.now c.args.reading)))

@@ -1,6 +1,6 @@
 use Rattle.std.proofs.Common.{Bool, sym, subst, ◌∙◌}
 use Rattle.link_model.specs.Counts.{CountsWhere}
-use Rattle.session_core.specs.Kept.{Kept, Waited}
+use Rattle.session_core.specs.SessionState.{SessionState, Waited}
 use Rattle.session_core.specs.Outcome.{has_failed, FailsBy}
 use Rattle.session_core.proofs.Rounds.{keeping, waited_by}
 use Rattle.session_core.proofs.Fates.{faulty, wait_counts}
@@ -10,7 +10,7 @@ use Rattle.session_core.proofs.session.Session.clear_way.Goals as goal
 pub returns-then-waits-clause-waited : goal.returns-then-waits-clause-waited
 returns-then-waits-clause-waited g c =
     subst
-    (λ (v : Kept).
+    (λ (v : SessionState).
     Waited (g.L.Link.calls c.args.link.now) (g.L.Link.calls c.offer-answer.new.link) v
     (keeping c.self.inside.door c.self.inside.feeder c.end_wait.new.self))
     c.self.view_is
@@ -21,7 +21,7 @@ returns-then-waits-clause-waited g c =
 pub returns-then-waits-clause-faults : goal.returns-then-waits-clause-faults
 returns-then-waits-clause-faults g c =
     subst
-    (λ (v : Kept).
+    (λ (v : SessionState).
     FailsBy (has_failed v) (faulty c.end_wait.new.self.course)
     (g.L.Link.faults c.args.link.now) (g.L.Link.faults c.offer-answer.new.link))
     c.self.view_is

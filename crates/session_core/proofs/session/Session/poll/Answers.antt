@@ -1,5 +1,5 @@
 use Rattle.std.proofs.Common.{sym, subst, ◌∙◌}
-use Rattle.session_core.specs.Kept.{Kept, PolledOnce}
+use Rattle.session_core.specs.SessionState.{SessionState, PolledOnce}
 use Rattle.session_core.specs.Outcome.{has_failed, FailsBy}
 use Rattle.session_core.proofs.Rounds.{keeping, polls_by, polled_by}
 use Rattle.session_core.proofs.Fates.{faulty}
@@ -13,7 +13,7 @@ hear-requires-clause-going g c κs within =
 pub returns-then-may_poll-clause-polled : goal.returns-then-may_poll-clause-polled
 returns-then-may_poll-clause-polled g c =
     subst
-    (λ (v : Kept).
+    (λ (v : SessionState).
     PolledOnce (g.L.Link.calls c.args.link.now) (g.L.Link.calls c.hear.new.link) v
     (keeping c.self.inside.door c.hear.new.feeder c.hear.new.standing))
     c.self.view_is
@@ -23,7 +23,7 @@ returns-then-may_poll-clause-polled g c =
 pub returns-then-may_poll-clause-faults : goal.returns-then-may_poll-clause-faults
 returns-then-may_poll-clause-faults g c =
     subst
-    (λ (v : Kept).
+    (λ (v : SessionState).
     FailsBy (has_failed v) (faulty c.hear.new.standing.course)
     (g.L.Link.faults c.args.link.now) (g.L.Link.faults c.hear.new.link))
     c.self.view_is c.hear.ensures.faults

@@ -1,6 +1,6 @@
 use Rattle.std.proofs.Common.{Bool, not, ◌&&◌, sym, subst, ◌∙◌}
 use Rattle.link_model.specs.Counts.{CountsWhere}
-use Rattle.session_core.specs.Kept.{Kept, Said}
+use Rattle.session_core.specs.SessionState.{SessionState, IsSpoken}
 use Rattle.session_core.specs.Outcome.{has_failed, is_blocked, has_waiting, FailsBy}
 use Rattle.session_core.proofs.Rounds.{keeping, said_by}
 use Rattle.session_core.proofs.Fates.{faulty, offer_counts}
@@ -10,8 +10,8 @@ use Rattle.session_core.proofs.session.Session.say.Goals as goal
 pub returns-then-may_speak-clause-said : goal.returns-then-may_speak-clause-said
 returns-then-may_speak-clause-said g c =
     subst
-    (λ (v : Kept).
-    Said (g.L.Link.calls c.args.link.now) (g.L.Link.calls c.offer-answer.new.link) v
+    (λ (v : SessionState).
+    IsSpoken (g.L.Link.calls c.args.link.now) (g.L.Link.calls c.offer-answer.new.link) v
     (keeping c.self.inside.door c.self.inside.feeder c.end_offer.new.self))
     c.self.view_is
     (said_by _ _ c.self.inside.door c.self.inside.feeder c.self.inside.standing _
@@ -21,7 +21,7 @@ returns-then-may_speak-clause-said g c =
 pub returns-then-may_speak-clause-faults : goal.returns-then-may_speak-clause-faults
 returns-then-may_speak-clause-faults g c =
     subst
-    (λ (v : Kept).
+    (λ (v : SessionState).
     FailsBy (has_failed v) (faulty c.end_offer.new.self.course)
     (g.L.Link.faults c.args.link.now) (g.L.Link.faults c.offer-answer.new.link))
     c.self.view_is
@@ -32,7 +32,7 @@ returns-then-may_speak-clause-faults g c =
 pub returns-then-may_speak-clause-stalls : goal.returns-then-may_speak-clause-stalls
 returns-then-may_speak-clause-stalls g c =
     subst
-    (λ (v : Kept).
+    (λ (v : SessionState).
     CountsWhere
     (has_waiting
     (keeping c.self.inside.door c.self.inside.feeder c.end_offer.new.self)

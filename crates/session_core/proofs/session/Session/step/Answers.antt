@@ -1,5 +1,5 @@
 use Rattle.std.proofs.Common.{ap, ◌∙◌}
-use Rattle.session_core.specs.Kept.{Kept}
+use Rattle.session_core.specs.SessionState.{SessionState}
 use Rattle.session_core.specs.Outcome.{has_failed, is_blocked}
 use Rattle.session_core.proofs.Truths.{on_ok_both}
 use Rattle.session_core.proofs.Listed.{goes_step}
@@ -15,7 +15,7 @@ returns-clause-lists c =
           ap has_failed kept
           ∙ told_keeps faulty faulty_rare c.args.site.now c.args.self.now _;
       blocked =
-          ap (λ (v : Kept). is_blocked v) kept
+          ap (λ (v : SessionState). is_blocked v) kept
           ∙ told_blocks c.args.site.now c.args.self.now _;
       stands =
           goes_step c.is_worked_out.ensures c.any_pieces.ensures.gives c.args.site.now

@@ -1,6 +1,6 @@
 use Rattle.std.proofs.Common.{◌≡◌, ◌∙◌, true, false, Some, ap, subst, sym}
 use Rattle.session_core.specs.Course as course
-use Rattle.session_core.specs.Kept.{Kept, told_now}
+use Rattle.session_core.specs.SessionState.{SessionState, told_now}
 use Rattle.session_core.specs.Outcome.{is_spent}
 use Rattle.session_core.proofs.Fates.{spent_rare, told_keeps}
 use Rattle.session_core.proofs.session.Session.take_step.Goals as goal
@@ -8,7 +8,7 @@ use Rattle.session_core.proofs.session.Session.take_step.Goals as goal
 pub returns-clause-memory : goal.returns-clause-memory
 returns-clause-memory c =
     let before : is_spent c.args.self.now ≡ false =
-    subst (λ (v : Kept). is_spent v ≡ false) c.self.view_is
+    subst (λ (v : SessionState). is_spent v ≡ false) c.self.view_is
     (sym c.is_spent.ensures ∙ c.if-is_spent.false) in
     record {
       left = tt;

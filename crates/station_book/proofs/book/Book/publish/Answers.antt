@@ -10,7 +10,7 @@ invariant_of-self-in-Err c =
     cc (c.truncate.ensures.items, c.extend.ensures.begins, c.len-count.ensures) in
     let fits = c.self.invariant in
     record {
-      indexed = cut_back c.extend.new.held.items c.truncate.new.self.items _ c.cut.new.self
+      indexed = cut_back c.extend.new.archive.items c.truncate.new.self.items _ c.cut.new.self
           c.truncate.ensures.items (c.cut.ensures _ c.extend.ensures.indexed);
       archive = subst (λ xs. IsArchive (entries_of xs)) (sym kept) fits.archive;
       opening_is = subst (λ xs. c.self.inside.opening ≤ length (entries_of xs)) (sym kept)

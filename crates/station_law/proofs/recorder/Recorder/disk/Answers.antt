@@ -1,8 +1,8 @@
 use Rattle.std.proofs.Common.{Option, subst}
 use Rattle.record_form.specs.declared.entry.Entry as form
-use Rattle.gate_journal.specs.Kept.{IsOldOrNew}
-use Rattle.station_law.specs.Held.{begun_list}
-use Rattle.station_law.proofs.Held.{is_archive, stands_alone}
+use Rattle.gate_journal.specs.JournalState.{IsOldOrNew}
+use Rattle.station_law.specs.IsHeld.{begun_list}
+use Rattle.station_law.proofs.WorldArchives.{is_archive, stands_alone}
 use Rattle.station_law.proofs.recorder.Recorder.disk.Goals as goal
 
 pub returns-clause-images : goal.returns-clause-images

@@ -1,5 +1,5 @@
 use Rattle.std.proofs.Common.{rules}
-use Rattle.station_law.specs.Held.{begun_list}
+use Rattle.station_law.specs.IsHeld.{begun_list}
 use Rattle.station_law.proofs.Worlds.{held_spent, held_found}
 use Rattle.station_law.proofs.recorder.Recorder.fail_power.Goals as goal
 

@@ -9,10 +9,10 @@ use Rattle.station_law.specs.declared.recorder.Recorder.TheInside.{Inside}
 use Rattle.station_law.specs.Store.{Store}
 use Rattle.station_law.specs.Answer.{Answer}
 use Rattle.station_law.specs.Entries.{refusal, stores_under, by_refusal, offer}
-use Rattle.station_law.specs.Held.{begun_list, Rests, Waits, HoldsAllOrNone}
+use Rattle.station_law.specs.IsHeld.{begun_list, Rests, Waits, HoldsAllOrNone}
 use Rattle.station_law.specs.Storing.{published_by}
-use Rattle.station_law.proofs.Held.{cause_of, none_of, is_of_offer, waits_now, on_err}
-use Rattle.station_law.proofs.Held as held
+use Rattle.station_law.proofs.WorldArchives.{cause_of, none_of, is_of_offer, waits_now, on_err}
+use Rattle.station_law.proofs.WorldArchives as held
 use Rattle.station_law.proofs.Worlds.{held_spent, held_next, times_next, next_published, done_now}
 use Rattle.station_law.proofs.Worlds.{still_to_come, done_is, stored_so, settled_images, left_begun}
 use Rattle.station_law.proofs.Worlds.{refused_so}
@@ -141,7 +141,7 @@ returns-in_err-outcome-clause-stopped c =
 -- ---- it was stored, and published
 
 next : (c : In_ok-outcome) → Waits c.offer.new.self c.self.inside.published
-    (entry_of c.args.entry.now) → c.publish.new.published
+    (entry_of c.args.entry.now) → c.publish.new.archive
     ≡ (stores_under (before c.self.inside) (entry_of c.args.entry.now)
     c.self.inside.order).next.published
 next c waiting =
@@ -159,7 +159,7 @@ invariant_of-self-2 c =
     let waiting = waits at.After-store_under in
     let settled = c.in_ok-settled.ensures.settled store refl waiting in
     let here = next at.In_ok-outcome waiting in
-    held_next c.store_under.new.archive c.publish.new.published c.times_behind-self-inside.result
+    held_next c.store_under.new.archive c.publish.new.archive c.times_behind-self-inside.result
     c.order_behind-self-inside.result c.an_image_at_rest_stands_for_what_is_kept.ensures
     (subst (Rests c.store_under.new.archive) (sym here) settled.rests)
     (rw here (times_next c.self.inside.published
@@ -192,7 +192,7 @@ returns-clause-next c =
     let done = at.After-store_under in
     rw (← c.self.view_is) (record {
       state = done_now (before c.self.inside) (entry_of c.args.entry.now)
-          c.store_under.new.archive.capacity c.publish.new.published []
+          c.store_under.new.archive.capacity c.publish.new.archive []
           c.order_behind-self-inside.result (taken done) (capacity done)
           (next at.In_ok-outcome (waits done)) (sym (ap begun_list ready.none_begun))
           c.order_behind-self-inside.ensures;

@@ -7,8 +7,8 @@ use Rattle.station_links.proofs.connection.Connection.new.Goals as goal
 
 pub returns : goal.returns
 returns c = λ site.
-    begins c.no_round_yet.ensures (began site c.args.c c.args.entered) _
-    (opened c.args.c c.args.entered) refl
+    begins c.no_round_yet.ensures (began site c.args.c c.args.now) _
+    (opened c.args.c c.args.now) refl
     (ap (λ (link : LinkState). link.steering) c.new-link.ensures
     ∙ ap unsteered c.new-failing.ensures.items)
-    refl (c.in_ok-session.ensures.lists (began site c.args.c c.args.entered) refl refl refl)
+    refl (c.in_ok-session.ensures.lists (began site c.args.c c.args.now) refl refl refl)

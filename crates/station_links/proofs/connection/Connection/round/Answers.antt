@@ -1,6 +1,6 @@
 use Rattle.std.proofs.Common.{sym, ap, ◌∙◌, ◌++◌}
 use Rattle.link_model.specs.MemoryLink.{LinkState}
-use Rattle.station_links.specs.Said.{lines_in, end_lines}
+use Rattle.station_links.specs.LinkLines.{lines_in, end_lines}
 use Rattle.station_links.specs.Rounds.{round_at}
 use Rattle.station_links.proofs.Living.{behind}
 use Rattle.station_links.proofs.Outcomes.{turned}

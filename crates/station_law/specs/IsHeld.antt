@@ -6,13 +6,13 @@ use Rattle.record_form.specs.Entry.{entry_of}
 use Rattle.record_form.specs.declared.entry.Entry as form
 use Rattle.disk_model.specs.Images.{Pending, IsImage}
 use Rattle.disk_model.specs.MemoryDisk.{DiskState, pending_of}
-use Rattle.gate_journal.specs.Kept.{IsOldOrNew}
+use Rattle.gate_journal.specs.JournalState.{IsOldOrNew}
 use Rattle.gate_journal.specs.declared.order.Times.{Times}
 use Rattle.frame_archive.specs.declared.fault.OfferFault.{OfferFault}
 use Rattle.frame_archive.specs.declared.fault.OfferFault.TheVariants as faults
 use Rattle.frame_archive.specs.State.{ArchiveState, times_of, at_rest}
 use Rattle.frame_archive.specs.State as archives
-use Rattle.frame_archive.specs.Held.{Acknowledges}
+use Rattle.frame_archive.specs.Acknowledges.{Acknowledges}
 use Rattle.station_law.specs.declared.order.Order.{Order}
 use Rattle.station_law.specs.declared.refusal.Refusal.{Refusal}
 use Rattle.station_law.specs.declared.refusal.Refusal.TheVariants as refusals

@@ -3,7 +3,7 @@ use Rattle.std.proofs.Common.{◌≡◌, ℕ, Bool, true, false, not, ◌&&◌, 
 use Rattle.std.proofs.Common.{◌∙◌}
 use Rattle.archive_terms.specs.Archive.{Entry, frame, loss_of_sync, production, seal}
 use Rattle.archive_terms.specs.Selection.{Selection, is_started, is_stop_closed, is_picked}
-use Rattle.archive_index.specs.Kept.{of_notice, kind_of, totals_of, has_started, tells}
+use Rattle.archive_index.specs.IndexState.{of_notice, kind_of, totals_of, has_started, tells}
 use Rattle.archive_index.proofs.Ends.{is_started-end, is_stop_closed-ends}
 
 pub and_true : (b : Bool) → (b && true) ≡ b

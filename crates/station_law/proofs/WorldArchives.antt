@@ -20,21 +20,21 @@ use Rattle.disk_model.specs.MemoryDisk.{DiskState, IsMadeCall, IsImageSince, pen
 use Rattle.disk_model.specs.declared.call.Call.{Call}
 use Rattle.disk_model.specs.declared.orders.Orders.{Orders}
 use Rattle.gate_journal.specs.File.{IsBatch, gated, joined, StandsAt, StandsFor, entries_octets}
-use Rattle.gate_journal.specs.Kept.{Keeps, IsOldOrNew, HasBatch}
+use Rattle.gate_journal.specs.JournalState.{Keeps, IsOldOrNew, HasBatch}
 use Rattle.gate_journal.specs.declared.order.Times.{Times}
 use Rattle.frame_archive.specs.declared.fault.OfferFault.{OfferFault}
 use Rattle.frame_archive.specs.declared.fault.OfferFault.TheVariants as faults
 use Rattle.frame_archive.specs.State as archives
 use Rattle.frame_archive.specs.State.{ArchiveState, with_waiting, with_stored, with_failed}
 use Rattle.frame_archive.specs.State.{times_of, failed_batch, at_rest}
-use Rattle.frame_archive.specs.Held.{Acknowledges}
+use Rattle.frame_archive.specs.Acknowledges.{Acknowledges}
 use Rattle.frame_archive.specs.Faults.{IsRefusal}
 use Rattle.station_law.specs.declared.refusal.Refusal.{Refusal}
 use Rattle.station_law.specs.declared.refusal.Refusal.TheVariants as refusals
 use Rattle.station_law.specs.Store.{Store}
 use Rattle.station_law.specs.Entries.{need, used, free, refusal}
-use Rattle.station_law.specs.Held.{told_by, IsAt, Rests, Waits, HoldsAllOrNone, fault_of}
-use Rattle.station_law.specs.Held.{IsOfOffer}
+use Rattle.station_law.specs.IsHeld.{told_by, IsAt, Rests, Waits, HoldsAllOrNone, fault_of}
+use Rattle.station_law.specs.IsHeld.{IsOfOffer}
 use Rattle.station_law.proofs.Disks.{IsCalm, calm_after, at_end}
 
 -- ---- a file of no entries

@@ -11,7 +11,7 @@ use Rattle.archive_terms.specs.Archive.{frame, loss_of_sync, production, seal}
 use Rattle.archive_terms.specs.Delivery.{Item, archived, backlog, end_of_data}
 use Rattle.frame_select.specs.Item.{said_of}
 use Rattle.sha1.specs.Sha1.{Holds}
-use Rattle.station_desk.specs.Told.{Told, message_octets}
+use Rattle.station_desk.specs.ToldBuffer.{ToldBuffer, message_octets}
 use Rattle.rehearsal.specs.declared.tally.Tally.{Tally}
 use Rattle.rehearsal.specs.Counts.{tells_frame, tells_end}
 use Rattle.rehearsal.specs.Counts.{octets_sent, Counts}
@@ -35,8 +35,8 @@ said_end (archived place entry, continuity) = refl
 said_end (backlog, continuity) = refl
 said_end (end_of_data, continuity) = refl
 
-pub count_said : (test : One → Bool) → ((x : One) → test (said_of x) ≡ test x) → (buffer : Told)
-    → count_by test (map said_of buffer) ≡ count_by test buffer
+pub count_said : (test : One → Bool) → ((x : One) → test (said_of x) ≡ test x) →
+    (buffer : ToldBuffer) → count_by test (map said_of buffer) ≡ count_by test buffer
 count_said test same [] = refl
 count_said test same (x ∷ buffer) =
     let value = λ (x : One). cond {A = ℕ} (test x) 1 0 in
@@ -49,7 +49,7 @@ count_said test same (x ∷ buffer) =
       count_said test same buffer,
     )
 
-pub any_said : (buffer : Told) → list_any tells_frame (map said_of buffer)
+pub any_said : (buffer : ToldBuffer) → list_any tells_frame (map said_of buffer)
     ≡ list_any tells_frame buffer
 any_said [] = refl
 any_said (x ∷ buffer) =
@@ -58,27 +58,27 @@ any_said (x ∷ buffer) =
 
 -- ---- one buffer more
 
-abbrev pub frames_in : Told → ℕ
+abbrev pub frames_in : ToldBuffer → ℕ
 frames_in buffer = count_by tells_frame buffer
 
-abbrev pub has_frame : Told → ℕ
+abbrev pub has_frame : ToldBuffer → ℕ
 has_frame buffer = cond (list_any tells_frame buffer) 1 0
 
-abbrev pub ends_in : Told → ℕ
+abbrev pub ends_in : ToldBuffer → ℕ
 ends_in buffer = count_by tells_end buffer
 
-sum_more : (value : Told → ℕ) (told : List Told) (buffer : Told)
+sum_more : (value : ToldBuffer → ℕ) (told : List ToldBuffer) (buffer : ToldBuffer)
     → sum_by value (told ++ buffer ∷ []) ≡ sum_by value told + value buffer
 sum_more value told buffer =
     omega (arith, sum_by-append value told (buffer ∷ []), sum_by-cons value buffer [])
 
-octets_more : (told : List Told) (buffer : Told)
+octets_more : (told : List ToldBuffer) (buffer : ToldBuffer)
     → octets_sent (told ++ buffer ∷ []) ≡ octets_sent told ++ message_octets buffer
 octets_more told buffer =
     flat_map-append message_octets told (buffer ∷ [])
     ∙ ap (λ last. octets_sent told ++ last) (append-nil (message_octets buffer))
 
-pub counts_more : (old new : Tally) (told : List Told) (buffer : Told) → Counts old told
+pub counts_more : (old new : Tally) (told : List ToldBuffer) (buffer : ToldBuffer) → Counts old told
     → new.frames ≡ old.frames + frames_in buffer → new.buffers ≡ old.buffers + has_frame buffer
     → new.ends ≡ old.ends + ends_in buffer
     → ((octets : List ℕ) → Holds old.hasher octets

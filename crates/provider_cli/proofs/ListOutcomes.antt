@@ -13,8 +13,8 @@ use Rattle.disk_model.specs.Throughout.{started, goes_on}
 use Rattle.gate_journal.specs.declared.fault.JournalFault.{JournalFault}
 use Rattle.gate_journal.specs.declared.fault.JournalFault.TheVariants as refusals
 use Rattle.gate_journal.specs.File.{StandsFor, StandsAt}
-use Rattle.gate_journal.specs.Kept.{Keeps, IsUnread, OnlyReads, RefusesDisk}
-use Rattle.provider_cli.specs.Archives.{Listed, listed, refused, failed, unread, failed_behind}
+use Rattle.gate_journal.specs.JournalState.{Keeps, IsUnread, OnlyReads, RefusesDisk}
+use Rattle.provider_cli.specs.Archives.{ListOutcome, listed, refused, failed, unread, failed_behind}
 use Rattle.provider_cli.specs.Archives.{stopped_behind, changed_behind, listed_by, LeavesListed}
 use Rattle.provider_cli.specs.Archives.{IsFrontOf, IsCutShort, IsList}
 use Rattle.provider_cli.specs.Command.{Closes, code, closed}
@@ -132,7 +132,8 @@ untold (Some told) new same none = absurd (cc)
 
 -- what a list leaves of a disk that was synced before
 pub leaves_before : {D : Type 0} (pending : D → Option Pending) (faults : D → ℕ) (old mid new : D)
-    (how : Listed) → pending mid ≡ option_map after_sync (pending old) → faults old ≤ faults mid
+    (how : ListOutcome) → pending mid ≡ option_map after_sync (pending old)
+    → faults old ≤ faults mid
     → LeavesListed pending faults mid new how → LeavesListed pending faults old new how
 leaves_before pending faults old mid new (listed entries) same later leaves =
     by_told (pending old) (pending mid) same leaves

@@ -81,12 +81,12 @@ marks_behind before (entry ∷ entries) = mark_of before entry
     ∷ marks_behind (before ++ entry ∷ []) entries
 
 -- what is kept of a list of entries: a mark of each, and the totals of all
-pub record Kept : Type 0 where
+pub record IndexState : Type 0 where
   pub marks : List Mark
   pub totals : Totals
 
 -- the index keeps what it needs of these valid entries
-pub record Indexes (index : Kept) (entries : List Entry) : Type 0 where
+pub record Indexes (index : IndexState) (entries : List Entry) : Type 0 where
   pub kept : index ≡ record { marks = marks_behind [] entries; totals = totals_of entries }
   pub valid : IsTrue (list_all is_valid entries)
 

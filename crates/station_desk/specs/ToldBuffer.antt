@@ -9,8 +9,8 @@ use Rattle.archive_terms.specs.Archive.{frame}
 use Rattle.archive_terms.specs.Delivery.{Item, archived, end_of_data}
 
 -- a buffer as it is told: its items, each frame with its continuity
-abbrev pub Told : Type 0
-Told = List (Item × Option ℤ)
+abbrev pub ToldBuffer : Type 0
+ToldBuffer = List (Item × Option ℤ)
 
 -- an item as it is told: a frame with its fields as it was received, and its continuity; or the end
 -- of data. An offline delivery has no other.
@@ -21,9 +21,9 @@ item_tree (end_of_data, _) = items.end_of_data
 item_tree _ = absent
 
 -- the message of a buffer
-abbrev pub buffer_message : Told → Content
+abbrev pub buffer_message : ToldBuffer → Content
 buffer_message buffer = pdu (canonical (transfer_buffer (map item_tree buffer)))
 
 -- its octets
-abbrev pub message_octets : Told → List ℕ
+abbrev pub message_octets : ToldBuffer → List ℕ
 message_octets buffer = spelling (buffer_message buffer)

@@ -6,7 +6,7 @@ use Rattle.archive_terms.specs.Archive.{Entry, IsArchive, is_storable}
 use Rattle.disk_model.specs.Images.{Pending}
 use Rattle.disk_model.specs.Moments.{IsImageOf}
 use Rattle.gate_journal.specs.File.{StandsAt}
-use Rattle.gate_journal.specs.Kept.{JournalState, Keeps, IsOldOrNew}
+use Rattle.gate_journal.specs.JournalState.{JournalState, Keeps, IsOldOrNew}
 use Rattle.gate_journal.specs.declared.order.Times.{Times}
 use Rattle.frame_archive.specs.State.{ArchiveState, failed_batch, times_of, wanted}
 

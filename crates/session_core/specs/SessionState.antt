@@ -19,19 +19,19 @@ use Rattle.session_core.specs.Inquiry.{Inquiry, call_of, answer_of, Replied, rep
 use Rattle.session_core.specs.Numbers.{longest_piece}
 use Rattle.session_core.specs.Steps.{round_begun, waits, may_poll, is_idle, inquiry_at, after_step}
 use Rattle.session_core.specs.Steps.{may_speak}
-use Rattle.session_core.specs.Session.{State, Told, IsHeard, Listens, Speaks, offer_calls}
+use Rattle.session_core.specs.Session.{State, BookAnswer, IsHeard, Listens, Speaks, offer_calls}
 use Rattle.session_core.specs.Session.{poll_calls}
 use Rattle.session_core.specs.Session.{listen_calls, speak_calls, standing_waited, standing_heard}
 use Rattle.session_core.specs.Session.{standing_spoke, came_with, listened, spoken_state}
 
 -- the number of its door, what its feeder holds, and how it stands
-pub record Kept : Type 0 where
+pub record SessionState : Type 0 where
   pub door : ℕ
   pub feeder : Feeding
   pub standing : Standing
 
 -- The session has come to this state: of these octets it was given so many messages.
-pub record Shows (v : Kept) (s : State) : Type 0 where
+pub record Shows (v : SessionState) (s : State) : Type 0 where
   pub standing : v.standing ≡ s.standing
   pub given : List Content
   pub count : length given ≡ s.handled
@@ -48,14 +48,14 @@ abbrev pub space_of : Feeding → ℕ
 space_of f = min (room_of f) longest_piece
 
 -- the block that waited was offered, if there was one
-pub record Waited (before after : Option (List Call)) (old new : Kept) : Type 0 where
+pub record Waited (before after : Option (List Call)) (old new : SessionState) : Type 0 where
   pub waited : Option Offer
   pub told : Tells before after (offer_calls old.standing waited)
   pub offers : is_some waited ≡ waits old.standing
   pub new_is : new ≡ record old { standing = standing_waited (round_begun old.standing) waited }
 
 -- the link was polled, if it may be
-pub record PolledOnce (before after : Option (List Call)) (old new : Kept) : Type 0 where
+pub record PolledOnce (before after : Option (List Call)) (old new : SessionState) : Type 0 where
   pub heard : Option Heard
   pub told : Tells before after (poll_calls (space_of old.feeder) heard)
   pub polls : is_some heard ≡ may_poll old.standing (next_held old.feeder)
@@ -75,7 +75,7 @@ pub record Hears (before after : Option (List Call)) (f g : Feeding) (s t : Stan
       → StandsFor g (came_with came (Some heard)) given
 
 -- listen's own calls, and for each state that the session showed, what they are
-pub record Listened (before after : Option (List Call)) (old new : Kept) : Type 0 where
+pub record Listened (before after : Option (List Call)) (old new : SessionState) : Type 0 where
   pub waited : Option Offer
   pub heard : Option Heard
   pub own : List Call
@@ -88,11 +88,11 @@ pub record Listened (before after : Option (List Call)) (old new : Kept) : Type 
 -- ---- step
 
 -- what it asks of a book at a reading, and wants of a look
-abbrev pub asked : Site → Kept → book.State → ℕ → Inquiry
+abbrev pub asked : Site → SessionState → book.State → ℕ → Inquiry
 asked site v b reading = inquiry_at site v.standing (next_held v.feeder) (moment_at b reading)
 
 -- what the book tells it
-abbrev pub told_now : Site → Kept → book.State → ℕ → Told
+abbrev pub told_now : Site → SessionState → book.State → ℕ → BookAnswer
 told_now site v b reading =
     record {
       reading = reading;
@@ -100,12 +100,12 @@ told_now site v b reading =
       answer = answer_of b v.door (moment_at b reading) (asked site v b reading);
     }
 
-abbrev pub told_by : Site → Kept → book.State → ℕ → Option Told
+abbrev pub told_by : Site → SessionState → book.State → ℕ → Option BookAnswer
 told_by site v b reading =
     if is_over v.standing.course then None else Some (told_now site v b reading)
 
 -- its answer event, unless it has ended
-abbrev pub own_events : Site → Kept → book.State → ℕ → List Event
+abbrev pub own_events : Site → SessionState → book.State → ℕ → List Event
 own_events site v b reading =
     if is_over v.standing.course then []
     else event_at b (call_of v.door reading (asked site v b reading)) ∷ []
@@ -121,7 +121,7 @@ abbrev pub feeder_after : Standing → Feeding → Feeding
 feeder_after s f = if is_idle s then f else after_given f
 
 -- what it keeps after its step
-abbrev pub kept_after : Site → Kept → Option Told → Kept
+abbrev pub kept_after : Site → SessionState → Option BookAnswer → SessionState
 kept_after site v None = v
 kept_after site v (Some told) =
     record v {
@@ -133,14 +133,14 @@ kept_after site v (Some told) =
 -- ---- speak
 
 -- the block was offered, if it may be
-pub record Said (before after : Option (List Call)) (old new : Kept) : Type 0 where
+pub record IsSpoken (before after : Option (List Call)) (old new : SessionState) : Type 0 where
   pub spoke : Option Offer
   pub told : Tells before after (offer_calls old.standing spoke)
   pub offers : is_some spoke ≡ may_speak old.standing
   pub new_is : new ≡ record old { standing = standing_spoke old.standing spoke }
 
 -- speak's own calls, and for each state that the session showed, what they are
-pub record Spoke (before after : Option (List Call)) (old new : Kept) : Type 0 where
+pub record Spoke (before after : Option (List Call)) (old new : SessionState) : Type 0 where
   pub spoke : Option Offer
   pub own : List Call
   pub told : Tells before after own

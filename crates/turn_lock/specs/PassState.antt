@@ -18,7 +18,7 @@ pub record Lock (O : Type 0) : Type 0 where
 -- joined into it; how many turns had been entered by any pass when `close` looked last, or 0; all
 -- that it has seen of the history; the events that it added, each with its place in the history;
 -- those of each pass that was joined into it
-pub record Known (E O : Type 0) : Type 0 where
+pub record PassState (E O : Type 0) : Type 0 where
   pub lock : Option (Lock O)
   pub standing : Standing
   pub left : ℕ
@@ -29,8 +29,8 @@ pub record Known (E O : Type 0) : Type 0 where
   pub joined : List (List (Mark E))
 
 -- an open turn: its pass, the list for which the value stood when the turn began, and the value
-pub record Held (T E O : Type 0) : Type 0 where
-  pub pass : Known E O
+pub record TurnState (T E O : Type 0) : Type 0 where
+  pub pass : PassState E O
   pub list : List E
   pub value : T
 
@@ -48,8 +48,8 @@ module _ {E O : Type 0} where
   view_of [] = spent_view
 
   -- what is known of a seat, by its table and its view
-  abbrev pub known_of : TableId → View E O → Standing → Known E O
-  known_of table v standing = record {
+  abbrev pub pass_state : TableId → View E O → Standing → PassState E O
+  pass_state table v standing = record {
     lock = lock_of table v;
     standing = standing;
     left = v.left;
@@ -72,8 +72,8 @@ module _ {E O : Type 0} where
   joined_of Closed v = v.noted_joined
 
   -- what is known of a pass whose seat is in a turn, by a seat that was split from it
-  abbrev pub stubbed : TableId → View E O → Standing → Known E O
-  stubbed table v standing = record (known_of table v standing) {
+  abbrev pub stubbed : TableId → View E O → Standing → PassState E O
+  stubbed table v standing = record (pass_state table v standing) {
     own = v.noted_own;
     joined = v.noted_joined;
   }

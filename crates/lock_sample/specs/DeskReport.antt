@@ -10,12 +10,13 @@ Tells before after more = IfSome after (λ told.
 
 -- what a desk tells of its answers to who asks for an order, of its clock's readings, and of the
 -- replies that it took
-pub record Told : Type 0 where
+pub record DeskReport : Type 0 where
   pub answers : Option (List (Option Order))
   pub readings : Option (List ℕ)
   pub replies : Option (List Reply)
 
-abbrev pub told_of : Option (List (Option Order)) → Option (List ℕ) → Option (List Reply) → Told
+abbrev pub told_of : Option (List (Option Order)) → Option (List ℕ) → Option (List Reply)
+    → DeskReport
 told_of answers readings replies = record {
   answers = answers;
   readings = readings;
@@ -23,7 +24,7 @@ told_of answers readings replies = record {
 }
 
 -- the desk gave these answers and readings since, and took these replies
-pub record Adds (before after : Told) (answers : List (Option Order)) (readings : List ℕ)
+pub record Adds (before after : DeskReport) (answers : List (Option Order)) (readings : List ℕ)
     (replies : List Reply) : Type 0 where
   pub gave : Tells before.answers after.answers answers
   pub read : Tells before.readings after.readings readings

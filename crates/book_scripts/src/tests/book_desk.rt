@@ -1,7 +1,7 @@
 // The book under calls.
 ghost use Rattle.std.specs.Prelude.{◌≡◌, ◌≤◌, IfOk};
 
-use super::call::{Call, Desk, Told, What};
+use super::call::{Answer, Call, Desk, What};
 use cds_time::{Cds, Rest};
 use cltu_queue::{Cltu, Taken};
 use frame_select::{Filter, Glimpse, Selection, Want};
@@ -31,15 +31,15 @@ pub fn book_of(alloc: Global, workers: u32) -> Result<Book, Memory>
 }
 
 #[derive(Drop)]
-pub struct Kept {
+pub struct BookDesk {
     alloc: Global,
     book: Book,
 }
 
-impl Kept {
-    pub fn new(alloc: Global) -> Result<Kept, Memory> {
+impl BookDesk {
+    pub fn new(alloc: Global) -> Result<BookDesk, Memory> {
         let book = book_of(alloc, 2)?;
-        Ok(Kept { alloc, book })
+        Ok(BookDesk { alloc, book })
     }
 }
 
@@ -70,13 +70,13 @@ fn frames(alloc: Global, first: u32, second: u32) -> Result<Entries, AllocError>
     Ok(entries)
 }
 
-fn publish(alloc: Global, book: &mut Book, call: &Call) -> Result<Told, Memory> {
+fn publish(alloc: Global, book: &mut Book, call: &Call) -> Result<Answer, Memory> {
     let Ok(entries) = frames(alloc, call.first, call.second) else {
         return Err(Memory);
     };
     match book.publish(entries) {
-        Ok(()) => Ok(Told::Fine),
-        Err((PublishFault::Foreign, back)) => Ok(Told::Foreign(back.len())),
+        Ok(()) => Ok(Answer::Fine),
+        Err((PublishFault::Foreign, back)) => Ok(Answer::Foreign(back.len())),
         Err((PublishFault::Memory, _)) => Err(Memory),
     }
 }
@@ -109,12 +109,12 @@ fn ask_of(alloc: Global, call: &Call) -> Result<Ask, Memory> {
     })
 }
 
-fn ask(alloc: Global, book: &mut Book, call: &Call) -> Result<Told, Memory> {
+fn ask(alloc: Global, book: &mut Book, call: &Call) -> Result<Answer, Memory> {
     let ask = ask_of(alloc, call)?;
     let (reply, _, notice) = book.answer(call.door, u128::from(call.reading), &ask, &Want::Front)?;
     Ok(match notice {
-        Some(notice) => Told::Told(reply, notice.kind),
-        None => Told::Said(reply),
+        Some(notice) => Answer::Told(reply, notice.kind),
+        None => Answer::Said(reply),
     })
 }
 
@@ -149,9 +149,9 @@ fn glimpse(book: &mut Book, call: &Call) -> Result<Glimpse, Memory> {
     Ok(glimpse)
 }
 
-fn look(book: &mut Book, call: &Call) -> Result<Told, Memory> {
+fn look(book: &mut Book, call: &Call) -> Result<Answer, Memory> {
     let seen = glimpse(book, call)?;
-    Ok(Told::Seen(
+    Ok(Answer::Seen(
         seen.front,
         seen.items.len(),
         seen.next,
@@ -160,12 +160,12 @@ fn look(book: &mut Book, call: &Call) -> Result<Told, Memory> {
     ))
 }
 
-fn take(book: &mut Book, call: &Call) -> Told {
+fn take(book: &mut Book, call: &Call) -> Answer {
     match book.take(u128::from(call.reading)) {
-        Taken::Idle => Told::Idle,
-        Taken::Waits { .. } => Told::Waits,
-        Taken::Expired { id } => Told::Expired(id),
-        Taken::Radiate { run, id, .. } => Told::Radiates(run, id),
+        Taken::Idle => Answer::Idle,
+        Taken::Waits { .. } => Answer::Waits,
+        Taken::Expired { id } => Answer::Expired(id),
+        Taken::Radiate { run, id, .. } => Answer::Radiates(run, id),
     }
 }
 
@@ -186,13 +186,13 @@ fn tell(book: &mut Book, call: &Call) {
     }
 }
 
-fn view(book: &Book) -> Told {
+fn view(book: &Book) -> Answer {
     let view = book.view();
-    Told::Queue(book.peek(0), view.free, view.production)
+    Answer::Queue(book.peek(0), view.free, view.production)
 }
 
-impl Desk for Kept {
-    fn call(&mut self, call: &Call) -> Result<Told, Memory> {
+impl Desk for BookDesk {
+    fn call(&mut self, call: &Call) -> Result<Answer, Memory> {
         match call.what {
             What::Publish => publish(self.alloc, &mut self.book, call),
             What::Nowhere | What::Front | What::Look => look(&mut self.book, call),
@@ -200,7 +200,7 @@ impl Desk for Kept {
             What::View => Ok(view(&self.book)),
             What::Quit | What::Done | What::Interrupted | What::Uplink => {
                 tell(&mut self.book, call);
-                Ok(Told::Fine)
+                Ok(Answer::Fine)
             }
             _ => ask(self.alloc, &mut self.book, call),
         }
