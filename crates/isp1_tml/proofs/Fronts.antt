@@ -1,16 +1,14 @@
 -- What octets in a message's place are: a spelled message is found whole, and what is found whole
 -- is spelled.
-use Rattle.std.proofs.Common.{◌≡◌, ℕ, ◌+◌, ◌≤◌, List, ◌++◌, length, Option, Some, None, refl, ap}
+use Rattle.std.proofs.Common.{◌≡◌, ℕ, ◌+◌, ◌≤◌, List, ◌++◌, length, Some, None, refl, ap}
 use Rattle.std.proofs.Common.{◌∙◌, arith}
-use Rattle.std.specs.Option.{option_or}
-use Rattle.std.specs.Int.{w16, w32, from_be_bytes, to_be_bytes}
+use Rattle.std.specs.Int.{w32, from_be_bytes, to_be_bytes}
 use Rattle.std.proofs.lemmas.Bool.{le-ltb, le-leb}
 use Rattle.std.proofs.lemmas.List.{length-append}
 use Rattle.std.proofs.lemmas.Nat.{from_be_bytes-to_be_bytes_2, from_be_bytes-to_be_bytes_4}
 use Rattle.isp1_tml.specs.declared.message.TheConstants.{LONGEST_PDU}
-use Rattle.isp1_tml.specs.declared.tml_fault.TmlFault.{TmlFault}
 use Rattle.isp1_tml.specs.Message.{Content, pdu, context, heartbeat, spelling, IsMessage}
-use Rattle.isp1_tml.specs.Fault.{fault_of, wrong_size}
+use Rattle.isp1_tml.specs.Fault.{fault_of}
 use Rattle.isp1_tml.specs.Stream.{whole_size, size_among}
 use Rattle.isp1_tml.specs.Reading.{content}
 
@@ -19,14 +17,9 @@ use Rattle.isp1_tml.specs.Reading.{content}
 declared_is : (n : ℕ) → n ≤ LONGEST_PDU → from_be_bytes w32 (to_be_bytes w32 n) ≡ n
 declared_is n h = from_be_bytes-to_be_bytes_4 n (omega arith)
 
-allowed : (p n : ℕ) → n ≤ LONGEST_PDU → wrong_size p 1 (Some n) ≡ None
-allowed p n h = rw (le-leb n LONGEST_PDU h) refl
-
 pub fault_of-spelling : (p : ℕ) (m : Content) (y : List ℕ) → IsMessage m
     → fault_of p (spelling m ++ y) ≡ None
-fault_of-spelling p (pdu body) y h =
-    ap (λ (n : ℕ). option_or (wrong_size p 1 (Some n)) None) (declared_is (length body) h)
-    ∙ ap (λ (o : Option TmlFault). option_or o None) (allowed p (length body) h)
+fault_of-spelling p (pdu body) y h = rw (declared_is (length body) h, le-leb _ LONGEST_PDU h) refl
 fault_of-spelling p (context interval factor) y h = refl
 fault_of-spelling p heartbeat y h = refl
 
@@ -36,18 +29,13 @@ size_is came n h = rw (le-ltb came (8 + n) h) refl
 pub whole_size-spelling : (m : Content) (y : List ℕ) → IsMessage m
     → whole_size (spelling m ++ y) ≡ Some (length (spelling m))
 whole_size-spelling (pdu body) y h =
-    let long : 8 + length body ≤ length (spelling (pdu body) ++ y) =
-    omega (arith, length-append body y) in
-    ap (λ (n : ℕ). size_among (length (spelling (pdu body) ++ y)) (Some n))
-    (declared_is (length body) h) ∙ size_is _ _ long ∙ ap (λ (n : ℕ). Some n) (omega arith)
-whole_size-spelling (context interval factor) y h =
-    size_is (length (spelling (context interval factor) ++ y)) 12 (omega arith)
-whole_size-spelling heartbeat y h = size_is (length (spelling heartbeat ++ y)) 0 (omega arith)
+    rw (declared_is (length body) h) (size_is _ _ (omega (arith, length-append body y))
+    ∙ ap Some (omega arith))
+whole_size-spelling (context interval factor) y h = size_is _ 12 (omega arith)
+whole_size-spelling heartbeat y h = size_is _ 0 (omega arith)
 
 pub content-spelling : (m : Content) → IsMessage m → content (spelling m) ≡ m
 content-spelling (pdu body) h = refl
 content-spelling (context interval factor) h =
-    ap (λ (n : ℕ). context n (from_be_bytes w16 (to_be_bytes w16 factor)))
-    (from_be_bytes-to_be_bytes_2 interval h.0)
-    ∙ ap (λ (n : ℕ). context interval n) (from_be_bytes-to_be_bytes_2 factor h.1)
+    cc (from_be_bytes-to_be_bytes_2 interval h.0, from_be_bytes-to_be_bytes_2 factor h.1)
 content-spelling heartbeat h = refl

@@ -19,34 +19,30 @@ puts c = record {
 }
 
 pub invariant_of-self : goal.invariant_of-self
-invariant_of-self c =
-    put_whole _ _ _ _ _ _ _ _ _ c.in-Ok.end _ (puts (goal.at.invariant_of-self c).After-further)
+invariant_of-self c = put_whole (puts (goal.at.invariant_of-self c).After-further)
     c.in-Ok.ensures.within c.in-Ok.ensures.stream
 
 pub returns-in-Ok-clause-stream : goal.returns-in-Ok-clause-stream
 returns-in-Ok-clause-stream c =
-    let at = (goal.at.returns-in-Ok-clause-stream c).After-further in
-    let split = put_whole _ _ _ _ _ _ _ _ _ c.in-Ok.end _ (puts at) c.in-Ok.ensures.within
-    c.in-Ok.ensures.stream in
-    put_seen _ _ _ _ _ _ _ _ _ c.self.inside.fault _ _ _ _ (puts at) c.self.view_is split.stream
+    let put = puts (goal.at.returns-in-Ok-clause-stream c).After-further in
+    put_seen put c.self.view_is
+    (put_whole put c.in-Ok.ensures.within c.in-Ok.ensures.stream).stream
 
 pub returns-in-Err-clause-refused : goal.returns-in-Err-clause-refused
 returns-in-Err-clause-refused c fresh =
-    put_refused _ _ _ _ _ _ _ _ _ c.self.inside.fault _ c.in-Err.fault
-    (puts (goal.at.returns-in-Err-clause-refused c).After-further) c.self.view_is
+    put_refused (puts (goal.at.returns-in-Err-clause-refused c).After-further) c.self.view_is
     c.in-Err.ensures.fault
 
 pub returns-in-Ok-clause-so_far : goal.returns-in-Ok-clause-so_far
 returns-in-Ok-clause-so_far c before given fresh stood =
-    let place = ap (λ (f : Feeding). f.place) c.self.view_is in
     stands_fed c.args.self.now (feeding_of c.put.new.self.waiting
     (c.self.inside.whole + c.in-Ok.end) c.self.inside.place c.self.inside.fault)
-    c.args.piece.now before given fresh stood place c.in_default.is
-    (returns-in-Ok-clause-stream c)
+    c.args.piece.now before given fresh stood (ap (λ (f : Feeding). f.place) c.self.view_is)
+    c.in_default.is (returns-in-Ok-clause-stream c)
 
 pub returns-in-Err-clause-so_far : goal.returns-in-Err-clause-so_far
 returns-in-Err-clause-so_far c before given fresh stood =
-    let place = ap (λ (f : Feeding). f.place) c.self.view_is in
     stands_refused c.args.self.now (feeding_of c.truncate.new.self.waiting c.self.inside.whole
-    c.self.inside.place (Some c.in-Err.fault)) c.args.piece.now before given c.in-Err.fault
-    fresh stood place refl (returns-in-Err-clause-refused c fresh)
+    c.self.inside.place (Some c.in-Err.fault)) c.args.piece.now before given fresh stood
+    (ap (λ (f : Feeding). f.place) c.self.view_is) c.in-Err.fault refl
+    (returns-in-Err-clause-refused c fresh)
