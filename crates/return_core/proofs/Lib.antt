@@ -1,5 +1,5 @@
 pub mod Filling
-pub mod Said
+pub mod ItemsSaid
 pub mod Stepping
 pub mod Behind
 pub mod Stands
