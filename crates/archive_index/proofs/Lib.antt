@@ -1,10 +1,5 @@
 pub mod Ends
-pub mod Orders
 pub mod Marks
 pub mod Picks
-pub mod NoticeTotals
 pub mod Indexed
 pub mod Giving
-pub mod Entries
-pub mod Glimpses
-pub mod Added

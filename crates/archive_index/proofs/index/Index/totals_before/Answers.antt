@@ -4,11 +4,9 @@ use Rattle.archive_index.proofs.index.Index.totals_before.Goals as goal
 
 pub returns-then-place-len : goal.returns-then-place-len
 returns-then-place-len c = λ entries indexes.
-    totals_within c.self.inside.marks.items c.self.inside.totals c.args.self.now entries
-    c.args.place c.index.result.now
-    c.self.view_is indexes (omega arith) c.index.ensures
+    totals_within _ _ entries c.args.place c.index.result.now (rw (← c.self.view_is) at indexes)
+    (omega arith) c.index.ensures
 
 pub returns-else-place-len : goal.returns-else-place-len
 returns-else-place-len c = λ entries indexes.
-    totals_past c.self.inside.marks.items c.self.inside.totals c.args.self.now entries c.args.place
-    c.self.view_is indexes (omega arith)
+    totals_past _ _ entries c.args.place (rw (← c.self.view_is) at indexes) (omega arith)
