@@ -12,16 +12,17 @@ use Rattle.record_form.specs.Spelling.{entry_octets}
 use Rattle.record_form.specs.Reading.{AreOctets, ReadWhereSpelled, ReadBack, entry_from}
 use Rattle.gate_journal.specs.declared.fault.JournalFault.{JournalFault}
 use Rattle.gate_journal.specs.declared.order.Times.{Times}
-use Rattle.gate_journal.specs.File.{StandsAt, entries_octets, batch_octets}
+use Rattle.gate_journal.specs.File.{StandsAt, entries_octets}
 use Rattle.gate_journal.specs.Order.{Knows}
 use Rattle.gate_journal.specs.Passing.{PassedGate}
-use Rattle.gate_journal.specs.Reading.{LedTo, gate_at, count_at}
+use Rattle.gate_journal.specs.Reading.{LedTo, gate_at}
 use Rattle.gate_journal.specs.Batches.{BatchesState, HasPassed, StandsForSome, HoldsBatch}
 use Rattle.gate_journal.specs.Batches.{entries_in, batch_in}
-use Rattle.gate_journal.proofs.Growth.{Grows, Opened, opened, led_more, shut_there, stands_shut}
-use Rattle.gate_journal.proofs.Again.{behind_led, entries_behind, all_behind, not_past}
+use Rattle.gate_journal.proofs.Growth.{Grows, Opened, gate_told, led_more, stands_shut}
+use Rattle.gate_journal.proofs.Again.{behind_led, entries_behind, not_past}
 use Rattle.gate_journal.proofs.Again.{count_is, behind_count}
-use Rattle.gate_journal.proofs.Unique.{both, regroup}
+use Rattle.std.proofs.lemmas.Bool.{and_parts}
+use Rattle.gate_journal.proofs.Unique.{regroup}
 use Rattle.gate_journal.proofs.Windows.{open_shown, shut_shown, read_shown}
 
 abbrev pub standing : ℕ → ℕ → Times → List ℕ → List Entry → BatchesState
@@ -37,33 +38,28 @@ unfolding entries_in
 first_in zero octets entry end some read = absurd (some refl)
 first_in (suc count) octets entry end some read =
     let less : count ≡ suc count - 1 = omega arith in
-    rw read (ap (λ (n : ℕ). entry ∷ entries_in n (drop end octets)) less)
+    rw (read, ← less) refl
 
 spelled_in : ReadBack → (batch : List Entry) (rest : List ℕ) → list_all is_storable batch ≡ true
     → entries_in (length batch) (entries_octets batch ++ rest) ≡ batch
 unfolding entries_in
 spelled_in back [] rest storable = refl
 spelled_in back (e ∷ batch) rest storable =
-    let each = both (is_storable e) (list_all is_storable batch) storable in
-    rw (
-      regroup e batch rest,
-      back e (entries_octets batch ++ rest) each.0,
+    let each = and_parts _ _ storable in
+    rw (regroup e batch rest, back e (entries_octets batch ++ rest) each.0) (simp (
       drop_at (entry_octets e) (entries_octets batch ++ rest) (length (entry_octets e)) refl,
-    )
-    (ap (λ (l : List Entry). e ∷ l) (spelled_in back batch rest each.1))
+      spelled_in back batch rest each.1,
+    ))
 
 batch_read : ReadWhereSpelled → Grows → ReadBack → (before after : List Entry)
     (file : List ℕ) (gate end : ℕ) (found : Opened before after file gate end) → AreOctets file
     → batch_in file (Some gate) ≡ found.batch
 batch_read law grows back before after file gate end found all =
-    let there = not_past gate file 165 (batch_octets found.batch ++ drop end file) found.spelled in
-    let behind : drop (gate + 1) file ≡ batch_octets found.batch ++ drop end file =
-    sym (drop-drop 1 gate file) ∙ ap (drop 1) found.spelled in
-    let archive : IsArchive (before ++ found.batch) = subst IsArchive found.after_is found.archive
-    in
-    let count : count_at file (gate + 1) ≡ length found.batch = count_is law grows before
-    found.batch file (gate + 1) end all found.is_batch archive found.ends behind
-    (omega (arith, there)) in
+    let there = not_past gate file _ _ found.spelled in
+    let behind = sym (drop-drop 1 gate file) ∙ ap (drop 1) found.spelled in
+    let archive = rw found.after_is at found.archive in
+    let count = count_is law grows before found.batch file (gate + 1) end all found.is_batch archive
+    found.ends behind (omega (arith, there)) in
     let octets : drop (gate + 7) file ≡ entries_octets found.batch ++ drop end file =
     ap (λ (n : ℕ). drop n file) (omega arith) ∙ behind_count law grows before found.batch file
     (gate + 1) end all found.is_batch archive found.ends behind (omega (arith, there)) in
@@ -75,7 +71,7 @@ pub read_as_it_is : ReadWhereSpelled → Grows → ReadBack → (entries after :
     → gate_at entries file gate ≡ Ok (Some (after, end))
     → after ≡ entries ++ batch_in file (Some gate)
 read_as_it_is law grows back entries after file gate end all archive e =
-    let found = opened law grows entries file gate after end all archive e in
+    let found = gate_told law grows entries file gate _ all archive e in
     found.after_is ∙ ap (λ (b : List Entry). entries ++ b)
     (sym (batch_read law grows back entries after file gate end found all))
 
@@ -92,13 +88,13 @@ pub sliced : {pending : Option Pending} {entries : List Entry} {old now : Batche
     → (Reads pending old.start old.room → Reads pending now.start now.room)
     → standing start at times room last ≡ now → slice ≡ room → at ≤ length room
     → HasPassed pending entries old → Sliced pending entries start at times slice last
-sliced {pending} {entries} at gate times room is same within passed = record {
+sliced at gate times room is same within passed = record {
   within = rw same within;
-  passed = rw same (subst (HasPassed pending entries) (sym is) (record {
+  passed = rw (same, is) (record {
     knows = rw times passed.knows;
     led = rw gate passed.led;
     room = room passed.room;
-  }));
+  });
 }
 
 -- and what they hold
@@ -115,20 +111,20 @@ holds_there {start = start} at extent is same holds =
 module _ (law : ReadWhereSpelled) (grows : Grows) {pending : Option Pending} {entries : List Entry}
     {start at : ℕ} {times : Times} {room : List ℕ} {last : List Entry}
     (there : Sliced pending entries start at times room last) where
-  -- the next gate isn't open
-  pub shut_next : gate_at entries room at ≡ Ok None
-      → IfSome pending (λ told. StandsAt entries (start + at) told.content)
-  shut_next e = by_told pending there.passed
-    where
-      by_told : (p : Option Pending) → HasPassed p entries (standing start at times room last)
-          → IfSome p (λ told. StandsAt entries (start + at) told.content)
-      by_told None has = tt
-      by_told (Some told) has =
-          let shut = shut_there entries room at e in
-          let shown = shut_shown told.content room start at has.room there.within shut.0 in
-          stands_shut entries told.content (start + at) has.led shown.0 (rw (← shown.1) at shut.1)
-
   module _ (all : AreOctets room) (back : ReadBack) where
+    -- the next gate isn't open
+    pub shut_next : gate_at entries room at ≡ Ok None
+        → IfSome pending (λ told. StandsAt entries (start + at) told.content)
+    shut_next e = by_told pending there.passed
+      where
+        by_told : (p : Option Pending) → HasPassed p entries (standing start at times room last)
+            → IfSome p (λ told. StandsAt entries (start + at) told.content)
+        by_told None has = tt
+        by_told (Some told) has =
+            let shut = gate_told law grows entries room at _ all has.knows.0 e in
+            let shown = shut_shown told.content room start at has.room there.within shut.0 in
+            stands_shut entries told.content _ has.led (shown.0, rw (← shown.1) at shut.1)
+
     -- the next batch stands behind what was passed, and is what the octets in memory have there
     pub batch_next : (new : Option Pending) (after : List Entry) (next : Times) (end : ℕ)
         → new ≡ pending → gate_at entries room at ≡ Ok (Some (after, end)) → end ≤ length room
@@ -148,7 +144,7 @@ module _ (law : ReadWhereSpelled) (grows : Grows) {pending : Option Pending} {en
             → IfSome p (λ told. LedTo (start + end) after told.content)
         led_by None has = tt
         led_by (Some told) has =
-            let found = opened law grows entries room at after end all there.passed.knows.0 e in
+            let found = gate_told law grows entries room at _ all there.passed.knows.0 e in
             rw found.after_is
             (led_more entries found.batch told.content (start + at) (start + end) has.led
             found.is_batch (rw found.after_is at found.archive) (omega (arith, found.ends))
@@ -166,17 +162,12 @@ module _ (law : ReadWhereSpelled) (grows : Grows) {pending : Option Pending} {en
             → HasPassed p entries (standing start at times room last) → StandsForSome p → ⊥
         by_told None size has stands = stands
         by_told (Some told) size has stands =
-            let whole = stands.0 in
             let at_place = stands.1.1 in
-            let follows = behind_led back entries whole (start + at) stands.1.0 told.content has.led
-            at_place in
+            let follows = behind_led back _ _ _ _ told.content has.led at_place in
             let read = read_shown told.content room start at has.room there.within law grows all
-            (subst (λ (n : ℕ). HoldsBatch room at ⊎ (n ≤ start + length room)) size holds) entries
-            follows.more at_place.rest at_place.gate
-            (all_behind has.led.batches follows.more (rw follows.batches at at_place.leads.each))
-            (subst IsArchive (entries_behind entries whole (start + at) stands.1.0 told.content
-            (drop (start + at) told.content) (at_place.gate ∷ at_place.rest) has.led at_place
-            follows) at_place.leads.archive) at_place.shut follows.octets in
+            (rw size at holds) entries follows.more at_place.rest at_place.gate follows.each
+            (rw (entries_behind _ _ _ _ told.content _ _ has.led at_place follows)
+            at at_place.leads.archive) at_place.shut follows.octets in
             cc (read.1, e)
 
 -- what a call found at a gate

@@ -1,9 +1,9 @@
 -- A new journal on an empty disk.
 use Rattle.std.proofs.Common.{◌≡◌, ℕ, ◌≤◌, List, [], ◌∷◌, ◌++◌, length, Option, Some, None}
 use Rattle.std.proofs.Common.{IfSome, option_map, Result, Ok, Err, OnOk, is_err, false, refl, sym}
-use Rattle.std.proofs.Common.{ap, ◌∙◌, arith}
+use Rattle.std.proofs.Common.{◌∙◌, arith}
 use Rattle.std.proofs.lemmas.List.{nil_from_length}
-use Rattle.disk_model.specs.Images.{Pending, all_synced, overwritten, with_range}
+use Rattle.disk_model.specs.Images.{Pending, with_range}
 use Rattle.disk_model.specs.Images.{written_and_synced}
 use Rattle.disk_model.specs.Moments.{IsImageOf}
 use Rattle.gate_journal.specs.File.{header, StandsAt}
@@ -32,28 +32,15 @@ pub short_during : (pending : Option Pending) → IfSome pending (λ told. told.
 short_during (Some told) short image is = omega (arith, is.no_longer, short)
 short_during None short image is = absurd is
 
-written : (told : Pending) (extent : ℕ) (new : Option Pending) → extent ≡ length told.content
-    → extent ≡ 0 → new ≡ Some (written_and_synced 0 new_octets told)
-    → new ≡ Some (all_synced new_octets)
-written told extent new size empty is =
-    is ∙ ap (λ (content : List ℕ). Some (all_synced (overwritten content 0 new_octets)))
-    (nil_from_length told.content (sym size ∙ empty))
-
-pub new_keeps : (old new : Option Pending) (extent : ℕ)
+-- what is written to an empty disk is kept, and rests
+pub new_there : (old new : Option Pending) (extent : ℕ)
     → IfSome old (λ told. extent ≡ length told.content) → extent ≡ 0
     → new ≡ option_map (written_and_synced 0 new_octets) old
-    → IfSome old (λ _. Keeps new [])
-new_keeps (Some told) new extent size empty is =
-    rw (written told extent new size empty is) (refl, (8, new_stands))
-new_keeps None new extent size empty is = tt
-
-pub new_rests : (old new : Option Pending) (extent : ℕ)
-    → IfSome old (λ told. extent ≡ length told.content) → extent ≡ 0
-    → new ≡ option_map (written_and_synced 0 new_octets) old
-    → IsAtRest new 8
-new_rests (Some told) new extent size empty is =
-    rw (written told extent new size empty is) (refl, [], new_stands)
-new_rests None new extent size empty is = rw is tt
+    → IfSome old (λ _. Keeps new []) × IsAtRest new 8
+new_there (Some told) new extent size empty is =
+    let none = nil_from_length told.content (sym size ∙ empty) in
+    rw (is, none) ((refl, (8, new_stands)), (refl, [], new_stands))
+new_there None new extent size empty is = rw is (tt, tt)
 
 -- what follows from the success follows where there was no error
 pub if_good : {T E P : Type 0} → (result : Result T E) → is_err result ≡ false → OnOk result P → P

@@ -1,6 +1,6 @@
 -- The header at the front of a file.
 use Rattle.std.proofs.Common.{◌≡◌, ℕ, ◌<◌, ◌≤◌, List, ◌++◌, length, take, drop, slice_index}
-use Rattle.std.proofs.Common.{sym, ap, ◌∙◌, arith}
+use Rattle.std.proofs.Common.{sym, arith}
 use Rattle.std.proofs.lemmas.List.{ext_get_or, get_or-take, length-take-le, take-append-drop}
 use Rattle.gate_journal.specs.File.{header}
 
@@ -11,7 +11,5 @@ leads file each =
     let long : 8 ≤ length file = omega (arith, (each 7 (omega arith)).0) in
     let size : length (take 8 file) ≡ 8 = length-take-le 8 file long in
     let front : take 8 file ≡ header =
-    ext_get_or 0 (take 8 file) header size (λ k below.
-    let inside : k < 8 = omega (arith, size, below) in get_or-take 8 file k 0 inside
-    ∙ (each k inside).1) in
-    sym (take-append-drop 8 file) ∙ ap (λ (l : List ℕ). l ++ drop 8 file) front
+    ext_get_or 0 _ _ size (λ k below. grind (arith, size, get_or-take, each k)) in
+    rw front at (sym (take-append-drop 8 file))

@@ -1,7 +1,5 @@
-pub mod Entries
 pub mod Growth
 pub mod Header
-pub mod Damage
 pub mod Unique
 pub mod Windows
 pub mod Batching

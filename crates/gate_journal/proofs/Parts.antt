@@ -1,6 +1,6 @@
 -- Octets that were read of a file at a place, with what was read in front of them or is left.
 use Rattle.std.proofs.Common.{◌≡◌, ℕ, ◌+◌, ◌-◌, ◌≤◌, List, ◌++◌, length, take, drop}
-use Rattle.std.proofs.Common.{Option, Some, None, sym, ap, ◌∙◌, arith, append_assoc}
+use Rattle.std.proofs.Common.{Option, Some, None, sym, ap, arith, append_assoc}
 use Rattle.std.proofs.lemmas.List.{take-append-drop, drop-take, drop-drop, length-append}
 use Rattle.std.proofs.lemmas.List.{length-drop, length-take-le, take_at}
 use Rattle.std.proofs.Math.Seq.{take-append-add}
@@ -15,14 +15,10 @@ reads_joined None front back place behind there first second = tt
 reads_joined (Some told) front back place behind there first second =
     let file = told.content in
     let split : drop place file ≡ front ++ drop behind file =
-    sym (take-append-drop (length front) (drop place file))
-    ∙ ap (λ (l : List ℕ). l ++ drop (length front) (drop place file)) (sym first)
-    ∙ ap (λ (l : List ℕ). front ++ l)
-    (drop-drop (length front) place file ∙ ap (λ (n : ℕ). drop n file) (sym there)) in
-    ap (λ (l : List ℕ). front ++ l) second
-    ∙ sym (take-append-add front (drop behind file) (length back))
-    ∙ ap (take (length front + length back)) (sym split)
-    ∙ ap (λ (n : ℕ). take n (drop place file)) (sym (length-append front back))
+    rw (← first, drop-drop (length front) place file, ← there)
+    at (sym (take-append-drop (length front) (drop place file))) in
+    rw (split, length-append front back, take-append-add front (drop behind file) (length back))
+    (ap (λ (l : List ℕ). front ++ l) second)
 
 -- octets that were read, from one of them on
 pub reads_from : (pending : Option Pending) (room : List ℕ) (start at : ℕ) → at ≤ length room
@@ -32,18 +28,20 @@ reads_from (Some told) room start at within reads =
     let file = told.content in
     let left = length room - at in
     let long : length room ≡ at + left = omega arith in
-    ap (drop at) (reads ∙ ap (λ (n : ℕ). take n (drop start file)) long)
-    ∙ drop-take at left (drop start file)
-    ∙ ap (take left) (drop-drop at start file)
-    ∙ ap (λ (n : ℕ). take n (drop (start + at) file)) (sym (length-drop at room))
+    rw (
+      length-drop at room,
+      ← drop-drop at start file,
+      ← drop-take at left (drop start file),
+      ← long,
+    )
+    (ap (drop at) reads)
 
 -- what a list holds whose end was written over
 pub end_written : (kept count : ℕ) (old new past rest : List ℕ) → kept ≤ length old
     → count ≡ kept + length new
     → take count ((take kept old ++ (new ++ past)) ++ rest) ≡ take kept old ++ new
 end_written kept count old new past rest within is =
-    ap (take count) (append_assoc (take kept old) (new ++ past) rest
-    ∙ ap (λ (l : List ℕ). take kept old ++ l) (append_assoc new past rest)
-    ∙ sym (append_assoc (take kept old) new (past ++ rest)))
-    ∙ take_at (take kept old ++ new) (past ++ rest) count
-    (omega (arith, length-append (take kept old) new, length-take-le kept old within))
+    let whole : (take kept old ++ (new ++ past)) ++ rest
+    ≡ (take kept old ++ new) ++ (past ++ rest) = simp append_assoc in
+    rw whole (take_at (take kept old ++ new) (past ++ rest) count
+    (omega (arith, length-append (take kept old) new, length-take-le kept old within)))

@@ -1,6 +1,6 @@
 -- A file that stands for entries isn't refused for what it holds.
 use Rattle.std.proofs.Common.{◌≡◌, inr, ℕ, List, Option, Some, None, IfSome, IsSomeAnd}
-use Rattle.std.proofs.Common.{option_map, IfErr, Result, Ok, Err, refl, subst, sym, ◌∙◌}
+use Rattle.std.proofs.Common.{option_map, IfErr, Result, Ok, Err, refl}
 use Rattle.archive_terms.specs.Archive.{Entry}
 use Rattle.disk_model.specs.Images.{Pending, after_sync}
 use Rattle.record_form.specs.Reading.{AreOctets}
@@ -34,14 +34,11 @@ module _ (damaged : (place there : ℕ) (entries : List Entry) (file : List ℕ)
   load_standing (Ok x) pending file items is octets same refused = tt
   load_standing (Err fault) None file items is octets same refused = λ entries stands. absurd stands
   load_standing (Err fault) (Some told) file items is octets same refused =
-      λ entries stands. unread fault file octets refused entries
-      (subst (StandsFor entries) (sym (is ∙ same)) stands)
+      λ entries stands. unread fault file octets refused entries (rw (is, same) stands)
 
 -- what a sync leaves stands for the same
 pub stands_synced : (old new : Option Pending) (entries : List Entry)
     → new ≡ option_map after_sync old → IsSomeAnd old (λ told. StandsFor entries told.content)
     → IsSomeAnd new (λ told. StandsFor entries told.content)
-stands_synced (Some told) new entries is stands =
-    subst (λ (p : Option Pending). IsSomeAnd p (λ told. StandsFor entries told.content)) (sym is)
-    stands
+stands_synced (Some told) new entries is stands = rw is stands
 stands_synced None new entries is stands = absurd stands

@@ -1,31 +1,29 @@
 -- What a stop in an append leaves on a disk in memory.
-use Rattle.std.proofs.Common.{◌≡◌, ◌≢◌, ℕ, zero, suc, ◌+◌, ◌-◌, ◌<◌, ◌≤◌, nat_le, Bool, true, false}
+use Rattle.std.proofs.Common.{◌≡◌, ◌≢◌, ℕ, zero, suc, ◌+◌, ◌-◌, ◌<◌, ◌≤◌, Bool, true, false}
 use Rattle.std.proofs.Common.{not, IsFalse, if◌then◌else◌, List, [], ◌∷◌, ◌++◌, length, fold, take}
 use Rattle.std.proofs.Common.{Option, Some, None, refl, sym, ◌∙◌, ap, subst, arith}
-use Rattle.std.proofs.lemmas.Bool.Decides.{nat_tests}
 use Rattle.std.proofs.lemmas.Grind.{common_steps}
 use Rattle.std.proofs.lemmas.List.Sums.{fold-append}
 use Rattle.archive_terms.specs.Archive.{Entry, IsArchive}
 use Rattle.octet_core.specs.Fault.{last_count}
 use Rattle.record_form.specs.Reading.{ReadBack}
 use Rattle.disk_model.specs.Images.{Pending, all_synced, overwritten}
-use Rattle.disk_model.specs.Calls.{AllMade, FailedAtOne}
+use Rattle.disk_model.specs.Calls.{FailedAtOne}
 use Rattle.disk_model.specs.MemoryDisk.{DiskState, Medium, RunIs, IsMadeCall, IsFailedCall}
 use Rattle.disk_model.specs.MemoryDisk.{run_as_ordered, calls_until_stop, medium_of, pending_of}
 use Rattle.disk_model.specs.MemoryDisk.{synced_medium, left_by, after_call, after_event, torn_half}
-use Rattle.disk_model.specs.MemoryDisk.{restarted, steered, content_of}
+use Rattle.disk_model.specs.MemoryDisk.{restarted, content_of}
 use Rattle.disk_model.specs.declared.call.Call.{Call}
 use Rattle.disk_model.specs.declared.event.Event.TheVariants.{Restarted}
-use Rattle.disk_model.specs.declared.orders.Orders.{Orders}
 use Rattle.disk_model.specs.declared.orders.Pick.{Pick}
 use Rattle.disk_model.specs.declared.orders.Pick.TheVariants.{Old, New, Torn}
 use Rattle.disk_model.specs.declared.orders.Stop.{Stop}
 use Rattle.gate_journal.specs.File.{IsBatch, StandsAt, StandsFor, entries_octets}
-use Rattle.gate_journal.specs.JournalState.{Keeps, IsAtRest, IsReady, IsToStop, StopsIn}
+use Rattle.gate_journal.specs.JournalState.{Keeps, IsAtRest, IsReady, StopsIn}
 use Rattle.gate_journal.specs.JournalState.{KeepsOnRestart}
 use Rattle.gate_journal.specs.JournalState.{appending, closed_batch, entries_left}
 use Rattle.gate_journal.specs.JournalState.{leaves_batch, HasBatch, IsToFail, FailsIn, holds_batch}
-use Rattle.gate_journal.proofs.Adding.{gate_over, stands_gated, stands_old, stands_whole, with_gate}
+use Rattle.gate_journal.proofs.Adding.{gate_over, stands_gated, stands_whole, with_gate, kept}
 use Rattle.gate_journal.proofs.Adding.{written}
 use Rattle.gate_journal.proofs.Following.{follows_kept}
 
@@ -37,39 +35,29 @@ closed_size batch = grind (arith, common_steps)
 torn_is_shut : ◌≢◌ {A = ℕ} 90 165
 torn_is_shut same = omega (arith, same)
 
-module _ (told : Pending) (gate : ℕ) (at_rest : IsAtRest (Some told) gate) where
-  -- octets behind the gate, the gate's octet still its own
-  stands_behind : (octets : List ℕ)
-      → StandsAt at_rest.1 gate (overwritten told.content (gate + 1) octets)
-  stands_behind octets = stands_gated told gate at_rest octets at_rest.2.gate
-      (overwritten told.content (gate + 1) octets) at_rest.2.shut (written told gate at_rest octets)
-
-  -- and then the gate's octet
+module _ {told : Pending} {gate : ℕ} (at_rest : IsAtRest (Some told) gate) where
+  -- octets behind the gate, and then the gate's octet
   gate_is : (octets : List ℕ) (value : ℕ)
       → overwritten (overwritten told.content (gate + 1) octets) gate (value ∷ [])
-      ≡ with_gate told gate at_rest value octets
-  gate_is octets value =
-      ap (λ (file : List ℕ). overwritten file gate (value ∷ [])) (written told gate at_rest octets)
-      ∙ gate_over told gate at_rest octets value
+      ≡ with_gate at_rest value octets
+  gate_is octets value = rw (written at_rest octets) (gate_over at_rest octets value)
 
   module _ (batch : List Entry) (law : ReadBack)
       (ready : IsReady (Some told) batch (closed_batch batch)) (entries : List Entry)
       (keeps : Keeps (Some told) entries) where
-    kept : StandsAt entries gate told.content
-    kept = stands_old told gate at_rest law entries keeps told.content at_rest.2
-
     put : (octets : List ℕ) → StandsAt entries gate (overwritten told.content (gate + 1) octets)
-    put octets = stands_old told gate at_rest law entries keeps _ (stands_behind octets)
+    put octets = stands_gated at_rest law entries keeps octets at_rest.2.gate _ at_rest.2.shut
+        (written at_rest octets)
 
     torn : StandsAt entries gate
         (overwritten (overwritten told.content (gate + 1) (closed_batch batch)) gate (90 ∷ []))
-    torn = stands_old told gate at_rest law entries keeps _ (stands_gated told gate at_rest
-        (closed_batch batch) 90 _ torn_is_shut (gate_is (closed_batch batch) 90))
+    torn = stands_gated at_rest law entries keeps (closed_batch batch) 90 _ torn_is_shut
+        (gate_is (closed_batch batch) 90)
 
     new : StandsAt (entries ++ batch) (gate + (length (entries_octets batch) + 7)) (overwritten
         (overwritten told.content (gate + 1) (closed_batch batch)) gate (165 ∷ []))
-    new = rw (← closed_size batch) (stands_whole told gate at_rest law entries keeps
-        (closed_batch batch) batch ready _ (gate_is (closed_batch batch) 165))
+    new = rw (← closed_size batch) (stands_whole at_rest law entries keeps (closed_batch batch)
+        batch ready _ (gate_is (closed_batch batch) 165))
 
     abbrev let_through : ℕ → Medium
     let_through k = fold after_call (synced_medium told.content)
@@ -78,10 +66,10 @@ module _ (told : Pending) (gate : ℕ) (at_rest : IsAtRest (Some told) gate) whe
     pub left_at : (k : ℕ) (pick : Pick) → 0 < k → k ≤ 4
         → HasBatch (leaves_batch k pick) entries batch gate (left_by pick (let_through k))
     left_at zero pick some most = absurd (omega arith)
-    left_at (suc zero) Old some most = kept
+    left_at (suc zero) Old some most = kept at_rest law entries keeps
     left_at (suc zero) New some most = put (closed_batch batch)
     left_at (suc zero) Torn some most = put (torn_half (closed_batch batch))
-    left_at (suc (suc zero)) Old some most = kept
+    left_at (suc (suc zero)) Old some most = kept at_rest law entries keeps
     left_at (suc (suc zero)) New some most = put (closed_batch batch)
     left_at (suc (suc zero)) Torn some most = put (torn_half (closed_batch batch))
     left_at (suc (suc (suc zero))) Old some most = put (closed_batch batch)
@@ -100,7 +88,7 @@ module _ (told : Pending) (gate : ℕ) (at_rest : IsAtRest (Some told) gate) whe
     pub held_at : (k : ℕ) → 0 < k → k ≤ 4
         → HasBatch (holds_batch k) entries batch gate (made_before k).pending.content
     held_at zero some most = absurd (omega arith)
-    held_at (suc zero) some most = kept
+    held_at (suc zero) some most = kept at_rest law entries keeps
     held_at (suc (suc zero)) some most = put (closed_batch batch)
     held_at (suc (suc (suc zero))) some most = put (closed_batch batch)
     held_at (suc (suc (suc (suc zero)))) some most = new
@@ -121,7 +109,7 @@ is_ready : (pending : Option Pending) (batch : List Entry) → ReadBack → IsBa
 is_ready pending batch law is_batch entries keeps archive = record {
   spelled = refl;
   is_batch = is_batch;
-  archive = λ others kept. follows_kept law pending entries batch others keeps archive kept;
+  archive = λ others. follows_kept law pending entries batch others keeps archive;
 }
 
 -- ---- the laws of the disk in memory
@@ -134,19 +122,7 @@ StopsNow =
     → stop.calls ≤ length calls
     → RunIs disk calls false (calls_until_stop stop.calls calls) (Some stop.pick)
 
--- or after the calls
-abbrev pub StopsLater : Type 0
-StopsLater =
-    (disk : DiskState) (calls : List Call) (stop : Stop) → disk.stopped ≡ None
-    → disk.stop ≡ Some stop → disk.calls.failing ≡ [] → length calls < stop.calls
-    → RunIs disk calls true calls None
-
--- calls that were made are a run by the orders
-abbrev pub MadeAsOrdered : Type 0
-MadeAsOrdered = (old new : DiskState) (calls : List Call) → AllMade IsMadeCall old calls new
-    → run_as_ordered old calls ≡ (true, new)
-
--- and those up to one that failed
+-- calls up to one that failed are a run by the orders
 abbrev pub FailedAsOrdered : Type 0
 FailedAsOrdered =
     (old new : DiskState) (calls : List Call) → FailedAtOne IsMadeCall IsFailedCall old calls new
@@ -157,42 +133,11 @@ abbrev pub SyncedIsAll : Type 0
 SyncedIsAll = (disk : DiskState) (octets : List ℕ) → pending_of disk ≡ all_synced octets
     → medium_of disk ≡ synced_medium octets
 
--- the orders of a stop
-pub is_to_stop : (disk : DiskState) (orders : Orders) (stop : Stop) → disk.stopped ≡ None
-    → orders.stop ≡ Some stop → orders.failing.failing ≡ [] → 0 < stop.calls
-    → IsToStop (steered disk orders) stop
-is_to_stop disk orders stop runs stops succeeds some =
-    let later : nat_le stop.calls 0 ≡ false = grind (arith, nat_tests) in
-    let same : stop.calls - 0 ≡ stop.calls = omega arith in
-    record {
-      runs = rw (runs, stops, later) refl;
-      stops = rw (stops, later, same) refl;
-      succeeds = succeeds;
-    }
-
-not_both : (answer : Bool) {run : Bool × DiskState} {after : DiskState} → run ≡ (answer, after)
+-- a run answers once
+pub not_both : (answer : Bool) {run : Bool × DiskState} {after : DiskState} → run ≡ (answer, after)
     → run.0 ≡ not answer → ⊥
 not_both true is said = cc
 not_both false is said = cc
-
--- an append at which the disk is to stop isn't Ok
-pub stopped_is_no_ok : StopsNow → MadeAsOrdered
-    → (disk after : DiskState) (gate : ℕ) (batch : List Entry) (stop : Stop) → IsToStop disk stop
-    → 0 < stop.calls → stop.calls ≤ 4
-    → AllMade IsMadeCall disk (appending gate batch) after → ⊥
-stopped_is_no_ok now ordered disk after gate batch stop is some most made =
-    not_both true (ordered disk after (appending gate batch) made)
-    (now disk (appending gate batch) stop is.runs is.stops is.succeeds some most).answer
-
--- and one before its stop doesn't fail
-pub unstopped_is_no_fault : StopsLater → FailedAsOrdered
-    → (disk after : DiskState) (gate : ℕ) (batch : List Entry) (stop : Stop) → IsToStop disk stop
-    → 4 < stop.calls
-    → FailedAtOne IsMadeCall IsFailedCall disk (appending gate batch) after
-    → IsFalse after.memory_refused → ⊥
-unstopped_is_no_fault later ordered disk after gate batch stop is past failed ample =
-    not_both false (ordered disk after (appending gate batch) failed ample)
-    (later disk (appending gate batch) stop is.runs is.stops is.succeeds past).answer
 
 module _ (now : StopsNow) (ordered : FailedAsOrdered) (disk after : DiskState) (gate : ℕ)
     (batch : List Entry) (stop : Stop) (is : StopsIn disk gate batch stop after) where
@@ -208,21 +153,6 @@ module _ (now : StopsNow) (ordered : FailedAsOrdered) (disk after : DiskState) (
   pub has_stopped : after.stopped ≡ Some stop.pick
   has_stopped = rw there at run.stopped
 
-  medium_then : SyncedIsAll → IsAtRest (Some (pending_of disk)) gate
-      → medium_of after ≡ fold after_call (synced_medium (pending_of disk).content)
-      (calls_until_stop stop.calls (appending gate batch))
-  medium_then synced at_rest =
-      rw there at run.medium
-      ∙ ap (λ (m : Medium). fold after_call m (calls_until_stop stop.calls (appending gate batch)))
-      (synced disk (pending_of disk).content at_rest.0)
-
-  on_restart : (medium : Medium) → medium_of after ≡ medium
-      → pending_of (restarted after stop.pick) ≡ all_synced (left_by stop.pick medium)
-  on_restart medium same =
-      ap (λ (m : Medium). m.pending) (fold-append after_event (synced_medium after.start) after.log
-      (Restarted stop.pick ∷ []))
-      ∙ ap (λ (m : Medium). all_synced (left_by stop.pick m)) same
-
   -- and once it is restarted it holds these entries
   module _ (synced : SyncedIsAll) (law : ReadBack)
       (at_rest : IsAtRest (Some (pending_of disk)) gate)
@@ -232,14 +162,19 @@ module _ (now : StopsNow) (ordered : FailedAsOrdered) (disk after : DiskState) (
     medium_left = fold after_call (synced_medium (pending_of disk).content)
         (calls_until_stop stop.calls (appending gate batch))
 
+    medium_then : medium_of after ≡ medium_left
+    medium_then = rw (there, synced disk (pending_of disk).content at_rest.0) at run.medium
+
     restarts : pending_of (restarted after stop.pick) ≡ all_synced (left_by stop.pick medium_left)
-    restarts = on_restart medium_left (medium_then synced at_rest)
+    restarts =
+        ap (λ (m : Medium). m.pending) (fold-append after_event (synced_medium after.start)
+        after.log (Restarted stop.pick ∷ []))
+        ∙ ap (λ (m : Medium). all_synced (left_by stop.pick m)) medium_then
 
     there_then : HasBatch (leaves_batch stop.calls stop.pick) entries batch gate
         (left_by stop.pick medium_left)
-    there_then = left_at (pending_of disk) gate at_rest batch law
-        (is_ready (Some (pending_of disk)) batch law is_batch entries keeps archive) entries keeps
-        stop.calls stop.pick is.some is.within
+    there_then = left_at at_rest batch law (is_ready _ batch law is_batch entries keeps archive)
+        entries keeps stop.calls stop.pick is.some is.within
 
     pub file_left : HasBatch (leaves_batch stop.calls stop.pick) entries batch gate
         (content_of (restarted after stop.pick))
@@ -248,12 +183,7 @@ module _ (now : StopsNow) (ordered : FailedAsOrdered) (disk after : DiskState) (
         there_then
 
     pub keeps_left : KeepsOnRestart after stop (entries_left entries batch stop)
-    keeps_left = subst (λ (p : Pending). Keeps (Some p) (entries_left entries batch stop))
-        (sym restarts) (
-          refl,
-          stands_with (leaves_batch stop.calls stop.pick) entries batch gate
-              (left_by stop.pick medium_left) there_then,
-        )
+    keeps_left = rw restarts (refl, stands_with _ entries batch gate _ there_then)
 
 -- ---- a call that fails
 
@@ -264,29 +194,13 @@ FaultsNow =
     → disk.calls.failing ≡ (disk.calls.made + k) ∷ [] → disk.calls.made + k ≤ last_count
     → 0 < k → k ≤ length calls → RunIs disk calls false (take (k - 1) calls) None
 
--- the orders of a fault
-pub is_to_fail_at : (disk : DiskState) (orders : Orders) (k : ℕ) → disk.stopped ≡ None
-    → orders.stop ≡ None → orders.failing ≡ record { failing = k ∷ []; made = 0 }
-    → IsToFail (steered disk orders) k
-is_to_fail_at disk orders k runs goes_on fails = record {
-  runs = rw (runs, goes_on) refl;
-  goes_on = rw goes_on refl;
-  fails = fails;
-}
-
-module _ (now : FaultsNow) (disk : DiskState) (gate : ℕ) (batch : List Entry) (k : ℕ)
-    (is : IsToFail disk k) (some : 0 < k) (within : k ≤ 4) where
-  fault_run : RunIs disk (appending gate batch) false (take (k - 1) (appending gate batch)) None
-  fault_run =
-      let none : 0 + k ≡ k = omega arith in
-      now disk (appending gate batch) k is.runs is.goes_on (rw (is.fails, none) refl)
-      (rw is.fails (omega (arith, within))) some within
-
-  -- an append at which a call is to fail isn't Ok
-  pub failed_is_no_ok : MadeAsOrdered → (after : DiskState)
-      → AllMade IsMadeCall disk (appending gate batch) after → ⊥
-  failed_is_no_ok ordered after made =
-      not_both true (ordered disk after (appending gate batch) made) fault_run.answer
+pub fault_run : FaultsNow → (disk : DiskState) (gate : ℕ) (batch : List Entry) (k : ℕ)
+    → IsToFail disk k → 0 < k → k ≤ 4
+    → RunIs disk (appending gate batch) false (take (k - 1) (appending gate batch)) None
+fault_run now disk gate batch k is some within =
+    let none : 0 + k ≡ k = omega arith in
+    now disk (appending gate batch) k is.runs is.goes_on (rw (is.fails, none) refl)
+    (rw is.fails (omega (arith, within))) some within
 
 module _ (now : FaultsNow) (ordered : FailedAsOrdered) (disk after : DiskState) (gate : ℕ)
     (batch : List Entry) (k : ℕ) (is : FailsIn disk gate batch k after) where
@@ -306,11 +220,9 @@ module _ (now : FaultsNow) (ordered : FailedAsOrdered) (disk after : DiskState) 
       → IsArchive (entries ++ batch)
       → HasBatch (holds_batch k) entries batch gate (content_of after)
   file_held synced law at_rest is_batch entries keeps archive =
-      let medium_is = rw there_failed at run_failed.medium
-      ∙ ap (λ (m : Medium). fold after_call m (take (k - 1) (appending gate batch)))
-      (synced disk (pending_of disk).content at_rest.0) in
+      let medium_is =
+      rw (there_failed, synced disk (pending_of disk).content at_rest.0) at run_failed.medium in
       subst (λ (m : Medium). HasBatch (holds_batch k) entries batch gate m.pending.content)
       (sym medium_is)
-      (held_at (pending_of disk) gate at_rest batch law
-      (is_ready (Some (pending_of disk)) batch law is_batch entries keeps archive) entries keeps k
-      is.some is.within)
+      (held_at at_rest batch law (is_ready _ batch law is_batch entries keeps archive) entries
+      keeps k is.some is.within)

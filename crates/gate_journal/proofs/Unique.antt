@@ -1,40 +1,43 @@
 -- A file stands for one list at most.
-use Rattle.std.proofs.Common.{◌≡◌, ◌≢◌, ℕ, ◌&&◌, Bool, true, false}
-use Rattle.std.proofs.Common.{List, [], ◌∷◌, ◌++◌, length, take, drop, slice_index, IsTrue, Result}
-use Rattle.std.proofs.Common.{Ok, refl, sym, ap, ◌∙◌, arith, append_assoc}
+use Rattle.std.proofs.Common.{◌≡◌, ◌≢◌, ℕ, ◌+◌, true}
+use Rattle.std.proofs.Common.{List, [], ◌∷◌, ◌++◌, length, take, drop, slice_index, IsTrue}
+use Rattle.std.proofs.Common.{refl, sym, ap, ◌∙◌, arith, append_assoc}
 use Rattle.std.specs.List.{AllByRecursion, list_all}
 use Rattle.std.specs.Int.{w16, w32, to_be_bytes, from_be_bytes}
-use Rattle.std.proofs.lemmas.List.{append-nil, drop_at}
+use Rattle.std.proofs.lemmas.Bool.{and_parts}
+use Rattle.std.proofs.lemmas.List.{append-nil, length-append}
 use Rattle.std.proofs.lemmas.List.Concat.{flat_map-cons}
 use Rattle.std.proofs.lemmas.Nat.{from_be_bytes-to_be_bytes_2}
 use Rattle.archive_terms.specs.Archive.{Entry, is_storable}
-use Rattle.record_form.specs.declared.fault.EntryFault.{EntryFault}
 use Rattle.record_form.specs.Spelling.{entry_octets}
-use Rattle.record_form.specs.Reading.{ReadBack, entry_from}
+use Rattle.record_form.specs.Reading.{ReadBack}
 use Rattle.gate_journal.specs.File.{header, entries_octets, batch_octets, IsBatch, gated}
 use Rattle.gate_journal.specs.File.{StandsAt}
 
-pub both : (a b : Bool) → (a && b) ≡ true → (a ≡ true) × (b ≡ true)
-both true b e = (refl, e)
-both false b e = absurd (cc)
+pub head_of : {x y : ℕ} {xs ys : List ℕ} → x ∷ xs ≡ y ∷ ys → x ≡ y
+head_of same = ap (λ (l : List ℕ). slice_index l 0) same
 
-ok_is : {A : Type 0} (x y : A) → ◌≡◌ {A = Result A EntryFault} (Ok x) (Ok y) → x ≡ y
-ok_is x y e = cc
+pub tail_of : {x y : ℕ} {xs ys : List ℕ} → x ∷ xs ≡ y ∷ ys → xs ≡ ys
+tail_of same = ap (λ (l : List ℕ). drop 1 l) same
 
 same_entry : ReadBack → (e f : Entry) (x y : List ℕ) → IsTrue (is_storable e)
     → IsTrue (is_storable f) → entry_octets e ++ x ≡ entry_octets f ++ y → e ≡ f
 same_entry law e f x y first second same =
-    ap (λ (p : Entry × ℕ). p.0)
-    (ok_is (e, length (entry_octets e)) (f, length (entry_octets f)) (sym (law e x first)
-    ∙ ap (entry_from 0) same ∙ law f y second))
+    let pairs : ◌≡◌ {A = Entry × ℕ} (e, length (entry_octets e)) (f, length (entry_octets f)) =
+    cc (law e x first, law f y second, same) in
+    ap (λ (p : Entry × ℕ). p.0) pairs
 
 pub same_rest : (front x y : List ℕ) → front ++ x ≡ front ++ y → x ≡ y
-same_rest front x y same = sym (drop_at front x (length front) refl) ∙ ap (drop (length front)) same
-    ∙ drop_at front y (length front) refl
+same_rest [] x y same = same
+same_rest (_ ∷ front) x y same = same_rest front x y (tail_of same)
 
 pub regroup : (e : Entry) (es : List Entry) (x : List ℕ)
     → entries_octets (e ∷ es) ++ x ≡ entry_octets e ++ (entries_octets es ++ x)
-regroup e es x = rw (flat_map-cons entry_octets e es) (append_assoc (entry_octets e) _ x)
+regroup e es x = simp (flat_map-cons, append_assoc)
+
+pub entries_longer : (e : Entry) (es : List Entry)
+    → length (entries_octets (e ∷ es)) ≡ length (entry_octets e) + length (entries_octets es)
+entries_longer e es = simp (flat_map-cons, length-append)
 
 same_entries : ReadBack → (a b : List Entry) (x y : List ℕ) → length a ≡ length b
     → list_all is_storable a ≡ true → list_all is_storable b ≡ true
@@ -43,16 +46,12 @@ same_entries law [] [] x y size first second same = (refl, same)
 same_entries law [] (f ∷ b) x y size first second same = absurd (omega (arith, size))
 same_entries law (e ∷ a) [] x y size first second same = absurd (omega (arith, size))
 same_entries law (e ∷ a) (f ∷ b) x y size first second same =
-    let one = both (is_storable e) (list_all is_storable a) first in
-    let other = both (is_storable f) (list_all is_storable b) second in
-    let split : entry_octets e ++ (entries_octets a ++ x)
-    ≡ entry_octets f ++ (entries_octets b ++ y) = sym (regroup e a x) ∙ same ∙ regroup f b y in
-    let head : e ≡ f = same_entry law e f (entries_octets a ++ x) (entries_octets b ++ y) one.0
-    other.0 split in
-    let tail : entries_octets a ++ x ≡ entries_octets b ++ y =
-    same_rest (entry_octets f) (entries_octets a ++ x) (entries_octets b ++ y)
-    (cc (head, split)) in
-    let rest = same_entries law a b x y (omega (arith, size)) one.1 other.1 tail in
+    let one = and_parts _ _ first in
+    let other = and_parts _ _ second in
+    let split = sym (regroup e a x) ∙ same ∙ regroup f b y in
+    let head = same_entry law e f _ _ one.0 other.0 split in
+    let rest = same_entries law a b x y (omega (arith, size)) one.1 other.1
+    (same_rest (entry_octets f) _ _ (rw head at split)) in
     (cc (rest.0, head), rest.1)
 
 pub in_front : (batch : List Entry) (x : List ℕ)
@@ -63,46 +62,35 @@ in_front batch x = simp append_assoc
 pub same_batch : ReadBack → (a b : List Entry) (x y : List ℕ) → IsBatch a → IsBatch b
     → batch_octets a ++ x ≡ batch_octets b ++ y → (a ≡ b) × (x ≡ y)
 same_batch law a b x y first second same =
-    let behind : to_be_bytes w16 (length a) ++ (entries_octets a ++ x)
-    ≡ to_be_bytes w16 (length b) ++ (entries_octets b ++ y) =
-    ap (drop 4) (sym (in_front a x) ∙ same ∙ in_front b y) in
+    let behind = ap (drop 4) (sym (in_front a x) ∙ same ∙ in_front b y) in
     let count : length a ≡ length b =
     sym (from_be_bytes-to_be_bytes_2 (length a) (omega (arith, first.most)))
     ∙ ap (λ (l : List ℕ). from_be_bytes w16 (take 2 l)) behind
     ∙ from_be_bytes-to_be_bytes_2 (length b) (omega (arith, second.most)) in
     same_entries law a b x y count first.storable second.storable (ap (drop 2) behind)
 
-pub head_of : {x y : ℕ} {xs ys : List ℕ} → x ∷ xs ≡ y ∷ ys → x ≡ y
-head_of same = ap (λ (l : List ℕ). slice_index l 0) same
-
-pub tail_of : {x y : ℕ} {xs ys : List ℕ} → x ∷ xs ≡ y ∷ ys → xs ≡ ys
-tail_of same = ap (λ (l : List ℕ). drop 1 l) same
-
 -- these batches follow others, and these octets the others' octets
 pub record Follows (led whole : List (List Entry)) (rest behind : List ℕ) : Type 0 where
   pub more : List (List Entry)
   pub batches : whole ≡ led ++ more
   pub octets : rest ≡ gated more ++ behind
+  pub each : AllByRecursion IsBatch more
 
 -- batches at the front of octets begin all batches up to a gate that isn't open
 pub follows_led : ReadBack → (led whole : List (List Entry)) (rest past : List ℕ) (shut : ℕ)
     → AllByRecursion IsBatch led → AllByRecursion IsBatch whole → shut ≢ 165
     → gated led ++ rest ≡ gated whole ++ shut ∷ past → Follows led whole rest (shut ∷ past)
 follows_led law [] whole rest past shut first second closed same =
-    record { more = whole; batches = refl; octets = same }
+    record { more = whole; batches = refl; octets = same; each = second }
 follows_led law (x ∷ xs) [] rest past shut first second closed same =
     absurd (closed (sym (head_of same)))
 follows_led law (x ∷ xs) (y ∷ ys) rest past shut first second closed same =
-    let behind : batch_octets x ++ (gated xs ++ rest) ≡ batch_octets y ++ (gated ys ++ shut ∷ past)
-    = sym (append_assoc (batch_octets x) (gated xs) rest) ∙ tail_of same
-    ∙ append_assoc (batch_octets y) (gated ys) (shut ∷ past) in
-    let found = same_batch law x y (gated xs ++ rest) (gated ys ++ shut ∷ past) first.0 second.0
-    behind in
-    let later = follows_led law xs ys rest past shut first.1 second.1 closed found.1 in
-    record {
+    let found = same_batch law x y _ _ first.0 second.0 (simp append_assoc at (tail_of same)) in
+    let later = follows_led law xs ys rest past shut first.1 second.1 closed found.1 in record {
       more = later.more;
       batches = cc (later.batches, found.0);
       octets = later.octets;
+      each = later.each;
     }
 
 nothing_more : (more : List (List Entry)) (gate : ℕ) (rest behind : List ℕ) → gate ≢ 165
@@ -110,26 +98,15 @@ nothing_more : (more : List (List Entry)) (gate : ℕ) (rest behind : List ℕ) 
 nothing_more [] gate rest behind closed same = refl
 nothing_more (b ∷ bs) gate rest behind closed same = absurd (closed (head_of same))
 
-same_batches : ReadBack → (one other : List Entry) (place there : ℕ) (file : List ℕ)
-    (first : StandsAt one place file) (second : StandsAt other there file)
-    → first.batches ≡ second.batches
-same_batches law one other place there file first second =
-    let follows = follows_led law first.batches second.batches (first.gate ∷ first.rest) second.rest
-    second.gate first.leads.each second.leads.each second.shut
-    (same_rest header (gated first.batches ++ first.gate ∷ first.rest)
-    (gated second.batches ++ second.gate ∷ second.rest) (sym first.is ∙ second.is)) in
-    cc (
-      follows.batches,
-      nothing_more follows.more first.gate first.rest (second.gate ∷ second.rest) first.shut
-          follows.octets,
-      append-nil first.batches,
-    )
-
 -- the list, and the place of the gate behind it
 pub stands_for_one : ReadBack → (one other : List Entry) (place there : ℕ) (file : List ℕ)
     → StandsAt one place file → StandsAt other there file → (one ≡ other) × (place ≡ there)
 stands_for_one law one other place there file first second =
-    let same = same_batches law one other place there file first second in (
+    let follows = follows_led law _ _ _ _ _ first.leads.each second.leads.each second.shut
+    (same_rest header _ _ (sym first.is ∙ second.is)) in
+    let none = nothing_more follows.more _ _ _ first.shut follows.octets in
+    let same : first.batches ≡ second.batches =
+    cc (follows.batches, none, append-nil first.batches) in (
       cc (first.leads.entries_are, same, second.leads.entries_are),
       cc (first.leads.there, same, second.leads.there),
     )

@@ -9,21 +9,19 @@ pub returns-in_err-entries-clause-standing : goal.returns-in_err-entries-clause-
 returns-in_err-entries-clause-standing g c =
     let p = err_from_is_err_and c.from_residual.result c.from_residual.ensures.1 in
     rw (p.1, p.2) (λ entries stands. c.in_err-entries.ensures.standing entries
-    (stands_synced (g.D.Disk.pending c.args.disk.now) (g.D.Disk.pending c.sync.new.self) entries
+    (stands_synced (g.D.Disk.pending c.args.disk.now) _ entries
     (if_good c.sync.result (search rules) c.sync.ensures.synced) stands))
 
 pub returns-then-is_err-clause-tells : goal.returns-then-is_err-clause-tells
-returns-then-is_err-clause-tells g c = synced_tells c.sync.result (g.D.Disk.pending c.args.disk.now)
-    (g.D.Disk.pending c.sync.new.self) c.sync.ensures.synced c.sync.ensures.unsynced
+returns-then-is_err-clause-tells g c =
+    synced_tells c.sync.result _ _ c.sync.ensures.synced c.sync.ensures.unsynced
 
 pub returns-in_err-entries-clause-tells : goal.returns-in_err-entries-clause-tells
 returns-in_err-entries-clause-tells g c =
     ap is_some c.read_all.ensures.reads.same
-    ∙ synced_tells c.sync.result (g.D.Disk.pending c.args.disk.now)
-    (g.D.Disk.pending c.sync.new.self) c.sync.ensures.synced c.sync.ensures.unsynced
+    ∙ synced_tells c.sync.result _ _ c.sync.ensures.synced c.sync.ensures.unsynced
 
 pub returns-clause-tells : goal.returns-clause-tells
 returns-clause-tells g c =
     ap is_some c.read_all.ensures.reads.same
-    ∙ synced_tells c.sync.result (g.D.Disk.pending c.args.disk.now)
-    (g.D.Disk.pending c.sync.new.self) c.sync.ensures.synced c.sync.ensures.unsynced
+    ∙ synced_tells c.sync.result _ _ c.sync.ensures.synced c.sync.ensures.unsynced

@@ -9,44 +9,33 @@ use Rattle.gate_journal.proofs.journal.put.Goals as goal
 pub returns-in_err-write_synced-clause-any_moment
     : goal.returns-in_err-write_synced-clause-any_moment
 returns-in_err-write_synced-clause-any_moment g c batch ready entries keeps =
-    weaker g.D.Disk.moment g.D.Disk.images_since c.args.disk.now c.write_synced.new.disk _ _
-    (first_holds c.read_back.ensures (g.D.Disk.pending c.args.disk.now) c.args.gate
+    weaker g.D.Disk.moment g.D.Disk.images_since _ _ _ _ (first_holds c.read_back.ensures _ _
     c.args.octets.now c.requires.at_rest batch entries keeps) c.write_synced.ensures.any_moment
 
 pub returns-clause-added : goal.returns-clause-added
 returns-clause-added g c =
     follows_if_ok c.open_gate.result c.open_gate.ensures.written
-    (added c.read_back.ensures (g.D.Disk.pending c.args.disk.now)
-    (g.D.Disk.pending c.write_synced.new.disk) (g.D.Disk.pending c.open_gate.new.disk)
-    c.args.gate c.args.octets.now c.requires.at_rest c.in_ok-write_synced.ensures.written)
+    (added c.read_back.ensures _ _ _ _ c.args.octets.now c.requires.at_rest
+    c.in_ok-write_synced.ensures.written)
 
 pub returns-clause-at_rest : goal.returns-clause-at_rest
 returns-clause-at_rest g c =
     follows_if_ok c.open_gate.result c.open_gate.ensures.written
-    (rests_again c.read_back.ensures (g.D.Disk.pending c.args.disk.now)
-    (g.D.Disk.pending c.write_synced.new.disk) (g.D.Disk.pending c.open_gate.new.disk)
-    c.args.gate c.args.octets.now c.requires.at_rest c.in_ok-write_synced.ensures.written)
+    (rests_again c.read_back.ensures _ _ _ _ c.args.octets.now c.requires.at_rest
+    c.in_ok-write_synced.ensures.written)
 
 pub returns-clause-any_moment : goal.returns-clause-any_moment
 returns-clause-any_moment g c batch ready entries keeps =
-    let old = c.args.disk.now in
-    let mid = c.write_synced.new.disk in
-    let new = c.open_gate.new.disk in
-    let P = IsOldOrNew entries batch in
-    and_then g.D.Disk.moment g.D.Disk.images_since old mid new P
-    (weaker g.D.Disk.moment g.D.Disk.images_since old mid _ P
-    (first_holds c.read_back.ensures (g.D.Disk.pending old) c.args.gate c.args.octets.now
-    c.requires.at_rest batch entries keeps) c.write_synced.ensures.any_moment)
-    (weaker g.D.Disk.moment g.D.Disk.images_since mid new _ P
-    (second_holds c.read_back.ensures (g.D.Disk.pending old) (g.D.Disk.pending mid) c.args.gate
-    c.args.octets.now c.requires.at_rest c.in_ok-write_synced.ensures.written batch ready
-    entries keeps)
-    c.open_gate.ensures.any_moment)
+    and_then g.D.Disk.moment g.D.Disk.images_since _ _ _ (IsOldOrNew entries batch)
+    (weaker g.D.Disk.moment g.D.Disk.images_since _ _ _ _ (first_holds c.read_back.ensures _ _
+    c.args.octets.now c.requires.at_rest batch entries keeps) c.write_synced.ensures.any_moment)
+    (weaker g.D.Disk.moment g.D.Disk.images_since _ _ _ _ (second_holds c.read_back.ensures _ _ _
+    c.args.octets.now c.requires.at_rest c.in_ok-write_synced.ensures.written batch ready entries
+    keeps) c.open_gate.ensures.any_moment)
 
 pub returns-clause-calls : goal.returns-clause-calls
 returns-clause-calls g c =
     runs_and g.D.Disk.makes g.D.Disk.fails c.open_gate.result
     (Write (c.args.gate + 1) c.args.octets.now ∷ Sync ∷ [])
-    (Write c.args.gate (165 ∷ []) ∷ Sync ∷ [])
-    c.args.disk.now c.write_synced.new.disk c.open_gate.new.disk
+    (Write c.args.gate (165 ∷ []) ∷ Sync ∷ []) _ _ _
     c.in_ok-write_synced.ensures.calls c.open_gate.ensures.calls

@@ -11,7 +11,8 @@ returns-in-Ok-None-clause-shut g c is entries passed =
     c.in_ok-fill.ensures.room c.self.view_is c.as_slice-room.ensures.value c.self.invariant.0
     passed in
     rw (← c.fill.ensures.gate, ← c.self.view_is)
-    (shut_next c.read_where_spelled.ensures c.archive_grows.ensures.archive there
+    (shut_next c.read_where_spelled.ensures c.archive_grows.ensures.archive there c.slice.ensures
+    c.read_back.ensures
     (gate_is _ c.in-Ok-None.field-0-is (c.in-Ok-None.ensures.exact entries there.passed.knows)))
 
 pub returns-in-Err-clause-unfit : goal.returns-in-Err-clause-unfit
