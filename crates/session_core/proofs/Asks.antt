@@ -1,36 +1,21 @@
 -- What a message asks, by what it is judged by.
-use Rattle.std.proofs.Common.{◌≡◌, ℕ, refl, sym, ap, ◌∙◌}
+use Rattle.std.proofs.Common.{◌≡◌, ℕ, refl, ap, ◌∙◌, arith}
 use Rattle.isp1_tml.specs.Message.{Content}
 use Rattle.station_config.specs.declared.site.Site.{Site}
 use Rattle.assoc_core.specs.declared.step.Step.{Step}
-use Rattle.assoc_core.specs.declared.step.Step.TheVariants.{Pass, Denied, Abort}
 use Rattle.station_book.specs.State as book
 use Rattle.station_book.specs.History.{moment_at}
 use Rattle.session_core.specs.declared.bind_places.BindPlaces.{BindPlaces}
 use Rattle.session_core.specs.declared.standing.Standing.{Standing}
 use Rattle.session_core.specs.Inquiry.{Inquiry, answer_of, Replied, reply_in}
-use Rattle.session_core.specs.Message.{UserContent, context, heartbeat, bind, unbind, peer_abort}
-use Rattle.session_core.specs.Message.{invocation, undecoded, out_of_place, judged}
-use Rattle.session_core.specs.Handling.{passed_ask, said_ask, invoked, after_judged}
+use Rattle.session_core.specs.Message.{UserContent, judged}
+use Rattle.session_core.specs.Handling.{said_ask, invoked, after_judged}
 use Rattle.session_core.specs.Steps.{said_to, message_ask, with_message}
-use Rattle.session_core.specs.Seen.{passed_ask_by, ask_by, places_of}
-
-passed_same : (site : Site) (said : UserContent)
-    → passed_ask_by said (places_of site said Pass).instance ≡ passed_ask site said
-passed_same site (context interval factor) = refl
-passed_same site heartbeat = refl
-passed_same site (bind b) = refl
-passed_same site (unbind u) = refl
-passed_same site (peer_abort diagnostic) = refl
-passed_same site (invocation i) = refl
-passed_same site undecoded = refl
-passed_same site out_of_place = refl
+use Rattle.session_core.specs.Seen.{ask_by, places_of}
 
 ask_same : (site : Site) (said : UserContent) (step : Step)
     → ask_by said step (places_of site said step).instance ≡ said_ask site said step
-ask_same site said Pass = passed_same site said
-ask_same site said Denied = refl
-ask_same site said (Abort code) = refl
+ask_same site said step = grind arith
 
 -- what the code asks of a message is what the definition does
 pub asked_by_message : (site : Site) (s : Standing) (content : Content) (said : UserContent)
@@ -38,11 +23,7 @@ pub asked_by_message : (site : Site) (s : Standing) (content : Content) (said : 
     → step ≡ judged site s.association said s.moment → places ≡ places_of site said step
     → ask ≡ ask_by said step places.instance → ask ≡ message_ask site s content s.moment
 asked_by_message site s content said step places ask said_so step_so places_so ask_so =
-    ask_so
-    ∙ ap (λ (p : BindPlaces). ask_by said step p.instance) places_so
-    ∙ ask_same site said step
-    ∙ ap (λ (st : Step). said_ask site said st) step_so
-    ∙ ap (λ (x : UserContent). said_ask site x (judged site s.association x s.moment)) said_so
+    (rw places_so at ask_so) ∙ ask_same site said step ∙ rw (step_so, said_so) refl
 
 -- and so is what it leads to
 pub led_by_message : (site : Site) (s t : Standing) (content : Content) (said : UserContent)
@@ -55,14 +36,5 @@ pub led_by_message : (site : Site) (s t : Standing) (content : Content) (said : 
     (reply_in (answer_of b door s.moment (message_ask site s content s.moment)))
 led_by_message site s t content said st ask reply door reading b was judged_so ask_so now r is =
     let told : reply ≡ reply_in (answer_of b door s.moment (message_ask site s content s.moment)) =
-    r
-    ∙ ap (λ (n : ℕ). reply_in (answer_of b door n ask)) (sym now)
-    ∙ ap (λ (i : Inquiry). reply_in (answer_of b door s.moment i)) ask_so in
-    is
-    ∙ ap (λ (x : Step). after_judged site (invoked s said x) said x reply) judged_so
-    ∙ ap
-    (λ (x : UserContent).
-    after_judged site (invoked s x (judged site s.association x s.moment)) x
-    (judged site s.association x s.moment) reply)
-    was
-    ∙ ap (λ (r : Replied). with_message site s content r) told
+    rw (← now, ask_so) at r in
+    (rw (judged_so, was) at is) ∙ ap (λ (r : Replied). with_message site s content r) told

@@ -1,14 +1,10 @@
 -- The returns fit, and are few octets.
-use Rattle.std.proofs.Common.{◌≡◌, ℕ, pos, negsuc, ◌+◌, ◌-◌, ◌^◌, ◌<◌, ◌≤◌, Bool, true, false}
-use Rattle.std.proofs.Common.{◌&&◌}
-use Rattle.std.proofs.Common.{nat_le, nat_lt, if◌then◌else◌}
-use Rattle.std.proofs.Common.{List, [], ◌∷◌, length, refl}
-use Rattle.std.proofs.Common.{sym, ap, ◌∙◌, arith}
+use Rattle.std.proofs.Common.{◌≡◌, ℕ, pos, negsuc, ◌+◌, ◌-◌, ◌^◌, ◌<◌, ◌≤◌, Bool, true, ◌&&◌}
+use Rattle.std.proofs.Common.{nat_le, List, [], ◌∷◌, length, refl, arith}
 use Rattle.std.proofs.lemmas.Int.{ints}
-use Rattle.std.specs.Int.{w64, to_be_bytes}
 use Rattle.std.specs.List.{list_all}
 use Rattle.ber_core.specs.Integer.{integer_octets}
-use Rattle.ber_core.specs.Length.{shortest_length, long_form, without_zeros}
+use Rattle.ber_core.specs.Length.{shortest_length}
 use Rattle.ber_core.specs.Tree.{primitive, constructed, tree_and, no_trees}
 use Rattle.ber_core.specs.Spelling.{canonical, canonical_all}
 use Rattle.ber_core.specs.Parts.{length-primitive, length-constructed, length-tree_and}
@@ -19,26 +15,19 @@ use Rattle.station_config.specs.Validity.{IsName}
 use Rattle.isp1_auth.specs.declared.secret.Secret.{Secret}
 use Rattle.isp1_auth.specs.Digest.{digest}
 use Rattle.isp1_auth.specs.Signed.{signed}
-use Rattle.session_core.proofs.Truths.{both_of}
 
 -- ---- few octets
-
-at_least : (least n : ℕ) → nat_le least n ≡ true → least ≤ n
-at_least least n e = grind arith
 
 pub few_octets : {X : Type 0} (tag : List ℕ) (m : Members X) (x : X) → m.Fits x
     → nat_le (length tag + 9 + m.most) 4088 ≡ true
     → length (canonical (constructed tag (m.trees x))) ≤ 4088
-few_octets tag m x fits short =
-    omega (arith, structured_few tag m x fits, at_least (length tag + 9 + m.most) 4088 short)
+few_octets tag m x fits short = grind (arith, structured_few tag m x fits)
 
 -- ---- credentials have at least 8 octets: each of their four elements has a tag and a length
 
 some_length : (n : ℕ) → 1 ≤ length (shortest_length n)
 unfolding shortest_length
-some_length n = elim (nat_lt n 128) as (λ b.
-    1 ≤ length (if b then n ∷ [] else long_form (without_zeros (to_be_bytes w64 n))))
-    [ true ↦ omega arith | false ↦ omega arith ]
+some_length n = grind arith
 
 some_primitive : (tag content : List ℕ) → 1 ≤ length tag
     → 2 ≤ length (canonical (primitive tag content))
@@ -67,12 +56,7 @@ some_signed secret time number =
 -- ---- what a return holds fits: a version, a diagnostic, and a name
 
 pub number_fits : (n : ℕ) → n < 2 ^ 16 → InRange (negsuc (2 ^ 63 - 1)) (pos (2 ^ 64 - 1)) (pos n)
-number_fits n small =
-    record {
-      bits = record { least = omega (arith, ints); greatest = omega (arith, ints, small) };
-      least_so = omega (arith, ints);
-      greatest_so = omega (arith, ints, small);
-    }
+number_fits n small = omega (arith, ints)
 
 -- 21 to 7E, as a name's characters are
 abbrev is_graphic : ℕ → Bool
@@ -83,20 +67,7 @@ graphic_visible c e = grind arith
 
 all_visible : (name : List ℕ) → list_all is_graphic name ≡ true → list_all is_visible name ≡ true
 all_visible [] e = refl
-all_visible (c ∷ name) e =
-    let both = both_of (is_graphic c) (list_all is_graphic name) (sym e) in
-    ap (λ (b : Bool). b && list_all is_visible name) (graphic_visible c both.first)
-    ∙ all_visible name both.second
+all_visible (c ∷ name) e = grind (arith, all_visible name)
 
 pub name_fits : (name : List ℕ) → IsName name → IsVisible 3 16 name
-name_fits name is =
-    let parts = both_of (nat_le 3 (length name) && nat_le (length name) 16)
-    (list_all is_graphic name) (sym is) in
-    let lengths = both_of (nat_le 3 (length name)) (nat_le (length name) 16) (sym parts.first) in
-    record {
-      lengths = record {
-        least_so = at_least 3 (length name) lengths.first;
-        greatest_so = at_least (length name) 16 lengths.second;
-      };
-      visible_all = all_visible name parts.second;
-    }
+name_fits name is = grind (arith, all_visible name)

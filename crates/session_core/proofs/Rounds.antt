@@ -1,12 +1,11 @@
 -- The calls of a round, for all states that a session shows.
-use Rattle.std.proofs.Common.{◌≡◌, ℕ, Bool, true, false, not, ◌&&◌, if◌then◌else◌, List, [], ◌∷◌}
-use Rattle.std.proofs.Common.{◌++◌, length, Option, Some, None, refl, sym, ap, subst, ◌∙◌}
-use Rattle.std.proofs.Common.{append_assoc, arith, zero, suc, min, ◌<◌, ◌≤◌, take}
+use Rattle.std.proofs.Common.{◌≡◌, ℕ, Bool, true, List, [], ◌∷◌, ◌++◌, length, Option, Some, None}
+use Rattle.std.proofs.Common.{refl, ap, subst, ◌∙◌, append_assoc, arith, zero, suc, min, ◌<◌, ◌≤◌}
+use Rattle.std.proofs.Common.{take}
 use Rattle.std.proofs.lemmas.List.{append-nil, length-take}
 use Rattle.ber_core.specs.Length.{IsOctets}
 use Rattle.std.specs.Prelude.{is_some}
 use Rattle.octet_core.specs.declared.offer.Offer.{Offer}
-use Rattle.octet_core.specs.declared.offer.Offer.TheVariants.{Whole, Stalled, Failed as Refused}
 use Rattle.isp1_tml.specs.Message.{Content}
 use Rattle.isp1_tml.specs.Reading.{reading}
 use Rattle.isp1_tml.specs.Feeding.{Feeding, StandsFor, room_of, next_of as next_held}
@@ -19,56 +18,37 @@ use Rattle.station_config.specs.declared.site.Site.{Site}
 use Rattle.station_book.specs.State.{Event, answered}
 use Rattle.station_book.specs.State as book
 use Rattle.session_core.specs.declared.standing.Standing.{Standing}
-use Rattle.session_core.specs.Course.{is_going, is_over, is_blocked}
-use Rattle.session_core.specs.Inquiry.{Inquiry, call_of, reply_in}
+use Rattle.session_core.specs.Course.{is_going}
+use Rattle.session_core.specs.Inquiry.{reply_in}
 use Rattle.session_core.specs.Steps.{Next, has_message, round_begun, waits, may_poll, handles}
-use Rattle.session_core.specs.Steps.{may_poll_by, after_wait, after_poll, after_offer}
-use Rattle.session_core.specs.Steps.{is_idle, inquiry_at, after_step, may_speak, round_ended}
+use Rattle.session_core.specs.Steps.{may_poll_by, after_wait, after_poll, after_offer, is_idle}
+use Rattle.session_core.specs.Steps.{inquiry_at, after_step, may_speak, round_ended}
 use Rattle.session_core.specs.Session.{State, BookAnswer, next_of, counted, offer_calls, poll_calls}
 use Rattle.session_core.specs.Session.{standing_waited, standing_heard, standing_spoke, cleared}
-use Rattle.session_core.specs.Session.{Asks, stepped, event_of}
-use Rattle.session_core.specs.Session.{step_events, poll_space, IsArrival, IsHeard}
+use Rattle.session_core.specs.Session.{Asks, stepped, step_events, poll_space, IsArrival, IsHeard}
 use Rattle.session_core.specs.Session.{AreOctets}
 use Rattle.session_core.specs.SessionState.{SessionState, Shows, IsSound, space_of, Waited}
 use Rattle.session_core.specs.SessionState.{PolledOnce, Listened}
 use Rattle.session_core.specs.SessionState.{Hears, told_now, told_by, own_events, kept_after}
 use Rattle.session_core.specs.SessionState.{IsSpoken, Spoke}
-use Rattle.session_core.proofs.Truths.{both_of, not_false}
 use Rattle.session_core.proofs.Streams.{WorkedOut, Gives, next_is, space_is, given_or_not}
 
 pub tells-nil : (a : Option (List Call)) → Tells a a []
-tells-nil None = tt
-tells-nil (Some there) = sym (append-nil there)
+tells-nil a = grind (arith, append-nil)
 
 pub tells-tells : (a b c : Option (List Call)) (xs ys : List Call) → Tells a b xs → Tells b c ys
     → Tells a c (xs ++ ys)
-tells-tells a b None xs ys h k = tt
-tells-tells a None (Some now) xs ys h k = absurd k
-tells-tells None (Some mid) (Some now) xs ys h k = absurd h
-tells-tells (Some there) (Some mid) (Some now) xs ys h k =
-    k ∙ ap (λ (z : List Call). z ++ ys) h ∙ append_assoc there xs ys
+tells-tells a b c xs ys h k = grind (arith, append_assoc)
+
+both_same : {A B C : Type 0} (f : A → B → C) (a b : A) (x y : B) → a ≡ b → x ≡ y → f a x ≡ f b y
+both_same f a b x y e h = cc
 
 -- ---- listen
 
--- a wait doesn't make a session go on
-pub still_going : (s : Standing) (waited : Option Offer)
-    → is_going (standing_waited (round_begun s) waited).course ≡ true
-    → is_going s.course ≡ true
-still_going s None e = e
-still_going s (Some Whole) e = e
-still_going s (Some Stalled) e = e
-still_going s (Some Refused) e = absurd (cc)
-
--- a session that may poll goes on, and its round isn't blocked
-pub record Polls (s : Standing) : Type 0 where
-  pub going : is_going s.course ≡ true
-  pub free : is_blocked s.arrival ≡ false
-
-pub polls_by : (s : Standing) (is_held : Bool) → true ≡ may_poll_by s is_held → Polls s
-polls_by s is_held e =
-    let outer = both_of (is_going s.course && not (is_blocked s.arrival)) (not is_held) e in
-    let both = both_of (is_going s.course) (not (is_blocked s.arrival)) (sym outer.first) in
-    record { going = both.first; free = not_false (is_blocked s.arrival) both.second }
+cleared_goes : (s : Standing) (waited : Option Offer) (heard : Option Heard) (next : Next)
+    → is_some heard ≡ may_poll (standing_waited (round_begun s) waited) next
+    → is_some heard ≡ true → is_going s.course ≡ true
+cleared_goes s waited heard next e is = grind arith
 
 -- a poll's space is that of the state, where the poll is made
 polled_so : (a b : ℕ) (heard : Option Heard) → (is_some heard ≡ true → a ≡ b)
@@ -84,38 +64,30 @@ pub listened_by : WorkedOut → (a b c : Option (List Call)) (old between new : 
     → Waited a b old between → PolledOnce b c between new → Listened a c old new
 listened_by law a b c old between new w was =
     let p = subst (λ (v : SessionState). PolledOnce b c v new) w.new_is was in
-    let offers = offer_calls old.standing w.waited in
     let space = space_of old.feeder in
     let polls : (s : State) → Shows old s
     → is_some p.heard ≡ may_poll (cleared s w.waited) (next_of s) =
     λ s h.
     p.polls
-    ∙ ap
-    (λ (t : Standing).
-    may_poll (standing_waited (round_begun t) w.waited) (next_held old.feeder))
-    h.standing
-    ∙ ap (may_poll (cleared s w.waited)) (next_is law old s h) in
-    let going : (s : State) → Shows old s → is_some p.heard ≡ true
-    → is_going s.standing.course ≡ true =
-    λ s h e.
-    still_going s.standing w.waited
-    (polls_by (cleared s w.waited) (has_message (next_of s)) (sym e ∙ polls s h)).going in
+    ∙ both_same (λ (t : Standing) (n : Next). may_poll (standing_waited (round_begun t) w.waited) n)
+    _ _ _ _ h.standing (next_is law old s h) in
     let same : (s : State) → Shows old s → IsSound s
     → (poll_calls space p.heard ≡ poll_calls (poll_space s) p.heard)
     × (IsHeard space p.heard → IsHeard (poll_space s) p.heard) =
     λ s h sound.
     polled_so space (poll_space s) p.heard
-    (λ e. space_is law old s h (sound (going s h e))) in
+    (λ e.
+    space_is law old s h
+    (sound (cleared_goes s.standing w.waited p.heard (next_of s) (polls s h) e))) in
     record {
       waited = w.waited;
       heard = p.heard;
-      own = offers ++ poll_calls space p.heard;
-      told = tells-tells a b c offers (poll_calls space p.heard) w.told p.told;
+      own = offer_calls old.standing w.waited ++ poll_calls space p.heard;
+      told = tells-tells a b c _ (poll_calls space p.heard) w.told p.told;
       door = p.door;
       own_is = λ s h sound.
-          ap (λ (t : Standing). offer_calls t w.waited ++ poll_calls space p.heard) h.standing
-          ∙ ap (λ (calls : List Call). offer_calls s.standing w.waited ++ calls)
-          (same s h sound).0;
+          both_same (λ (t : Standing) (calls : List Call). offer_calls t w.waited ++ calls) _ _ _ _
+          h.standing (same s h sound).0;
       listens = λ s h sound. record {
         offers = w.offers ∙ ap waits h.standing;
         polls = polls s h;
@@ -124,10 +96,8 @@ listened_by law a b c old between new w was =
       stands = λ s h. record {
         standing =
             p.standing
-            ∙ ap
-            (λ (t : Standing).
-            standing_heard (standing_waited (round_begun t) w.waited) p.heard)
-            h.standing;
+            ∙ ap (λ (t : Standing).
+            standing_heard (standing_waited (round_begun t) w.waited) p.heard) h.standing;
         given = h.given;
         count = h.count;
         stands = p.feeder s.came h.given h.stands;
@@ -141,21 +111,14 @@ asked_so : WorkedOut → (site : Site) (v : SessionState) (s : State) (now : ℕ
     → inquiry_at site v.standing (next_held v.feeder) now
     ≡ inquiry_at site s.standing (next_of s) now
 asked_so law site v s now h =
-    ap (λ (t : Standing). inquiry_at site t (next_held v.feeder) now) h.standing
-    ∙ ap (λ (next : Next). inquiry_at site s.standing next now) (next_is law v s h)
-
-asks_unless : (over : Bool) (told : BookAnswer)
-    → is_some (if over then None else Some told) ≡ not over
-asks_unless true told = refl
-asks_unless false told = refl
+    both_same (λ (t : Standing) (n : Next). inquiry_at site t n now) _ _ _ _ h.standing
+    (next_is law v s h)
 
 pub asks_by : (site : Site) (v : SessionState) (b : book.State) (reading : ℕ) (s : State)
     → Shows v s → Asks s (told_by site v b reading)
-asks_by site v b reading s h =
-    asks_unless (is_over v.standing.course) (told_now site v b reading)
-    ∙ ap (λ (t : Standing). not (is_over t.course)) h.standing
+asks_by site v b reading s h = grind arith
 
-stands_told : WorkedOut → Gives → (site : Site) (v : SessionState) (told : Option BookAnswer)
+pub stands_told : WorkedOut → Gives → (site : Site) (v : SessionState) (told : Option BookAnswer)
     (s : State) → Shows v s → Shows (kept_after site v told) (stepped site s told)
 stands_told law gives site v None s h = h
 stands_told law gives site v (Some told) s h =
@@ -163,52 +126,23 @@ stands_told law gives site v (Some told) s h =
     let next : next_held v.feeder ≡ next_of s = next_is law v s h in
     record {
       standing =
-          ap
-          (λ (t : Standing).
-          after_step site t (next_held v.feeder) told.moment (reply_in told.answer))
-          h.standing
-          ∙ ap
-          (λ (n : Next). after_step site s.standing n told.moment (reply_in told.answer))
-          next;
+          both_same (λ (t : Standing) (n : Next).
+          after_step site t n told.moment (reply_in told.answer)) _ _ _ _ h.standing next;
       given = g.given;
       count =
           g.count
           ∙ ap (λ (n : ℕ). counted (handles v.standing (next_held v.feeder)) n) h.count
-          ∙ ap
-          (λ (t : Standing). counted (handles t (next_held v.feeder)) s.handled)
-          h.standing
-          ∙ ap (λ (n : Next). counted (handles s.standing n) s.handled) next;
+          ∙ both_same (λ (t : Standing) (n : Next). counted (handles t n) s.handled) _ _ _ _
+          h.standing next;
       stands = g.stands;
     }
-
-pub stands_by : WorkedOut → Gives → (site : Site) (v : SessionState) (b : book.State) (reading : ℕ)
-    (s : State) → Shows v s
-    → Shows (kept_after site v (told_by site v b reading))
-    (stepped site s (told_by site v b reading))
-stands_by law gives site v b reading s h =
-    stands_told law gives site v (told_by site v b reading) s h
-
-events_unless : (site : Site) (door : ℕ) (s : State) (over : Bool) (told : BookAnswer) (e : Event)
-    → e ≡ event_of site door s told
-    → (if over then [] else e ∷ []) ≡ step_events site door s (if over then None else Some told)
-events_unless site door s true told e same = refl
-events_unless site door s false told e same = ap (λ (x : Event). x ∷ []) same
 
 -- the event by what is kept is the one by the state
 pub events_by : WorkedOut → (site : Site) (v : SessionState) (b : book.State) (reading : ℕ)
     (s : State) → Shows v s
     → own_events site v b reading ≡ step_events site v.door s (told_by site v b reading)
 events_by law site v b reading s h =
-    let told = told_now site v b reading in
-    events_unless site v.door s (is_over v.standing.course) told _
-    (ap
-    (λ (ask : Inquiry).
-    record {
-      call = call_of v.door reading ask;
-      moment = told.moment;
-      reply = answered told.answer;
-    })
-    (asked_so law site v s told.moment h))
+    grind (arith, asked_so law site v s (told_now site v b reading).moment h)
 
 -- ---- speak
 
@@ -224,15 +158,12 @@ spoke_by a b old mid new w is =
       door = ap (λ (v : SessionState). v.door) all;
       own_is = λ s h. ap (λ (t : Standing). offer_calls t w.spoke) h.standing;
       speaks = λ s h. w.offers ∙ ap may_speak h.standing;
-      stands = λ s h. record {
-        standing =
-            ap (λ (v : SessionState). v.standing) all
-            ∙ ap (λ (t : Standing). round_ended (standing_spoke t w.spoke)) h.standing;
+      stands = λ s h. rw all (record {
+        standing = ap (λ (t : Standing). round_ended (standing_spoke t w.spoke)) h.standing;
         given = h.given;
         count = h.count;
-        stands =
-            subst (λ (v : SessionState). StandsFor v.feeder s.came h.given) (sym all) h.stands;
-      };
+        stands = h.stands;
+      });
     }
 
 -- ---- of parts of the code
@@ -246,9 +177,9 @@ pub waited_by : (a b : Option (List Call)) (door : ℕ) (f : Feeding) (s began a
     → Waited a b (keeping door f s) (keeping door f after)
 waited_by a b door f s began after said may e told is = record {
   waited = Some said;
-  told = subst (λ (t : Standing). Tells a b (Offered t.block said ∷ [])) e told;
+  told = rw e at told;
   offers = may;
-  new_is = ap (keeping door f) (is ∙ ap (λ (t : Standing). after_wait t said) e);
+  new_is = rw (is, e) refl;
 }
 
 pub polled_by : (a b : Option (List Call)) (door : ℕ) (f g : Feeding) (s t : Standing)
@@ -267,12 +198,8 @@ polled_by a b door f g s t is_held h may held = record {
 pub said_by : (a b : Option (List Call)) (door : ℕ) (f : Feeding) (s after : Standing)
     (said : Offer) → true ≡ may_speak s → Tells a b (Offered s.block said ∷ [])
     → after ≡ after_offer s said → IsSpoken a b (keeping door f s) (keeping door f after)
-said_by a b door f s after said may told is = record {
-  spoke = Some said;
-  told = told;
-  offers = may;
-  new_is = ap (keeping door f) is;
-}
+said_by a b door f s after said may told is =
+    record { spoke = Some said; told = told; offers = may; new_is = ap (keeping door f) is }
 
 -- a poll that heard octets
 pub heard_some : (a b : Option (List Call)) (f g : Feeding) (s t : Standing) (space : ℕ)
@@ -283,8 +210,8 @@ pub heard_some : (a b : Option (List Call)) (f g : Feeding) (s t : Standing) (sp
     → Hears a b f g s t
 heard_some a b f g s t space octets same told arrives is feeder = record {
   heard = Arrived octets;
-  told = subst (λ (n : ℕ). Tells a b (Polled n (Arrived octets) ∷ [])) same told;
-  arrives = subst (λ (n : ℕ). IsArrival n octets) same arrives;
+  told = rw same at told;
+  arrives = rw same at arrives;
   standing = is;
   feeder = feeder;
 }
@@ -293,8 +220,7 @@ heard_some a b f g s t space octets same told arrives is feeder = record {
 
 pub space_so : (f : Feeding) (room n : ℕ) (space : List ℕ) → n ≡ min room (length space)
     → room ≡ room_of f → length space ≡ 65536 → length (take n space) ≡ space_of f
-space_so f room n space n_so room_so long =
-    omega (arith, n_so, room_so, long, length-take n space)
+space_so f room n space n_so room_so long = omega (arith, length-take n space)
 
 pub each_octet : (octets : List ℕ) → IsOctets octets → AreOctets octets
 each_octet [] h i = omega arith
@@ -305,20 +231,12 @@ pub piece_so : (f : Feeding) (room n count : ℕ) (space filled : List ℕ)
     → n ≡ min room (length space) → room ≡ room_of f → length filled ≡ length (take n space)
     → 0 < count → count ≤ length (take n space) → length (take count filled) ≤ room_of f
 piece_so f room n count space filled n_so room_so same some few =
-    omega (
-      arith,
-      n_so,
-      room_so,
-      same,
-      few,
-      length-take n space,
-      length-take count filled,
-    )
+    omega (arith, length-take n space, length-take count filled)
 
 pub arrival_so : (count size : ℕ) (filled : List ℕ) → length filled ≡ size → 0 < count
     → count ≤ size → IsOctets (take count filled) → IsArrival size (take count filled)
 arrival_so count size filled same some few octets = record {
-  some = omega (arith, same, some, few, length-take count filled);
-  within = omega (arith, same, few, length-take count filled);
+  some = omega (arith, length-take count filled);
+  within = omega (arith, length-take count filled);
   each = each_octet (take count filled) octets;
 }

@@ -1,35 +1,30 @@
 -- Rounds from a session's beginning, over whole lists.
-use Rattle.std.proofs.Common.{◌≡◌, ℕ, Bool, false, if◌then◌else◌, List, [], ◌∷◌, ◌++◌, length, take}
-use Rattle.std.proofs.Common.{Option, refl, sym, ap, subst, ◌∙◌}
+use Rattle.std.proofs.Common.{◌≡◌, ℕ, false, List, [], ◌∷◌, ◌++◌, length, take, Option, refl, ap}
+use Rattle.std.proofs.Common.{◌∙◌, arith}
 use Rattle.std.proofs.lemmas.List.{append-nil}
 use Rattle.std.proofs.lemmas.List.Elements.{filter_map-append}
 use Rattle.link_model.specs.declared.call.Call.{Call}
 use Rattle.link_model.specs.Calls.{Tells}
-use Rattle.link_model.specs.Counts.{CountsWhere}
 use Rattle.station_book.specs.State.{Event}
 use Rattle.station_book.specs.State as book
-use Rattle.station_book.specs.History.{IsLegal, then_after, replay, reading_of}
+use Rattle.station_book.specs.History.{IsLegal, then_after, replay}
 use Rattle.session_core.specs.declared.spoken.Spoken.{Spoken}
 use Rattle.session_core.specs.declared.spoken.Spoken.TheVariants.{Going}
 use Rattle.session_core.specs.declared.standing.Standing.{Standing}
-use Rattle.session_core.specs.Session.{Round, AreRounds, session_events, spoken_of, is_fault}
+use Rattle.session_core.specs.Session.{Round, AreRounds, session_events, spoken_of}
 use Rattle.session_core.specs.SessionState.{SessionState}
 use Rattle.session_core.specs.Outcome.{come_to, has_failed, FailsBy}
-use Rattle.session_core.specs.Lists.{Began, start_of, StandsAt, to_listen, Part, none_made}
-use Rattle.session_core.specs.Lists.{made_listen, made_step, stage_of, readings_in, GoesRound}
-use Rattle.session_core.specs.Lists.{to_step, OnlyListens}
+use Rattle.session_core.specs.Lists.{Began, start_of, StandsAt, to_listen, none_made, readings_in}
+use Rattle.session_core.specs.Lists.{GoesRound, OnlyListens}
 use Rattle.session_core.specs.Serving.{Made, Serves, Breaks}
 use Rattle.session_core.specs.Laws.{EndsAsItStands}
-use Rattle.session_core.proofs.Listed.{At, at_of}
+use Rattle.session_core.proofs.Listed.{has_heard}
 use Rattle.session_core.proofs.Longer.{going_on, whole}
 use Rattle.session_core.proofs.Rounds.{tells-nil, tells-tells}
-use Rattle.session_core.proofs.Fates.{uncounted, both_count}
+use Rattle.session_core.proofs.Fates.{both_count}
+use Rattle.std.proofs.lemmas.Grind.{fold-append}
 
 -- ---- histories
-
-replay_both : (s : book.State) (h k : List Event) → replay s (h ++ k) ≡ replay (replay s h) k
-replay_both s [] k = refl
-replay_both s (e ∷ h) k = replay_both (then_after s e) h k
 
 legal_both : (s : book.State) (h k : List Event) → IsLegal s h → IsLegal (replay s h) k
     → IsLegal s (h ++ k)
@@ -77,20 +72,11 @@ lasts_on b a c d bk mid now readings reading v w h came r = record {
   calls = h.calls ++ r.own;
   events = h.events ++ r.gained;
   told = tells-tells a c d h.calls r.own h.told r.told;
-  legal =
-      legal_both bk h.events r.gained h.legal
-      (subst (λ (s : book.State). IsLegal s r.gained) h.book_is r.legal);
-  book_is =
-      r.book_is
-      ∙ ap (λ (s : book.State). replay s r.gained) h.book_is
-      ∙ sym (replay_both bk h.events r.gained);
+  legal = legal_both bk h.events r.gained h.legal (rw h.book_is at r.legal);
+  book_is = rw fold-append (rw h.book_is at r.book_is);
   reads =
-      filter_map-append (λ (e : Event). reading_of e.call) h.events r.gained
-      ∙ ap (λ (x : List ℕ). x ++ readings_in r.gained) h.reads
-      ∙ ap (λ (x : List ℕ). readings ++ x)
-      (r.reads
-      ∙ ap (λ (over : Bool). if over then [] else reading ∷ [])
-      (going_on v.standing.course came));
+      rw (filter_map-append, h.reads)
+      (ap (λ (x : List ℕ). readings ++ x) (rw (going_on v.standing.course came) at r.reads));
   stands = r.stands b h.calls h.events refl h.stands;
 }
 
@@ -104,10 +90,10 @@ abbrev made_so : (b : Began) (bk now : book.State) (readings : List ℕ) (made :
     → Made b rounds bk now readings
 made_so b bk now readings made events rounds right is legal book_is reads = record {
   right = right;
-  legal = subst (λ (x : List Event). IsLegal bk x) is legal;
-  book_is = book_is ∙ ap (λ (x : List Event). replay bk x) is;
+  legal = rw is at legal;
+  book_is = rw is at book_is;
   made = made;
-  reads = ap readings_in (sym is) ∙ reads;
+  reads = rw is at reads;
 }
 
 pub serves_by : (b : Began) (a d : Option (List Call)) (bk now : book.State)
@@ -120,8 +106,8 @@ serves_by b a d bk now readings made end v h ends all =
       rounds = h.stands.rounds;
       so = made_so b bk now readings made h.events h.stands.rounds are.right are.events_are h.legal
           h.book_is h.reads;
-      told = subst (λ (x : List Call). Tells a d x) are.calls_are h.told;
-      ends = ends ∙ ap (λ (s : Standing). spoken_of s.course) are.standing;
+      told = rw are.calls_are at h.told;
+      ends = ends ∙ ends_as_it_stands b v h.calls h.events h.stands;
       all = all;
     }
 
@@ -137,34 +123,8 @@ breaks_first b before faults bk readings = record {
   part_right = tt;
   unasked = refl;
   told = tells-nil before;
-  fails = (uncounted false faults).counts;
+  fails = grind arith;
 }
-
-breaks_at : (part : Part) → stage_of part ≡ to_step → (b : Began) (a d : Option (List Call))
-    (k n : ℕ) (bk now : book.State) (readings : List ℕ) (made : ℕ) (v : SessionState)
-    (calls : List Call) (events : List Event) → At part b v calls events → Tells a d calls
-    → IsLegal bk events → now ≡ replay bk events → readings_in events ≡ take made readings
-    → CountsWhere (has_failed v) k n → Breaks b a d k n bk now readings
-breaks_at none_made e b a d k n bk now readings made v calls events at told legal book_is reads
-    fails = absurd (cc)
-breaks_at (made_listen waited heard) e b a d k n bk now readings made v calls events at told legal
-    book_is reads fails =
-    record {
-      rounds = at.rounds;
-      so = made_so b bk now readings made events at.rounds at.right
-          (at.events_are
-          ∙ append-nil (session_events b.site b.door (start_of b) at.rounds))
-          legal book_is reads;
-      part = made_listen waited heard;
-      part_right = at.part_right;
-      unasked = refl;
-      told = subst (λ (x : List Call). Tells a d x) at.calls_are told;
-      fails =
-          subst (λ (s : Standing). CountsWhere (is_fault (spoken_of s.course)) k n)
-          at.shows.standing fails;
-    }
-breaks_at (made_step waited heard told_so) e b a d k n bk now readings made v calls events at told
-    legal book_is reads fails = absurd (cc)
 
 -- of one that goes on
 pub breaks_by : (b : Began) (a c d : Option (List Call)) (k m n : ℕ) (bk mid now : book.State)
@@ -173,8 +133,17 @@ pub breaks_by : (b : Began) (a c d : Option (List Call)) (k m n : ℕ) (bk mid n
     → Breaks b a d k n bk now readings
 breaks_by b a c d k m n bk mid now readings made v h faults same l =
     let stands = l.goes.stands b h.calls h.events h.stands in
-    breaks_at stands.part stands.stage_is b a d k n bk now readings made l.heard
-    (h.calls ++ l.goes.own) h.events
-    (at_of to_step b l.heard (h.calls ++ l.goes.own) h.events stands)
-    (tells-tells a c d h.calls l.goes.own h.told l.goes.told) h.legal (same ∙ h.book_is) h.reads
-    (both_count false (has_failed v) (has_failed l.heard) k m n faults l.fails).counts
+    let p = has_heard stands.part stands.stage_is in
+    let told = tells-tells a c d h.calls l.goes.own h.told l.goes.told in
+    record {
+      rounds = stands.rounds;
+      so = made_so b bk now readings made h.events stands.rounds stands.right
+          ((rw p.so at stands.events_are) ∙ append-nil _) h.legal (same ∙ h.book_is) h.reads;
+      part = stands.part;
+      part_right = stands.part_right;
+      unasked = rw p.so refl;
+      told = rw stands.calls_are at told;
+      fails =
+          rw stands.shows.standing at
+          (both_count false (has_failed v) (has_failed l.heard) k m n faults l.fails).counts;
+    }

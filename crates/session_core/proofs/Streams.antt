@@ -1,13 +1,11 @@
 -- What a feeder stands for, once octets came, and what it gives next.
-use Rattle.std.proofs.Common.{◌≡◌, ◌≢◌, ℕ, ◌-◌, ◌≤◌, min, Bool, true, false, not, ◌&&◌, ◌↔◌}
-use Rattle.std.proofs.Common.{if◌then◌else◌}
+use Rattle.std.proofs.Common.{◌≡◌, ℕ, ◌-◌, ◌≤◌, min, Bool, true, false, not, ◌&&◌, if◌then◌else◌}
 use Rattle.std.proofs.Common.{List, [], ◌∷◌, ◌++◌, length, take, Option, Some, None, Result, Ok}
-use Rattle.std.proofs.Common.{Err}
-use Rattle.std.proofs.Common.{refl, sym, ap, subst, ◌∙◌, arith}
+use Rattle.std.proofs.Common.{Err, refl, sym, ap, ◌∙◌, arith}
 use Rattle.std.proofs.Math.Seq.{take-append_seam}
 use Rattle.std.proofs.lemmas.List.{take_all, length-append}
 use Rattle.std.proofs.lemmas.List.Concat.{flat_map-append}
-use Rattle.std.specs.Prelude.{slice_get, IsTrue, IfSome}
+use Rattle.std.specs.Prelude.{slice_get, IfSome}
 use Rattle.isp1_tml.specs.declared.tml_fault.TmlFault.{TmlFault}
 use Rattle.isp1_tml.specs.Message.{Content, spelling, spellings}
 use Rattle.isp1_tml.specs.Stream.{IsStream}
@@ -37,13 +35,10 @@ still_refused : RefusedForGood → (f : Feeding) (fault : TmlFault) (piece came 
     (given : List Content) → f.fault ≡ Some fault → StandsFor f came given
     → StandsFor f (came ++ piece) given
 still_refused law f fault piece came given e h =
-    let s : GoesOn f (Some fault) came given =
-    subst (λ (o : Option TmlFault). GoesOn f o came given) e h.stream in
+    let s : GoesOn f (Some fault) came given = rw e at h.stream in
     record {
       place = h.place;
-      stream =
-          subst (λ (o : Option TmlFault). GoesOn f o (came ++ piece) given) (sym e)
-          (s.0, (s.1.0 ++ piece, law 0 came piece (given ++ s.0) s.1.0 fault s.1.1));
+      stream = rw e (s.0, (s.1.0 ++ piece, law 0 came piece (given ++ s.0) s.1.0 fault s.1.1));
     }
 
 -- what feed promises of a feeder that has refused
@@ -55,11 +50,9 @@ fed_by : RefusedForGood → (r : Result ℕ TmlFault) (old new : Feeding) (piece
     → length piece ≤ room_of old → FedFresh old new piece → Repeats o r old new
     → StandsFor old came given → StandsFor new (came ++ piece) given
 fed_by law r old new piece came given None e fits fresh same h =
-    subst (λ (t : List ℕ). StandsFor new (came ++ t) given) (take_all (room_of old) piece fits)
-    (fresh came given e h)
+    rw (take_all (room_of old) piece fits) at (fresh came given e h)
 fed_by law r old new piece came given (Some fault) e fits fresh same h =
-    subst (λ (f : Feeding). StandsFor f (came ++ piece) given) (sym same.1)
-    (still_refused law old fault piece came given e h)
+    rw same.1 (still_refused law old fault piece came given e h)
 
 -- all of a piece came
 pub fed : RefusedForGood → (r : Result ℕ TmlFault) (old new : Feeding) (piece came : List ℕ)
@@ -120,16 +113,13 @@ given_by law f came given (Some fault) ms e d h =
     record { given = given; count = refl; stands = h }
 given_by law f came given None [] e d h = record { given = given; count = refl; stands = h }
 given_by law f came given None (m ∷ ms) e d h =
-    let now : next_held f ≡ Ok (Some m) =
-    ap (λ (o : Option TmlFault). next_held_by o f.messages) e ∙ ap (next_held_by None) d in
+    let now : next_held f ≡ Ok (Some m) = rw (e, d) refl in
     let after : after_given f ≡ after_by f None (m ∷ ms) =
     ap (λ (o : Option TmlFault). after_by f o f.messages) e ∙ ap (after_by f None) d in
     record {
       given = given ++ m ∷ [];
       count = length-append given (m ∷ []);
-      stands =
-          subst (λ (g : Feeding). StandsFor g came (given ++ m ∷ [])) after
-          (law f came given m now h);
+      stands = rw after at (law f came given m now h);
     }
 
 given_next : Gives → (f : Feeding) (came : List ℕ) (given : List Content)
@@ -146,20 +136,6 @@ given_or_not law true f came given h = record { given = given; count = refl; sta
 given_or_not law false f came given h = given_next law f came given h
 
 -- ---- whether one is held
-
-held_by : (o : Option TmlFault) (ms : List Content) (r : Bool)
-    → (IsTrue r ↔ ((o ≡ None) × (ms ≢ []))) → r ≡ has_message (next_held_by o ms)
-held_by (Some fault) ms true h = let p = h.0 cc in absurd (cc)
-held_by (Some fault) ms false h = refl
-held_by None [] true h = let p = h.0 cc in absurd (p.1 refl)
-held_by None [] false h = refl
-held_by None (m ∷ ms) true h = refl
-held_by None (m ∷ ms) false h =
-    let wrong : IsTrue false = h.1 (refl, λ e. absurd (cc)) in absurd (cc)
-
-pub held_tells : (f : Feeding) (r : Bool)
-    → (IsTrue r ↔ ((f.fault ≡ None) × (f.messages ≢ []))) → r ≡ has_message (next_held f)
-held_tells f r h = held_by f.fault f.messages r h
 
 -- ---- the space of a poll
 
@@ -183,7 +159,7 @@ held_there : WorkedOut → (f : Feeding) (came : List ℕ) (given : List Content
     ≡ length (held_octets f)
 held_there law f came given (Some fault) h none =
     let read = law 0 came (given ++ h.0) h.1.0 (Some fault) h.1.1 in
-    let e : Some fault ≡ None = sym (ap (λ (r : Reading). r.fault) read) ∙ none in
+    let e : Some fault ≡ None = (rw read at none) in
     absurd (cc)
 held_there law f came given None h none =
     ap

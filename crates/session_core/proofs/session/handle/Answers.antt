@@ -1,13 +1,8 @@
-use Rattle.std.proofs.Common.{◌≡◌, Option, ap, ◌∙◌}
+use Rattle.std.proofs.Common.{◌≡◌, ap, ◌∙◌}
 use Rattle.isp1_tml.specs.Given.{content_of}
-use Rattle.station_config.specs.declared.service.Service.{Service}
-use Rattle.assoc_core.specs.declared.state.State.{State}
 use Rattle.station_book.specs.History.{after}
-use Rattle.session_core.specs.declared.standing.Standing.{Standing}
 use Rattle.session_core.specs.Inquiry.{Inquiry, call_of, inquiry_of, replied_of}
-use Rattle.session_core.specs.Handling.{after_judged}
-use Rattle.session_core.specs.Message.{said_in}
-use Rattle.session_core.specs.Steps.{service_of, said_to}
+use Rattle.session_core.specs.Steps.{said_to}
 use Rattle.session_core.specs.Seen.{said_of}
 use Rattle.session_core.proofs.Asks.{asked_by_message, led_by_message}
 use Rattle.session_core.proofs.session.handle.Goals as goal
@@ -18,9 +13,7 @@ returns-clause-acts c =
     let s = c.args.standing.now in
     let content = content_of c.args.message in
     let said_so : said_of c.of-said.result ≡ said_to site s content =
-    c.of-said.ensures
-    ∙ ap (λ (o : Option Service). said_in o c.state.result content) c.service-service.ensures
-    ∙ ap (λ (st : State). said_in (service_of site s) st content) c.state.ensures in
+    rw (c.service-service.ensures, c.state.ensures) at c.of-said.ensures in
     let asked =
     asked_by_message site s content (said_of c.of-said.result) c.judge-step.result
     c.places_of-places.result (inquiry_of c.said_ask.result) said_so c.judge-step.ensures.step
@@ -37,10 +30,5 @@ returns-clause-acts c =
           (inquiry_of c.said_ask.result) (replied_of c.in_ok-reply.reply) c.args.asking.door
           c.args.asking.reading c.args.book.now said_so c.judge-step.ensures.step asked
           c.requires.now c.in_ok-reply.ensures.reply
-          (c.conclude.ensures
-          ∙ ap
-          (λ (t : Standing).
-          after_judged site t (said_of c.of-said.result) c.judge-step.result
-          (replied_of c.in_ok-reply.reply))
-          c.judge-step.ensures.after);
+          (rw c.judge-step.ensures.after at c.conclude.ensures);
     }

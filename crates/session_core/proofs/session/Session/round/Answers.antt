@@ -1,5 +1,4 @@
-use Rattle.std.proofs.Common.{Bool, subst}
-use Rattle.session_core.specs.Outcome.{has_failed, is_blocked, has_waiting, FailsBy}
+use Rattle.session_core.specs.Outcome.{is_blocked, has_waiting}
 use Rattle.session_core.proofs.Listed.{goes_round}
 use Rattle.session_core.proofs.Fates.{both_count}
 use Rattle.session_core.proofs.Stalls.{round_stalls}
@@ -14,11 +13,7 @@ returns-clause-lists g c =
 pub returns-clause-faults : goal.returns-clause-faults
 returns-clause-faults g c =
     both_count _ _ _ _ _ _ c.listen.ensures.faults
-    (subst
-    (λ (b : Bool).
-    FailsBy b (has_failed c.speak.new.self) (g.L.Link.faults c.listen.new.link)
-    (g.L.Link.faults c.speak.new.link))
-    c.in_ok-step.ensures.lists.failed c.speak.ensures.faults)
+    (rw c.in_ok-step.ensures.lists.failed at c.speak.ensures.faults)
 
 pub returns-clause-stalls : goal.returns-clause-stalls
 returns-clause-stalls g c =

@@ -1,6 +1,3 @@
-use Rattle.std.proofs.Common.{ap, ◌∙◌}
-use Rattle.session_core.specs.SessionState.{SessionState}
-use Rattle.session_core.specs.Outcome.{has_failed, is_blocked}
 use Rattle.session_core.proofs.Truths.{on_ok_both}
 use Rattle.session_core.proofs.Listed.{goes_step}
 use Rattle.session_core.proofs.Fates.{faulty, faulty_rare, told_keeps, told_blocks}
@@ -11,12 +8,8 @@ returns-clause-lists c =
     on_ok_both c.take_step.result
     (λ is kept. record {
       book_is = is;
-      failed =
-          ap has_failed kept
-          ∙ told_keeps faulty faulty_rare c.args.site.now c.args.self.now _;
-      blocked =
-          ap (λ (v : SessionState). is_blocked v) kept
-          ∙ told_blocks c.args.site.now c.args.self.now _;
+      failed = rw kept (told_keeps faulty faulty_rare c.args.site.now c.args.self.now _);
+      blocked = rw kept (told_blocks c.args.site.now c.args.self.now _);
       stands =
           goes_step c.is_worked_out.ensures c.any_pieces.ensures.gives c.args.site.now
           c.args.self.now c.take_step.new.self c.args.book.now c.args.reading kept;
