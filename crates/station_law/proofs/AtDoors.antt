@@ -1,25 +1,23 @@
 -- What is at each door once one of them changes.
-use Rattle.std.proofs.Common.{◌≡◌, ℕ, zero, suc, true, Option, Some, None, List, []}
-use Rattle.std.proofs.Common.{◌∷◌, length, ◌<◌, get_or, replicate, slice_get, set, refl, sym}
-use Rattle.std.proofs.Common.{ap, subst, ◌∙◌}
+use Rattle.std.proofs.Common.{◌≡◌, ℕ, zero, suc, true, Option, Some, None, List, [], ◌∷◌, length}
+use Rattle.std.proofs.Common.{◌<◌, get_or, replicate, slice_get, set, refl, sym, ap, ◌∙◌, set-set}
+use Rattle.std.proofs.Common.{arith}
 use Rattle.std.proofs.lemmas.Option.{slice_get_read}
 use Rattle.std.specs.Prelude.{vec_items}
 use Rattle.station_config.specs.declared.site.Site.{Site}
 use Rattle.station_book.specs.State as books
-use Rattle.station_book.specs.History.{replay}
 use Rattle.station_links.specs.Connected.{Connected, opened}
 use Rattle.station_links.specs.Lives as links
 use Rattle.station_law.specs.declared.said.SaidAt.{SaidAt}
 use Rattle.drill_text.specs.declared.script_line.ScriptLine.{ScriptLine}
 use Rattle.drill_text.specs.declared.script_line.ScriptLine.TheVariants.{Open}
-use Rattle.station_links.specs.Run.{Order, order_in, obeyed}
+use Rattle.station_links.specs.Run.{Order, order_in}
 use Rattle.station_law.specs.declared.doors.Turns.{Turns}
-use Rattle.station_law.specs.Doors.{Doors, Act, opens, rounds_of, ordered, act_of, act}
-use Rattle.station_law.specs.Doors.{acted_by}
-use Rattle.station_law.specs.Doors.{acted, acted_on}
-use Rattle.station_law.specs.Standing.{DoorsSeen, IsOpen, Match, IsThere, AreDoors, AreLeft}
-use Rattle.station_law.specs.Standing.{there, is_free, IsActed, IsAsked, IsOrdered, IsObeyed}
-use Rattle.station_law.specs.Standing.{HasGone, HasRan, HasActed}
+use Rattle.station_law.specs.Doors.{Doors, Act, opens, rounds_of, ordered, act_of, act, acted_by}
+use Rattle.station_law.specs.Doors.{acted}
+use Rattle.station_law.specs.Standing.{DoorsSeen, IsOpen, Match, IsThere, AreDoors, AreLeft, there}
+use Rattle.station_law.specs.Standing.{is_free, IsActed, IsAsked, IsOrdered, IsObeyed, HasGone}
+use Rattle.station_law.specs.Standing.{HasRan, HasActed}
 
 -- ---- lists whose elements match at each place
 
@@ -38,24 +36,12 @@ module _ {A B : Type 0} where
   match_set T (x ∷ xs) (y ∷ ys) (suc c) a b all new (suc k) =
       match_set (λ n. T (suc n)) xs ys c a b (λ n. all (suc n)) new k
 
--- an element that is set twice is xs it was set last
-pub set_twice : {A : Type 0} → (xs : List A) (c : ℕ) (a b : A) → set (set xs c a) c b ≡ set xs c b
-set_twice [] c a b = refl
-set_twice (x ∷ xs) zero a b = refl
-set_twice (x ∷ xs) (suc c) a b = ap (λ (rest : List _). x ∷ rest) (set_twice xs c a b)
-
 -- ---- what matches at one place
 
 module _ {A B : Type 0} (T : A → B → Type 0) where
   pub both_free : (a : Option (Option A)) (b : Option (Option B)) → Match (Match T) a b
       → is_free a ≡ is_free b
-  both_free None None matched = refl
-  both_free None (Some b) matched = absurd matched
-  both_free (Some a) None matched = absurd matched
-  both_free (Some None) (Some None) matched = refl
-  both_free (Some None) (Some (Some b)) matched = absurd matched
-  both_free (Some (Some a)) (Some None) matched = absurd matched
-  both_free (Some (Some a)) (Some (Some b)) matched = refl
+  both_free a b matched = grind (arith, matched)
 
 -- nobody is at any door
 pub nobody : {A B : Type 0} → (T : ℕ → A → B → Type 0) (n : ℕ) (k : ℕ)
@@ -67,26 +53,20 @@ nobody T (suc n) (suc k) = nobody (λ i. T (suc i)) n k
 -- ---- a door is opened
 
 free_is : {X : Type 0} → (o : Option (Option X)) → is_free o ≡ true → o ≡ Some None
-free_is None free = absurd cc
-free_is (Some None) free = refl
-free_is (Some (Some x)) free = absurd cc
+free_is o free = grind (arith, free)
 
 module _ (seen : DoorsSeen) (d : Doors) (c reading : ℕ) (are : AreDoors seen d) where
   same_free : is_free (slice_get seen.connections c) ≡ is_free (slice_get d.connections c)
   same_free = both_free (IsOpen d.site c) (slice_get seen.connections c)
       (slice_get d.connections c) (are.at c)
 
-  pub opened_at : (v : links.ConnectionState) (said : SaidAt) → is_free
-      (slice_get seen.connections c) ≡ true
+  pub opened_at : (v : links.ConnectionState) (said : SaidAt)
+      → is_free (slice_get seen.connections c) ≡ true
       → IsOpen d.site c v (opened c reading) → said.c ≡ c → vec_items said.lines ≡ []
       → IsActed (Some said) d (opens d reading c (slice_get d.connections c))
       (record seen { connections = set seen.connections c (Some v) })
   opened_at v said free open_so c_is none =
-      let slot : slice_get d.connections c ≡ Some None =
-      free_is (slice_get d.connections c) (sym same_free ∙ free) in
-      subst (λ (o : Option (Option Connected)). IsActed (Some said) d (opens d reading c o)
-      (record seen { connections = set seen.connections c (Some v) })) (sym slot)
-      (record {
+      rw (free_is (slice_get d.connections c) (sym same_free ∙ free)) (record {
         c_is = c_is;
         says = none;
         doors = record {
@@ -104,10 +84,7 @@ pub taken_out : (seen : DoorsSeen) (d : Doors) (c : ℕ) → AreDoors seen d
 taken_out seen d c are = record {
   site = are.site;
   book = are.book;
-  puts = λ v l stands.
-      subst (λ (vs : List (Option links.ConnectionState)). (k : ℕ)
-      → Match (IsThere d.site k) (slice_get vs k) (slice_get (set d.connections c l) k))
-      (sym (set_twice seen.connections c None v))
+  puts = λ v l stands. rw (set-set seen.connections c None v)
       (match_set (λ k. IsThere d.site k) seen.connections d.connections c v l are.at stands);
 }
 
@@ -127,17 +104,14 @@ put_ran left new d c reading n l v book said are ran_so c_is new_is =
       says = so.says;
       doors = record {
         site = are.site;
-        book = so.book_is ∙ ap (λ (b : books.State). replay b ran.events) are.book;
+        book = rw (so.book_is, are.book) refl;
         at = are.puts v ran.left so.leaves;
       };
     })
 
 -- a connection was at a door
-pub record IsOut (site : Site) (c : ℕ) (v : links.ConnectionState) (at : Option (Option Connected))
-    : Type 0 where
-  pub l : Connected
-  pub so : at ≡ Some (Some l)
-  pub open_so : IsOpen site c v l
+abbrev IsOut : Site → ℕ → links.ConnectionState → Option (Option Connected) → Type 0
+IsOut site c v at = (l : Connected) × (at ≡ Some (Some l)) × IsOpen site c v l
 
 by_slot : (site : Site) (c : ℕ) (v : links.ConnectionState)
     (seen : Option (Option links.ConnectionState))
@@ -148,14 +122,9 @@ by_slot site c v (Some None) at matched is = absurd cc
 by_slot site c v (Some (Some w)) None matched is = absurd matched
 by_slot site c v (Some (Some w)) (Some None) matched is = absurd matched
 by_slot site c v (Some (Some w)) (Some (Some l)) matched is =
-    let same : w ≡ v = cc in
-    record {
-      l = l;
-      so = refl;
-      open_so = subst (λ (x : links.ConnectionState). IsOpen site c x l) same matched;
-    }
+    let same : w ≡ v = cc in (l, refl, rw same at matched)
 
-pub is_out : (seen : DoorsSeen) (d : Doors) (c : ℕ) (v : links.ConnectionState) → AreDoors seen d
+is_out : (seen : DoorsSeen) (d : Doors) (c : ℕ) (v : links.ConnectionState) → AreDoors seen d
     → Some v ≡ there (slice_get seen.connections c)
     → IsOut d.site c v (slice_get d.connections c)
 is_out seen d c v are is =
@@ -168,21 +137,19 @@ is_out seen d c v are is =
 ordered_open : (site : Site) (c : ℕ) (v w : links.ConnectionState) (l : Connected)
     (order : Option Order)
     → IsOpen site c v l → IsOrdered v w order → IsOpen site c w (ordered order l)
-ordered_open site c v w l None open_so is =
-    subst (λ (x : links.ConnectionState). IsOpen site c x l) (sym is) open_so
-ordered_open site c v w l (Some o) open_so is =
-    subst (λ (x : links.ConnectionState). IsOpen site c x (obeyed o l)) (sym is) (record {
-      entered = open_so.entered;
-      lives = record {
-        c_is = open_so.lives.c_is;
-        steering = ap (order_in o) open_so.lives.steering;
-        calls = open_so.lives.calls;
-        events = open_so.lives.events;
-        stands = open_so.lives.stands;
-        state = open_so.lives.state;
-        here = open_so.lives.here;
-      };
-    })
+ordered_open site c v w l None open_so is = rw is open_so
+ordered_open site c v w l (Some o) open_so is = rw is (record {
+  entered = open_so.entered;
+  lives = record {
+    c_is = open_so.lives.c_is;
+    steering = ap (order_in o) open_so.lives.steering;
+    calls = open_so.lives.calls;
+    events = open_so.lives.events;
+    stands = open_so.lives.stands;
+    state = open_so.lives.state;
+    here = open_so.lives.here;
+  };
+})
 
 -- where a line asks something of a connection that is there, its rounds are what the line does
 pub goes : (seen left new : DoorsSeen) (d : Doors) (reading : ℕ) (turns : Turns)
@@ -198,21 +165,10 @@ goes seen left new d reading turns None v w said are asked taken left_is obeyed_
     absurd asked
 goes seen left new d reading turns (Some a) v w said are asked taken left_is obeyed_so rounds =
     let out = is_out seen d turns.c v are taken in
-    let l = ordered a.order out.l in
-    let gone : HasGone said d turns.c
-    (rounds_of d.site turns.c reading turns.rounds d.book (Some l)) new =
-    rounds d l (subst (λ (x : DoorsSeen). AreLeft x d turns.c) (sym left_is)
-    (taken_out seen d turns.c are))
-    (ordered_open d.site turns.c v w out.l a.order out.open_so obeyed_so) in
-    let here : HasGone said d a.c (rounds_of d.site a.c reading a.rounds d.book (Some l)) new =
-    subst (λ (n : ℕ). HasGone said d a.c (rounds_of d.site a.c reading n d.book (Some l)) new)
-    asked.1
-    (subst (λ (c : ℕ). HasGone said d c (rounds_of d.site c reading turns.rounds d.book (Some l))
-    new) asked.0 gone) in
-    let slot : slice_get d.connections a.c ≡ Some (Some out.l) =
-    subst (λ (c : ℕ). slice_get d.connections c ≡ Some (Some out.l)) asked.0 out.so in
-    subst (λ (o : Option (Option Connected)). IsActed said d (acted_on d reading a o) new)
-    (sym slot) here
+    let gone = rounds d (ordered a.order out.0) (rw left_is (taken_out seen d turns.c are))
+    (ordered_open d.site turns.c v w out.0 a.order out.2 obeyed_so) in
+    let slot : slice_get d.connections a.c ≡ Some (Some out.0) = rw (← asked.0) out.1 in
+    rw (slot, ← asked.0, ← asked.1) gone
 
 -- a line that opens no connection
 pub no_opening : (d : Doors) (reading : ℕ) (line : ScriptLine) → ((c : ℕ) → line ≡ Open c → ⊥)
@@ -224,5 +180,4 @@ no_opening d reading line other = refl
 
 pub there_at : {X : Type 0} → (xs : List (Option X)) (c : ℕ) (x : Option X) → c < length xs
     → x ≡ get_or xs c x → x ≡ there (slice_get xs c)
-there_at xs c x within is =
-    sym (ap (λ (o : Option (Option _)). there o) (slice_get_read xs (length xs) c x refl within is))
+there_at xs c x within is = rw (slice_get_read xs (length xs) c x refl within is) refl

@@ -1,19 +1,17 @@
 -- Disks in memory: what calls and restarts leave of one without orders, and of its images.
-use Rattle.std.proofs.Common.{◌≡◌, ℕ, Option, Some, None, MatchOption, List, [], ◌∷◌, length}
-use Rattle.std.proofs.Common.{false, refl, sym, ap, subst, ◌∙◌}
-use Rattle.std.specs.Option.{option_or}
+use Rattle.std.proofs.Common.{◌≡◌, ℕ, Option, Some, None, MatchOption, List, [], ◌∷◌, length, sym}
+use Rattle.std.proofs.Common.{ap, subst, ◌∙◌, arith}
 use Rattle.std.proofs.lemmas.List.Sums.{fold-append}
 use Rattle.disk_model.specs.Calls.{AllMade}
 use Rattle.disk_model.specs.Images.{Pending, IsImage, all_synced, after_sync}
 use Rattle.disk_model.specs.Moments.{HoldsThroughout}
 use Rattle.disk_model.specs.MemoryDisk.{DiskState, Medium, IsMadeCall, IsImageSince, medium_of}
-use Rattle.disk_model.specs.MemoryDisk.{pending_of, content_of, pick_within, stop_past, steered}
-use Rattle.disk_model.specs.MemoryDisk.{restarted, left_by, synced_medium, after_event}
+use Rattle.disk_model.specs.MemoryDisk.{pending_of, content_of, restarted, left_by, synced_medium}
+use Rattle.disk_model.specs.MemoryDisk.{after_event}
 use Rattle.disk_model.specs.MemoryDiskLaws.{counted_now}
 use Rattle.disk_model.specs.declared.call.Call.{Call}
 use Rattle.disk_model.specs.declared.event.Event.TheVariants.{Restarted}
 use Rattle.disk_model.specs.declared.orders.Pick.{Pick}
-use Rattle.disk_model.specs.declared.orders.Pick.TheVariants.{Old, New, Torn}
 use Rattle.station_law.specs.IsHeld.{IsUnsteered}
 
 -- a disk that runs and has no orders
@@ -22,16 +20,10 @@ pub record IsCalm (disk : DiskState) : Type 0 where
   pub unsteered : IsUnsteered disk
 
 one_call : (old new : DiskState) (call : Call) → IsCalm old → IsMadeCall old call new → IsCalm new
-one_call old new call calm made = record {
-  runs = ap (λ (d : DiskState). d.stopped) made.1
-      ∙ ap (λ (p : Option Pick). option_or p (pick_within 1 old.stop)) calm.runs
-      ∙ ap (pick_within 1) calm.unsteered.goes_on;
-  unsteered = record {
-    goes_on = ap (λ (d : DiskState). d.stop) made.1 ∙ ap (stop_past 1) calm.unsteered.goes_on;
-    succeeds = ap (λ (d : DiskState). d.calls.failing) made.1 ∙ calm.unsteered.succeeds;
-    ample = ap (λ (d : DiskState). d.memory_refused) made.1 ∙ calm.unsteered.ample;
-  };
-}
+one_call old new call calm made = rw (made.1) (record {
+  runs = cc;
+  unsteered = record { goes_on = cc; succeeds = cc; ample = cc };
+})
 
 -- calls that succeed leave it so
 pub calm_after : (calls : List Call) (old new : DiskState) → IsCalm old
@@ -54,22 +46,13 @@ on_restart disk pick = ap (λ (m : Medium). m.pending)
     (fold-append after_event (synced_medium disk.start) disk.log (Restarted pick ∷ []))
 
 left_all : (pick : Pick) (octets : List ℕ) → left_by pick (synced_medium octets) ≡ octets
-left_all Old octets = refl
-left_all New octets = refl
-left_all Torn octets = refl
+left_all pick octets = grind arith
 
 -- where all was synced, that is what it held
 pub restart_keeps : (disk : DiskState) (pick : Pick) (octets : List ℕ)
     → medium_of disk ≡ synced_medium octets → content_of (restarted disk pick) ≡ octets
 restart_keeps disk pick octets all =
-    ap (λ (p : Pending). p.content) (on_restart disk pick)
-    ∙ ap (left_by pick) all ∙ left_all pick octets
-
--- a stop that came
-pub restarted_by : (old new : DiskState) (stopped : Option Pick) (pick : Pick) → stopped ≡ Some pick
-    → MatchOption stopped (new ≡ old) (λ p. new ≡ restarted old p) → new ≡ restarted old pick
-restarted_by old new stopped pick is matches =
-    subst (λ (o : Option Pick). MatchOption o (new ≡ old) (λ p. new ≡ restarted old p)) is matches
+    cc (on_restart disk pick, left_all pick octets)
 
 -- a law of disks: after a good sync there is one image
 abbrev pub OneImage : Type 0
@@ -81,20 +64,8 @@ pub image_before : OneImage → (old new : DiskState) (stopped : Option Pick)
     → MatchOption stopped (new ≡ old) (λ pick. new ≡ restarted old pick)
     → IsImage (pending_of old) (content_of new)
     → (image : List ℕ) → IsImage (pending_of new) image → IsImage (pending_of old) image
-image_before one old new None same there image is =
-    subst (λ (d : DiskState). IsImage (pending_of d) image) same is
+image_before one old new None same there image is = rw same at is
 image_before one old new (Some pick) again there image is =
-    let content = left_by pick (medium_of old) in
-    let pending : pending_of new ≡ all_synced content =
-    ap pending_of again ∙ on_restart old pick in
-    let only : image ≡ content =
-    one (all_synced content) image (subst (λ (p : Pending). IsImage p image) pending is) in
-    subst (IsImage (pending_of old)) (ap (λ (p : Pending). p.content) pending ∙ sym only) there
-
--- the orders are gone, and what is pending stays
-pub unsteered_by : (disk : DiskState) → disk.memory_refused ≡ false
-    → IsUnsteered (steered disk (record {
-      failing = record { failing = []; made = 0 };
-      stop = None;
-    }))
-unsteered_by disk ample = record { goes_on = refl; succeeds = refl; ample = ample }
+    let pending = ap pending_of again ∙ on_restart old pick in
+    rw (one (all_synced (left_by pick (medium_of old))) image (rw pending at is))
+    (rw (content_of, pending) at there)

@@ -1,11 +1,11 @@
 -- The text of the buffers that a START of the desk is still to hand over.
 use Rattle.std.proofs.Common.{◌≡◌, ℕ, ◌+◌, ◌-◌, ◌<◌, ◌≤◌, true, false, nat_lt, List, []}
 use Rattle.std.proofs.Common.{◌++◌, length, map, drop, get_or, Option, Result, Ok, Err, refl}
-use Rattle.std.proofs.Common.{sym, ap, ◌∙◌, arith}
+use Rattle.std.proofs.Common.{arith}
 use Rattle.std.proofs.lemmas.Bool.Decides.{nat_tests}
 use Rattle.std.proofs.lemmas.List.{drop_more, drop_all}
 use Rattle.std.specs.Result.{IsErrAnd}
-use Rattle.station_desk.specs.ToldBuffer.{ToldBuffer, message_octets}
+use Rattle.station_desk.specs.ToldBuffer.{message_octets}
 use Rattle.station_desk.specs.Cursor.{Cursor, at_next, current}
 use Rattle.station_law.specs.declared.stop.Stop.{Stop}
 use Rattle.station_law.specs.declared.stop.Stop.TheVariants.{Memory}
@@ -21,33 +21,21 @@ text_to_come cursor = texts (map (handed 0) (drop cursor.count cursor.buffers))
 pub next_text : (old new : Cursor) → new ≡ at_next old → new.has_current ≡ true
     → text_to_come old ≡ sent_text 0 (message_octets (current new)) ++ text_to_come new
 next_text old new next has =
-    let more : nat_lt old.count (length old.buffers) ≡ true =
-    sym (ap (λ (c : Cursor). c.has_current) next) ∙ has in
+    let more : nat_lt old.count (length old.buffers) ≡ true = cc in
     let below : old.count < length old.buffers = grind (arith, nat_tests) in
-    let count : new.count ≡ old.count + 1 =
-    ap (λ (c : Cursor). c.count) next ∙ rw more refl in
-    let same : new.buffers ≡ old.buffers = ap (λ (c : Cursor). c.buffers) next in
+    let count : new.count ≡ old.count + 1 = rw (next, more) refl in
     let place : new.count - 1 ≡ old.count = omega (arith, count) in
-    let here : current new ≡ get_or old.buffers old.count [] =
-    ap (λ (bs : List ToldBuffer). get_or bs (new.count - 1) []) same
-    ∙ ap (λ (i : ℕ). get_or old.buffers i []) place in
-    ap (λ (bs : List ToldBuffer). texts (map (handed 0) bs))
-    (drop_more old.buffers old.count [] below)
-    ∙ ap (λ (b : ToldBuffer). sent_text 0 (message_octets b)
-    ++ texts (map (handed 0) (drop (old.count + 1) old.buffers))) (sym here)
-    ∙ ap (λ (n : ℕ). sent_text 0 (message_octets (current new))
-    ++ texts (map (handed 0) (drop n old.buffers))) (sym count)
-    ∙ ap (λ (bs : List ToldBuffer). sent_text 0 (message_octets (current new))
-    ++ texts (map (handed 0) (drop new.count bs))) (sym same)
+    let same : new.buffers ≡ old.buffers = rw next refl in
+    let here : current new ≡ get_or old.buffers old.count [] = rw (same, place) refl in
+    rw (here, count, same, drop_more old.buffers old.count [] below) refl
 
 -- where there is none, nothing is to come
 pub no_text : (old new : Cursor) → new ≡ at_next old → new.has_current ≡ false
     → text_to_come old ≡ []
 no_text old new next has =
-    let none : nat_lt old.count (length old.buffers) ≡ false =
-    sym (ap (λ (c : Cursor). c.has_current) next) ∙ has in
+    let none : nat_lt old.count (length old.buffers) ≡ false = cc in
     let past : length old.buffers ≤ old.count = grind (arith, nat_tests) in
-    ap (λ (bs : List ToldBuffer). texts (map (handed 0) bs)) (drop_all old.count old.buffers past)
+    rw (drop_all old.count old.buffers past) refl
 
 -- nothing more was written, for want of memory
 pub refused_before : {T : Type 0} (start now : Option (List ℕ)) (f g : ℕ) (whole rest : List ℕ)

@@ -1,9 +1,7 @@
-pub mod Results
 pub mod Disks
 pub mod WorldArchives
 pub mod Striking
 pub mod Reopening
-pub mod Offered
 pub mod Worlds
 pub mod AtDoors
 pub mod Following

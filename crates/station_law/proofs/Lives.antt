@@ -1,86 +1,70 @@
 -- What is said of a connection over the lines of a script is said by what comes to it, is ordered
 -- and turns; and the book goes on by the events of each line.
-use Rattle.std.proofs.Common.{◌≡◌, ℕ, zero, suc, ◌==◌, Bool, true, false, if◌then◌else◌}
-use Rattle.std.proofs.Common.{Option, Some, None, List, [], ◌∷◌, ◌++◌, map, replicate, slice_get}
-use Rattle.std.proofs.Common.{set}
-use Rattle.std.proofs.Common.{is_some, nat_lt, refl, sym, ap, subst, ◌∙◌, append_assoc, append-nil}
+use Rattle.std.proofs.Common.{◌≡◌, ℕ, zero, suc, ◌==◌, Bool, true, false, if◌then◌else◌, Option}
+use Rattle.std.proofs.Common.{Some, None, List, [], ◌∷◌, ◌++◌, map, replicate, slice_get, set}
+use Rattle.std.proofs.Common.{arith, is_some, refl, sym, ap, subst, ◌∙◌, append_assoc, append-nil}
 use Rattle.std.proofs.Common.{⊎_elim}
 use Rattle.std.proofs.lemmas.Bool.{eq-eqb}
 use Rattle.std.proofs.lemmas.Bool.Decides.{eqb_tells}
-use Rattle.std.proofs.lemmas.Bool.{true≢false, false≢true}
+use Rattle.std.proofs.lemmas.Option.{gets}
+use Rattle.std.proofs.lemmas.Grind.{common_steps}
 use Rattle.std.specs.List.{AllByRecursion}
 use Rattle.archive_terms.specs.Archive.{Entry, is_valid}
 use Rattle.cds_time.specs.declared.cds.Cds.{Cds}
 use Rattle.disk_model.specs.declared.orders.Pick.{Pick}
 use Rattle.record_form.specs.Entry.{entry_of}
 use Rattle.station_config.specs.declared.site.Site.{Site}
-use Rattle.station_book.specs.State.{Event}
+use Rattle.station_book.specs.State.{Event, quit}
 use Rattle.station_book.specs.State as books
 use Rattle.station_book.specs.Doors.{is_by}
-use Rattle.station_book.specs.History.{replay, then_after, IsLegal}
+use Rattle.station_book.specs.History.{replay, then_after, IsLegal, event_at}
 use Rattle.drill_text.specs.declared.end_word.EndWord.{EndWord}
 use Rattle.drill_text.specs.declared.script_line.ScriptLine.{ScriptLine}
 use Rattle.drill_text.specs.declared.script_line.ScriptLine.TheVariants.{Skip, Offer, Desk, Clock}
 use Rattle.drill_text.specs.declared.script_line.ScriptLine.TheVariants.{Crash, Fault, Open}
-use Rattle.session_core.specs.Session.{State as StateOfSession, BookAnswer as BookTold, step_events}
-use Rattle.session_core.specs.Session.{round_events}
+use Rattle.session_core.specs.Session.{State as StateOfSession, step_events, round_events}
 use Rattle.session_core.specs.Course.{is_over}
 use Rattle.station_links.specs.declared.link_line.LinkLine.{LinkLine}
 use Rattle.station_links.specs.Connected.{Connected, opened as opened_link}
 use Rattle.station_links.specs.Rounds.{round_at, round_of, end_after, stands_after, left_by, quits}
 use Rattle.station_links.specs.Rounds.{listened_at, told_now}
 use Rattle.station_links.specs.Run.{Order, Deed, said_by, events_by, RunsAreSessions}
-use Rattle.station_links.specs.Run.{IsSession, rounds_by}
-use Rattle.station_law.specs.declared.order.Strike.TheVariants.{Stop, Fail}
 use Rattle.station_law.specs.Store.{Store}
-use Rattle.station_law.specs.Doors.{Act, Acted, act_of, acted, acted_on, acted_by}
-use Rattle.station_law.specs.Doors.{opens}
-use Rattle.station_law.specs.Doors.{Ran, ordered, rounds_of, anew}
-use Rattle.station_desk.specs.Start.{moment}
+use Rattle.station_law.specs.Doors.{Act, Acted, act_of, acted, acted_on, acted_by, opens, Doors}
+use Rattle.station_law.specs.Doors.{Ran, ordered, rounds_of, anew, act}
+use Rattle.station_desk.specs.Start.{moment, told_desk}
 use Rattle.station_law.specs.State.{State}
 use Rattle.station_desk.specs.ToldBuffer.{ToldBuffer}
-use Rattle.station_law.specs.Said.{linked, handed, told, refused}
-use Rattle.station_law.specs.Answer.{Answer, says, is_wrong}
+use Rattle.station_law.specs.Said.{linked, handed}
+use Rattle.station_law.specs.Answer.{Answer, ends, is_wrong}
+use Rattle.station_law.specs.declared.step_done.StepDone.{StepDone}
+use Rattle.station_law.specs.declared.step_done.StepDone.TheVariants.{Fine, WrongState}
 use Rattle.station_law.specs.Standing.{there}
 use Rattle.station_law.specs.Entries.{offer}
-use Rattle.station_desk.specs.Start.{told_desk}
-use Rattle.station_law.specs.Desk.{desk, said_at_start}
+use Rattle.station_law.specs.Desk.{desk}
 use Rattle.station_law.specs.Orders.{pick_of}
-use Rattle.station_law.specs.Power.{crash_line, fault_line, fails_now, orders as order_line}
-use Rattle.station_law.specs.Lines.{recorded, offered, connected}
-use Rattle.station_law.specs.Lines.{step_read}
+use Rattle.station_law.specs.Power.{crash_line, fault_line}
+use Rattle.station_law.specs.Lines.{recorded, offered, connected, step, step_read}
 use Rattle.station_law.specs.Connections.{at_door, turns_of, orders_in, deeds_by, deeds_at, said_at}
-use Rattle.station_law.specs.Connections.{published_by, events_of_act, acted_at}
-use Rattle.station_law.specs.Connections.{events_at, GoesOn, Life, no_life, life}
-use Rattle.station_law.specs.Connections.{IsOfSession}
+use Rattle.station_law.specs.Connections.{published_by, events_of_act, acted_at, events_at, GoesOn}
+use Rattle.station_law.specs.Connections.{Life, no_life, life, IsOfSession}
 use Rattle.station_law.proofs.Rounds.{gone}
-use Rattle.station_law.proofs.Offered.{offered_by}
 
 -- ---- doors
 
 set_there : {A : Type 0} → (xs : List A) (c : ℕ) (x y : A) → slice_get xs c ≡ Some x
     → slice_get (set xs c y) c ≡ Some y
-set_there [] c x y is = absurd cc
-set_there (z ∷ xs) zero x y is = refl
-set_there (z ∷ xs) (suc c) x y is = set_there xs c x y is
+set_there xs c x y is = grind (arith, gets, common_steps)
 
 set_other : {A : Type 0} → (xs : List A) (k c : ℕ) (y : A) → ¬ (k ≡ c)
     → slice_get (set xs k y) c ≡ slice_get xs c
-set_other [] k c y other = refl
-set_other (z ∷ xs) zero zero y other = absurd (other refl)
-set_other (z ∷ xs) zero (suc c) y other = refl
-set_other (z ∷ xs) (suc k) zero y other = refl
-set_other (z ∷ xs) (suc k) (suc c) y other =
-    set_other xs k c y (λ is. other (ap (λ (n : ℕ). suc n) is))
+set_other xs k c y other = grind (arith, gets, common_steps)
 
 nobody_at : {A : Type 0} → (n c : ℕ) → there {X = A} (slice_get (replicate n None) c) ≡ None
-nobody_at zero c = refl
-nobody_at (suc n) zero = refl
-nobody_at (suc n) (suc c) = nobody_at n c
+nobody_at n c = grind (arith, gets, common_steps)
 
 slot_of : {A : Type 0} → (o : Option (Option A)) (x : A) → there o ≡ Some x → o ≡ Some (Some x)
-slot_of None x is = absurd cc
-slot_of (Some o) x is = ap (λ (p : Option _). Some p) is
+slot_of o x is = grind arith
 
 -- ---- rounds
 
@@ -101,21 +85,20 @@ module _ (site : Site) (c : ℕ) where
     asks : events_by site c l (deeds ++ rest) ≡ ran.events ++ later_events ran.left rest
 
   -- a round first, and the others unless it ended the connection
-  behind : {A : Type 0} → (reading n : ℕ) (b : books.State) (of : Connected → List Deed → List A)
-      (left : Option Connected → List Deed → List A) (in_ran : Ran → List A)
-      (end : Option EndWord) (l : Connected) (first : List A) (rest : List Deed)
-      → left None rest ≡ [] → in_ran (record { said = []; events = []; left = None }) ≡ []
-      → of l (turns_of site c reading n b (Some l) ++ rest)
-      ≡ in_ran (rounds_of site c reading n b (Some l))
-      ++ left (rounds_of site c reading n b (Some l)).left rest
-      → first ++ (if is_some end then []
-      else of l (turns_of site c reading n b (left_by end l) ++ rest))
-      ≡ (first ++ in_ran (rounds_of site c reading n b (left_by end l)))
-      ++ left (rounds_of site c reading n b (left_by end l)).left rest
-  behind reading n b of left in_ran None l first rest nothing none so =
-      ap (λ more. first ++ more) so ∙ sym (append_assoc first _ _)
-  behind reading n b of left in_ran (Some why) l first rest nothing none so =
-      rw (gone site c reading n b, none, nothing) (sym (append-nil (first ++ [])))
+  by_end : (end : Option EndWord) (l : Connected) (reading n : ℕ) (b : books.State)
+      (said : List LinkLine) (events : List Event) (rest : List Deed)
+      → Gathers l (turns_of site c reading n b (Some l))
+      (rounds_of site c reading n b (Some l)) rest
+      → let deeds = turns_of site c reading n b (left_by end l) ++ rest in
+      let ran = rounds_of site c reading n b (left_by end l) in
+      (said ++ (if is_some end then [] else said_by site c l deeds)
+      ≡ (said ++ ran.said) ++ later_said ran.left rest)
+      × (events ++ (if is_some end then [] else events_by site c l deeds)
+      ≡ (events ++ ran.events) ++ later_events ran.left rest)
+  by_end None l reading n b said events rest so =
+      (rw so.says (sym (append_assoc said _ _)), rw so.asks (sym (append_assoc events _ _)))
+  by_end (Some why) l reading n b said events rest so =
+      rw (gone site c reading n b) (simp append-nil, simp append-nil)
 
   turned : (reading n : ℕ) (b : books.State) (l : Connected) (rest : List Deed)
       → Gathers l (turns_of site c reading n b (Some l))
@@ -125,13 +108,9 @@ module _ (site : Site) (c : ℕ) where
       let r = round_at site c l b reading in
       let o = round_of site c l b reading in
       let next = stands_after site l r in
-      let so = turned reading n (replay b o.events) next rest in
-      record {
-        says = behind reading n (replay b o.events) (said_by site c) later_said (λ ran. ran.said)
-            (end_after site l r) next o.said rest refl refl so.says;
-        asks = behind reading n (replay b o.events) (events_by site c) later_events
-            (λ ran. ran.events) (end_after site l r) next o.events rest refl refl so.asks;
-      }
+      let so = by_end (end_after site l r) next reading n (replay b o.events) o.said o.events rest
+      (turned reading n (replay b o.events) next rest) in
+      record { says = so.0; asks = so.1 }
 
   -- what comes or is ordered comes first
   ordered_first : (o : Option Order) (l : Connected) (deeds : List Deed) (ran : Ran)
@@ -152,11 +131,9 @@ are_both b c (e ∷ h) k first second = (first.0, are_both b c h k first.1 secon
 
 picked_events : (b : Bool) (c : ℕ) (events : List Event) → Are b c events
     → events_at c events ≡ (if b then events else [])
-picked_events true c [] are = refl
-picked_events false c [] are = refl
-picked_events true c (e ∷ events) are =
-    rw (are.0) (ap (λ (rest : List Event). e ∷ rest) (picked_events true c events are.1))
-picked_events false c (e ∷ events) are = rw (are.0) (picked_events false c events are.1)
+picked_events b c [] are = grind arith
+picked_events b c (e ∷ events) are =
+    let rest = picked_events b c events are.1 in grind (arith, are.0, rest)
 
 legal_both : (b : books.State) (h k : List Event) → IsLegal b h → IsLegal (replay b h) k
     → IsLegal b (h ++ k)
@@ -164,105 +141,117 @@ legal_both b [] k first second = second
 legal_both b (e ∷ h) k first second =
     (first.0, legal_both (then_after b e) h k first.1 second)
 
--- the events of rounds at a door
-module _ (site : Site) (k c : ℕ) (same : Bool) (is : (k == c) ≡ same) where
-  step_are : (s : StateOfSession) (over : Bool) (t : BookTold)
-      → Are same c (step_events site k s (if over then None else Some t))
-  step_are s true t = tt
-  step_are s false t = (is, tt)
+-- What holds of no events, of those behind others, and of a session's answer and quit, holds of
+-- those of rounds at a door.
+module _ (P : books.State → List Event → Type 0) (none : (b : books.State) → P b [])
+    (both : (b : books.State) (h k : List Event) → P b h → P (replay b h) k → P b (h ++ k))
+    (site : Site) (k reading : ℕ)
+    (asks : (b : books.State) (s : StateOfSession)
+    → P b (step_events site k s (Some (told_now site k s b reading))))
+    (ends : (b : books.State) → P b (event_at b (quit k) ∷ [])) where
+  by_over : (b : books.State) (s : StateOfSession) (over : Bool)
+      → P b (step_events site k s (if over then None else Some (told_now site k s b reading)))
+  by_over b s true = none b
+  by_over b s false = asks b s
 
-  quits_are : (b : books.State) (end : Option EndWord) → Are same c (quits k b end)
-  quits_are b None = tt
-  quits_are b (Some why) = (is, tt)
+  by_quit : (b : books.State) (end : Option EndWord) → P b (quits k b end)
+  by_quit b None = none b
+  by_quit b (Some why) = ends b
 
-  rounds_are : (reading n : ℕ) (b : books.State) (l : Option Connected)
-      → Are same c (rounds_of site k reading n b l).events
-  rounds_are reading zero b l = tt
-  rounds_are reading (suc n) b None = tt
-  rounds_are reading (suc n) b (Some l) =
+  pub rounds_hold : (n : ℕ) (b : books.State) (l : Option Connected)
+      → P b (rounds_of site k reading n b l).events
+  rounds_hold zero b l = none b
+  rounds_hold (suc n) b None = none b
+  rounds_hold (suc n) b (Some l) =
       let o = round_of site k l b reading in
       let asked = round_events site k l.state (round_at site k l b reading) in
-      are_both same c o.events (rounds_of site k reading n (replay b o.events) o.next).events
-      (are_both same c asked _
-      (step_are (listened_at l) (is_over (listened_at l).standing.course)
-      (told_now site k (listened_at l) b reading))
-      (quits_are (replay b asked) (end_after site l (round_at site k l b reading))))
-      (rounds_are reading n (replay b o.events) o.next)
+      both b o.events (rounds_of site k reading n (replay b o.events) o.next).events
+      (both b asked _ (by_over b (listened_at l) (is_over (listened_at l).standing.course))
+      (by_quit (replay b asked) (end_after site l (round_at site k l b reading))))
+      (rounds_hold n (replay b o.events) o.next)
 
--- they are legal
-step_legal : (site : Site) (k reading : ℕ) (s : StateOfSession) (b : books.State) (over : Bool)
-    → IsLegal b (step_events site k s (if over then None else Some (told_now site k s b reading)))
-step_legal site k reading s b true = tt
-step_legal site k reading s b false = (refl, tt)
-
-quits_legal : (k : ℕ) (b : books.State) (end : Option EndWord) → IsLegal b (quits k b end)
-quits_legal k b None = tt
-quits_legal k b (Some why) = (refl, tt)
-
-rounds_legal : (site : Site) (k reading n : ℕ) (b : books.State) (l : Option Connected)
-    → IsLegal b (rounds_of site k reading n b l).events
-rounds_legal site k reading zero b l = tt
-rounds_legal site k reading (suc n) b None = tt
-rounds_legal site k reading (suc n) b (Some l) =
-    let o = round_of site k l b reading in
-    let asked = round_events site k l.state (round_at site k l b reading) in
-    legal_both b o.events (rounds_of site k reading n (replay b o.events) o.next).events
-    (legal_both b asked _
-    (step_legal site k reading (listened_at l) b (is_over (listened_at l).standing.course))
-    (quits_legal k (replay b asked) (end_after site l (round_at site k l b reading))))
-    (rounds_legal site k reading n (replay b o.events) o.next)
+rounds_are : (site : Site) (k c : ℕ) (same : Bool) → (k == c) ≡ same
+    → (reading n : ℕ) (b : books.State) (l : Option Connected)
+    → Are same c (rounds_of site k reading n b l).events
+rounds_are site k c same is reading = rounds_hold (λ b h. Are same c h) (λ b. tt)
+    (λ b h k. are_both same c h k) site k reading (λ b s. (is, tt)) (λ b. (is, tt))
 
 -- ---- what is said of a door
 
-said_here : (c : ℕ) (lines : List LinkLine) → (c == c) ≡ true
-    → said_at c (map (linked c) lines) ≡ lines
-said_here c [] self = refl
-said_here c (line ∷ lines) self =
-    rw self (ap (λ (rest : List LinkLine). line ∷ rest) (said_here c lines self))
-
-said_elsewhere : (k c : ℕ) (lines : List LinkLine) → (k == c) ≡ false
-    → said_at c (map (linked k) lines) ≡ []
-said_elsewhere k c [] other = refl
-said_elsewhere k c (line ∷ lines) other = rw other (said_elsewhere k c lines other)
+said_of_lines : (k c : ℕ) (lines : List LinkLine)
+    → said_at c (map (linked k) lines) ≡ (if k == c then lines else [])
+said_of_lines k c [] = grind arith
+said_of_lines k c (line ∷ lines) = let rest = said_of_lines k c lines in grind (arith, rest)
 
 handed_elsewhere : (c : ℕ) (buffers : List ToldBuffer) → said_at c (map (handed 0) buffers) ≡ []
 handed_elsewhere c [] = refl
 handed_elsewhere c (buffer ∷ buffers) = handed_elsewhere c buffers
 
 -- no line that concerns what is stored says anything of a door
-module _ (c : ℕ) where
-  offer_apart : (store : Store) (entry : Entry) → said_at c (offer store entry).said ≡ []
-  offer_apart store entry = offered_by (λ a. said_at c a.said ≡ []) store entry
-      (λ order. refl) (λ found. refl) (λ found. refl) (λ why. refl)
+offer_apart : (c : ℕ) (store : Store) (entry : Entry) → said_at c (offer store entry).said ≡ []
+offer_apart c store entry = grind arith
 
-  by_times : (store : Store) (start stop : Cds) (quality : ℕ) (early : Bool)
-      → said_at c (if early then told refused ∷ []
-      else said_at_start store.published start stop quality) ≡ []
-  by_times store start stop quality true = refl
-  by_times store start stop quality false =
-      handed_elsewhere c (told_desk store.published start stop quality)
+desk_apart : (c : ℕ) (store : Store) (start stop : Cds) (quality : ℕ)
+    → said_at c (desk store start stop quality).said ≡ []
+desk_apart c store start stop quality =
+    let none = handed_elsewhere c (told_desk store.published start stop quality) in
+    grind (arith, none)
 
-  desk_apart : (store : Store) (start stop : Cds) (quality : ℕ)
-      → said_at c (desk store start stop quality).said ≡ []
-  desk_apart store start stop quality =
-      by_times store start stop quality (nat_lt (moment stop) (moment start))
+crash_apart : (c : ℕ) (store : Store) (k : ℕ) (pick : Pick)
+    → said_at c (crash_line store k pick).said ≡ []
+crash_apart c store k pick = grind arith
 
-  crash_by : (store : Store) (k : ℕ) (pick : Pick) (now : Bool)
-      → said_at c (if now then fails_now store else order_line store k (Stop pick)).said ≡ []
-  crash_by store k pick true = refl
-  crash_by store k pick false = refl
+fault_apart : (c : ℕ) (store : Store) (k : ℕ) → said_at c (fault_line store k).said ≡ []
+fault_apart c store k = grind arith
 
-  crash_apart : (store : Store) (k : ℕ) (pick : Pick)
-      → said_at c (crash_line store k pick).said ≡ []
-  crash_apart store k pick = crash_by store k pick (k == 0)
+-- ---- what lines are
 
-  fault_by : (store : Store) (k : ℕ) (none : Bool)
-      → said_at c (if none then is_wrong store else order_line store k Fail).said ≡ []
-  fault_by store k true = refl
-  fault_by store k false = refl
+-- A line does nothing at the doors, concerns what is stored, opens a connection, or asks something
+-- of one. What holds of each of these holds of every line.
+module _ (state : State) (P : Option Act → Answer State → Option Acted → Type 0)
+    (still : (done : StepDone) (clock : ℕ)
+    → P None (ends done [] (record state { clock = clock })) None)
+    (stored : (a : Answer Store) → ((c : ℕ) → said_at c a.said ≡ [])
+    → P None (recorded state a) None)
+    (opened : (k : ℕ) (o : Option (Option Connected)) → slice_get state.doors.connections k ≡ o
+    → P None (connected state (opens state.doors state.clock k o))
+    (opens state.doors state.clock k o))
+    (asked : (a : Option Act) → P a (connected state (acted state.doors state.clock a))
+    (acted state.doors state.clock a)) where
+  by_valid : (entry : Entry) (valid : Bool)
+      → P None (if valid then offered state entry else is_wrong state) None
+  by_valid entry true = stored (offer state.store entry) (λ c. offer_apart c state.store entry)
+  by_valid entry false = still WrongState state.clock
 
-  fault_apart : (store : Store) (k : ℕ) → said_at c (fault_line store k).said ≡ []
-  fault_apart store k = fault_by store k (k == 0)
+  pub by_line : (line : ScriptLine)
+      → P (act_of line) (step state line) (act state.doors state.clock line)
+  by_line Skip = still Fine state.clock
+  by_line (Offer entry) = by_valid (entry_of entry) (is_valid (entry_of entry))
+  by_line (Desk start stop quality) = stored (desk state.store start stop quality)
+      (λ c. desk_apart c state.store start stop quality)
+  by_line (Clock time) = still Fine (moment time)
+  by_line (Crash k pick) = stored (crash_line state.store k (pick_of pick))
+      (λ c. crash_apart c state.store k (pick_of pick))
+  by_line (Fault k) = stored (fault_line state.store k) (λ c. fault_apart c state.store k)
+  by_line (Open k) = opened k (slice_get state.doors.connections k) refl
+  by_line line = asked (act_of line)
+
+-- what holds of no events, and of those of rounds, holds of the events of what is asked
+pub by_act : (Q : List Event → Type 0) (d : Doors) (reading : ℕ) → Q []
+    → ((a : Act) (l : Connected)
+    → Q (rounds_of d.site a.c reading a.rounds d.book (Some l)).events)
+    → (a : Option Act) → Q (events_of_act (acted d reading a))
+by_act Q d reading none rounds None = none
+by_act Q d reading none rounds (Some a) = by_slot (slice_get d.connections a.c)
+  where
+    by_slot : (o : Option (Option Connected)) → Q (events_of_act (acted_on d reading a o))
+    by_slot None = none
+    by_slot (Some None) = none
+    by_slot (Some (Some l)) = rounds a (ordered a.order l)
+
+pub opens_nothing : (d : Doors) (reading k : ℕ) (o : Option (Option Connected))
+    → events_of_act (opens d reading k o) ≡ []
+opens_nothing d reading k o = grind arith
 
 -- ---- one line
 
@@ -289,22 +278,11 @@ stays : (c : ℕ) (state : State) (l : Connected) (a : Answer State) (acted : Li
     → events_at c (published_by a.recovers state.doors.book a.given ++ acted) ≡ []
     → Moves c state l [] a acted
 stays c state l a acted at site same none unasked =
-    let left : at_door a.next c ≡ Some l = ap there same ∙ at in
+    let left : at_door a.next c ≡ Some l = rw same at in
     record {
       site = site;
       gathers = λ rest gone. rw (none, unasked, left) (record { says = refl; asks = refl });
     }
-
--- it isn't there any more
-goes : (c : ℕ) (state : State) (l : Connected) (a : Answer State) (acted : List Event)
-    → a.next.doors.site ≡ state.doors.site → at_door a.next c ≡ None → said_at c a.said ≡ []
-    → events_at c (published_by a.recovers state.doors.book a.given ++ acted) ≡ []
-    → Moves c state l [] a acted
-goes c state l a acted site left none unasked = record {
-  site = site;
-  gathers = λ rest gone.
-      rw (none, unasked, left, gone left) (record { says = refl; asks = refl });
-}
 
 -- a publishing is no door's
 none_published : (c : ℕ) (recovers : Bool) (b : books.State) (given : List Entry)
@@ -317,39 +295,24 @@ module _ (c : ℕ) (state : State) (l : Connected) (at : at_door state c ≡ Som
   abbrev MovesBy : List Deed → Answer State → List Event → Type 0
   MovesBy deeds a acted = Moves c state l deeds a acted
 
-  -- a line that concerns what is stored
+  -- a line that concerns what is stored: a recovery leaves nobody
   stored : (a : Answer Store) → said_at c a.said ≡ [] → MovesBy [] (recorded state a) []
   stored a none = by_recovery a.recovers refl
     where
       by_recovery : (r : Bool) → a.recovers ≡ r → MovesBy [] (recorded state a) []
       by_recovery true is =
           let left : at_door (recorded state a).next c ≡ None = rw is (nobody_at 17 c) in
-          let site : (recorded state a).next.doors.site ≡ state.doors.site = rw is refl in
-          goes c state l (recorded state a) [] site left none
-          (none_published c a.recovers state.doors.book a.given)
-      by_recovery false is =
-          let same : slice_get (recorded state a).next.doors.connections c
-          ≡ slice_get state.doors.connections c = rw is refl in
-          let site : (recorded state a).next.doors.site ≡ state.doors.site = rw is refl in
-          stays c state l (recorded state a) [] at site same none
+          let unasked = none_published c a.recovers state.doors.book a.given in
+          record {
+            site = rw is refl;
+            gathers = λ rest gone. rw (none, unasked, left, gone left)
+                (record { says = refl; asks = refl });
+          }
+      by_recovery false is = stays c state l (recorded state a) [] at (rw is refl) (rw is refl) none
           (none_published c a.recovers state.doors.book a.given)
 
   wrong : MovesBy [] (is_wrong state) []
   wrong = stays c state l (is_wrong state) [] at refl refl refl refl
-
-  by_valid : (entry : Entry) (valid : Bool)
-      → MovesBy [] (if valid then offered state entry else is_wrong state) []
-  by_valid entry true = stored (offer state.store entry) (offer_apart c state.store entry)
-  by_valid entry false = wrong
-
-  -- another door
-  elsewhere : (k : ℕ) (other : (k == c) ≡ false) (differ : ¬ (k ≡ c)) (ran : Ran)
-      → Are false c ran.events
-      → MovesBy [] (connected state (Some (acted_by state.doors k ran))) ran.events
-  elsewhere k other differ ran are =
-      stays c state l (connected state (Some (acted_by state.doors k ran))) ran.events at refl
-      (set_other state.doors.connections k c ran.left differ)
-      (said_elsewhere k c ran.said other) (picked_events false c ran.events are)
 
   opens_so : (k : ℕ) (o : Option (Option Connected)) → slice_get state.doors.connections k ≡ o
       → MovesBy [] (connected state (opens state.doors state.clock k o))
@@ -357,16 +320,11 @@ module _ (c : ℕ) (state : State) (l : Connected) (at : at_door state c ≡ Som
   opens_so k None slot = wrong
   opens_so k (Some (Some other)) slot = wrong
   opens_so k (Some None) slot =
-      let differ : ¬ (k ≡ c) = λ is.
-      let none : at_door state c ≡ None =
-      ap there (ap (slice_get state.doors.connections) (sym is) ∙ slot) in
-      absurd (some_none (sym at ∙ none)) in
       stays c state l (connected state (opens state.doors state.clock k (Some None))) [] at refl
-      (set_other state.doors.connections k c (Some (opened_link k state.clock)) differ) refl refl
-    where
-      some_none : {X : Type 0} {x : X} → Some x ≡ None → ⊥
-      some_none is = absurd cc
+      (set_other state.doors.connections k c (Some (opened_link k state.clock)) (λ is. cc))
+      refl refl
 
+  -- another door
   acts_elsewhere : (a : Act) (o : Option (Option Connected)) → (a.c == c) ≡ false
       → ¬ (a.c ≡ c) → MovesBy [] (connected state (acted_on state.doors state.clock a o))
       (events_of_act (acted_on state.doors state.clock a o))
@@ -375,9 +333,11 @@ module _ (c : ℕ) (state : State) (l : Connected) (at : at_door state c ≡ Som
   acts_elsewhere a (Some (Some m)) other differ =
       let ran = rounds_of state.doors.site a.c state.clock a.rounds state.doors.book
       (Some (ordered a.order m)) in
-      elsewhere a.c other differ ran
+      stays c state l (connected state (Some (acted_by state.doors a.c ran))) ran.events at refl
+      (set_other state.doors.connections a.c c ran.left differ)
+      (rw other at (said_of_lines a.c c ran.said)) (picked_events false c ran.events
       (rounds_are state.doors.site a.c c false other state.clock a.rounds state.doors.book
-      (Some (ordered a.order m)))
+      (Some (ordered a.order m))))
 
 -- this door
 acts_here : (state : State) (l : Connected) (a : Act) → at_door state a.c ≡ Some l
@@ -391,20 +351,19 @@ acts_here : (state : State) (l : Connected) (a : Act) → at_door state a.c ≡ 
 acts_here state l a at =
     let d = state.doors in
     let self : (a.c == a.c) ≡ true = eq-eqb a.c a.c refl in
-    let slot : slice_get d.connections a.c ≡ Some (Some l) = slot_of _ l at in
+    let slot = slot_of (slice_get d.connections a.c) l at in
     let first = ordered a.order l in
     let ran = rounds_of d.site a.c state.clock a.rounds d.book (Some first) in
     let left : there (slice_get (set d.connections a.c ran.left) a.c) ≡ ran.left =
     ap there (set_there d.connections a.c (Some l) ran.left slot) in
-    let events : events_at a.c ran.events ≡ ran.events =
-    picked_events true a.c ran.events (rounds_are d.site a.c a.c true self state.clock a.rounds
-    d.book (Some first)) in
+    let events = picked_events true a.c ran.events
+    (rounds_are d.site a.c a.c true self state.clock a.rounds d.book (Some first)) in
     rw slot (record {
       site = refl;
       gathers = λ rest gone.
           let so = ordered_first d.site a.c a.order l _ ran rest
           (turned d.site a.c state.clock a.rounds d.book first rest) in
-          rw (left, said_here a.c ran.said self, events)
+          rw (left, said_of_lines a.c a.c ran.said, self, events)
           (record { says = so.says; asks = so.asks });
     })
 
@@ -426,29 +385,14 @@ module _ (c : ℕ) (state : State) (l : Connected) (at : at_door state c ≡ Som
       (slice_get state.doors.connections a.c) other.0 other.1))
       (eqb_tells a.c c)
 
-  line_moves : (line : ScriptLine) → Moves c state l (deeds_at state c l (Some line))
-      (step_read state (Some line)) (events_of_act (acted_at state (Some line)))
-  line_moves Skip = stays c state l (says [] state) [] at refl refl refl refl
-  line_moves (Offer entry) =
-      by_valid c state l at (entry_of entry) (is_valid (entry_of entry))
-  line_moves (Desk start stop quality) =
-      stored c state l at (desk state.store start stop quality)
-      (desk_apart c state.store start stop quality)
-  line_moves (Clock time) =
-      stays c state l (says [] (record state { clock = moment time })) [] at refl refl refl refl
-  line_moves (Crash k pick) =
-      stored c state l at (crash_line state.store k (pick_of pick))
-      (crash_apart c state.store k (pick_of pick))
-  line_moves (Fault k) =
-      stored c state l at (fault_line state.store k) (fault_apart c state.store k)
-  line_moves (Open k) =
-      opens_so c state l at k (slice_get state.doors.connections k) refl
-  line_moves line = acts_so (act_of line)
-
   moves : (line : Option ScriptLine) → Moves c state l (deeds_at state c l line)
       (step_read state line) (events_of_act (acted_at state line))
   moves None = wrong c state l at
-  moves (Some line) = line_moves line
+  moves (Some line) = by_line state
+      (λ asks a done. Moves c state l (deeds_by state.doors state.clock c l asks) a
+      (events_of_act done))
+      (λ done clock. stays c state l (ends done [] (record state { clock = clock })) [] at refl refl
+      refl refl) (λ a none. stored c state l at a (none c)) (opens_so c state l at) acts_so line
 
 -- ---- lines
 
@@ -503,14 +447,9 @@ module _ {L : Type 0} (reads : L → Option ScriptLine) (c : ℕ) where
       → at_door state c ≡ Some (opened_link c reading)
       → IsOfSession state.doors.site c reading (life reads c state lines)
   of_session runs state reading lines at brings =
-      let site = state.doors.site in
-      let first = opened_link c reading in
-      let so = lived lines state first at in
-      let v = life reads c state lines in
-      let rounds = rounds_by site c first v.deeds in
-      subst (λ said. IsSession site c first.state said v.events rounds) so.says
-      (subst (λ events. IsSession site c first.state (said_by site c first v.deeds) events rounds)
-      so.asks (runs site c first v.deeds refl tt brings))
+      let so = lived lines state (opened_link c reading) at in
+      rw (← so.says, ← so.asks) (runs state.doors.site c (opened_link c reading)
+      (life reads c state lines).deeds refl tt brings)
 
 -- ---- the book
 
@@ -523,90 +462,52 @@ module _ (state : State) where
         ≡ replay state.doors.book (published_by a.recovers state.doors.book a.given ++ acted)
     renewed : a.recovers ≡ true → a.next.doors ≡ anew state.doors.site a.next.store.published
 
-  still : (a : Answer State) → a.recovers ≡ false → a.given ≡ [] → a.next.doors ≡ state.doors
-      → Goes a []
-  still a kept none same = record {
-    site = ap (λ d. d.site) same;
-    legal = rw (kept, none) tt;
-    same = λ is. rw (kept, none) (ap (λ d. d.book) same);
-    renewed = λ is. absurd (false≢true (sym kept ∙ is));
+  still : (done : StepDone) (clock : ℕ) → Goes (ends done [] (record state { clock = clock })) []
+  still done clock = record {
+    site = refl;
+    legal = tt;
+    same = λ is. refl;
+    renewed = λ is. absurd cc;
   }
 
-  recorded_goes : (a : Answer Store) → Goes (recorded state a) []
-  recorded_goes a = by_recovery a.recovers a.given
-    where
-      by_recovery : (r : Bool) (given : List Entry)
-          → Goes (recorded state (record a { recovers = r; given = given })) []
-      by_recovery true given = record {
-        site = refl;
-        legal = tt;
-        same = λ is. absurd (true≢false is);
-        renewed = λ is. refl;
-      }
-      by_recovery false [] = record {
-        site = refl;
-        legal = tt;
-        same = λ is. refl;
-        renewed = λ is. absurd (false≢true is);
-      }
-      by_recovery false (entry ∷ given) = record {
-        site = refl;
-        legal = (refl, tt);
-        same = λ is. refl;
-        renewed = λ is. absurd (false≢true is);
-      }
+  published_legal : (recovers : Bool) (given : List Entry)
+      → IsLegal state.doors.book (published_by recovers state.doors.book given ++ [])
+  published_legal true given = tt
+  published_legal false [] = tt
+  published_legal false (entry ∷ given) = (refl, tt)
 
-  valid_goes : (entry : Entry) (valid : Bool)
-      → Goes (if valid then offered state entry else is_wrong state) []
-  valid_goes entry true = recorded_goes (offer state.store entry)
-  valid_goes entry false = still (is_wrong state) refl refl refl
+  recorded_goes : (a : Answer Store) → Goes (recorded state a) []
+  recorded_goes a = record {
+    site = grind arith;
+    legal = published_legal a.recovers a.given;
+    same = λ is. rw (is, append-nil) refl;
+    renewed = λ is. rw is refl;
+  }
 
   acted_goes : (o : Option Acted) → IsLegal state.doors.book (events_of_act o)
       → Goes (connected state o) (events_of_act o)
-  acted_goes None legal = still (is_wrong state) refl refl refl
+  acted_goes None legal = still WrongState state.clock
   acted_goes (Some a) legal = record {
     site = refl;
     legal = legal;
     same = λ is. refl;
-    renewed = λ is. absurd (false≢true is);
+    renewed = λ is. absurd cc;
   }
-
-  opens_legal : (k : ℕ) (o : Option (Option Connected))
-      → IsLegal state.doors.book (events_of_act (opens state.doors state.clock k o))
-  opens_legal k None = tt
-  opens_legal k (Some None) = tt
-  opens_legal k (Some (Some l)) = tt
-
-  acts_legal : (a : Act) (o : Option (Option Connected))
-      → IsLegal state.doors.book (events_of_act (acted_on state.doors state.clock a o))
-  acts_legal a None = tt
-  acts_legal a (Some None) = tt
-  acts_legal a (Some (Some l)) =
-      rounds_legal state.doors.site a.c state.clock a.rounds state.doors.book
-      (Some (ordered a.order l))
-
-  act_legal : (a : Option Act)
-      → IsLegal state.doors.book (events_of_act (acted state.doors state.clock a))
-  act_legal None = tt
-  act_legal (Some a) = acts_legal a (slice_get state.doors.connections a.c)
 
   line_goes : (line : ScriptLine)
       → Goes (step_read state (Some line)) (events_of_act (acted_at state (Some line)))
-  line_goes Skip = still (says [] state) refl refl refl
-  line_goes (Offer entry) = valid_goes (entry_of entry) (is_valid (entry_of entry))
-  line_goes (Desk start stop quality) = recorded_goes (desk state.store start stop quality)
-  line_goes (Clock time) = still (says [] (record state { clock = moment time })) refl refl refl
-  line_goes (Crash k pick) = recorded_goes (crash_line state.store k (pick_of pick))
-  line_goes (Fault k) = recorded_goes (fault_line state.store k)
-  line_goes (Open k) =
-      acted_goes (opens state.doors state.clock k (slice_get state.doors.connections k))
-      (opens_legal k (slice_get state.doors.connections k))
-  line_goes line =
-      acted_goes (acted state.doors state.clock (act_of line)) (act_legal (act_of line))
+  line_goes = by_line state (λ asks a done. Goes a (events_of_act done)) still
+      (λ a none. recorded_goes a)
+      (λ k o slot. acted_goes (opens state.doors state.clock k o)
+      (rw (opens_nothing state.doors state.clock k o) tt))
+      (λ a. acted_goes (acted state.doors state.clock a) (by_act (IsLegal state.doors.book)
+      state.doors state.clock tt (λ a l. rounds_hold IsLegal (λ b. tt) legal_both
+      state.doors.site a.c state.clock (λ b s. (refl, tt)) (λ b. (refl, tt)) a.rounds
+      state.doors.book (Some l)) a))
 
   goes_read : (line : Option ScriptLine)
       → Goes (step_read state line) (events_of_act (acted_at state line))
-  goes_read None = still (is_wrong state) refl refl refl
+  goes_read None = still WrongState state.clock
   goes_read (Some line) = line_goes line
 
   pub goes_on : (line : Option ScriptLine) → GoesOn state line

@@ -1,12 +1,11 @@
 -- A world's book has what is stored, behind each call of its parts.
-use Rattle.std.proofs.Common.{◌≡◌, ℕ, Bool, true, false, Option, Some, None, IsTrue, refl, sym, ap}
-use Rattle.std.proofs.Common.{subst, ◌∙◌}
+use Rattle.std.proofs.Common.{◌≡◌, ℕ, Bool, true, false, Option, Some, None, IsTrue, refl, sym}
+use Rattle.std.proofs.Common.{subst}
 use Rattle.archive_terms.specs.Archive.{is_valid}
 use Rattle.record_form.specs.Entry.{entry_of}
 use Rattle.record_form.specs.declared.entry.Entry as form
 use Rattle.drill_text.specs.declared.script_line.ScriptLine.{ScriptLine}
 use Rattle.drill_text.specs.declared.script_line.ScriptLine.TheVariants.{Offer}
-use Rattle.station_book.specs.State as books
 use Rattle.station_law.specs.declared.outcome.Outcome.{Outcome}
 use Rattle.station_law.specs.declared.said.SaidAt.{SaidAt}
 use Rattle.station_law.specs.Store.{Store, Recorded}
@@ -19,6 +18,7 @@ use Rattle.station_law.specs.Stopped.{IsDone}
 use Rattle.station_law.specs.Lines.{doors_by, offered, connected, step}
 use Rattle.station_law.specs.Standing.{DoorsSeen, AreDoors, IsActed, Agree, AgreeUnless}
 use Rattle.station_law.specs.Shown.{HasOneArchive}
+use Rattle.station_law.specs.Sound.{IsSound}
 use Rattle.station_law.proofs.Following.{followed, offer_line_is}
 
 -- a world that runs further lines agrees
@@ -29,7 +29,7 @@ agree_unless false store doors agree = agree refl
 
 pub agrees : (spent : Bool) (store : Store) (doors : DoorsSeen) → spent ≡ false
     → AgreeUnless spent store doors → Agree store doors
-agrees spent store doors ready agree = subst (λ (b : Bool). AgreeUnless b store doors) ready agree
+agrees spent store doors ready agree = rw ready at agree
 
 -- the state that a store and doors are, at a reading of the clock
 abbrev state_of : Store → ℕ → Doors → State
@@ -39,8 +39,14 @@ one_of : (store : Store) (reading : ℕ) (doors : DoorsSeen) (agree : Agree stor
     → HasOneArchive (state_of store reading agree.stands)
 one_of store reading doors agree = record {
   sound = agree.sound;
-  same = ap (λ (b : books.State). b.published) (sym agree.are.book) ∙ agree.same;
+  same = rw (← agree.are.book) agree.same;
 }
+
+-- doors that have what is stored agree with it
+with_doors : (store : Store) (new : DoorsSeen) (d : Doors) → IsSound store → AreDoors new d
+    → d.book.published ≡ store.published → Agree store new
+with_doors store new d sound are same =
+    record { sound = sound; stands = d; are = are; same = rw (are.book) same }
 
 abbrev pub OneStays : Type 0
 OneStays = (state : State) (line : ScriptLine) → HasOneArchive state
@@ -63,43 +69,23 @@ offer_agrees law store entry outcome old new recorder valid agree said done foll
     subst (λ (a : Answer State). HasOneArchive a.next)
     (sym (offer_line_is state (Offer entry) entry refl valid))
     (law state (Offer entry) (one_of store 0 old agree)) in
-    let are : AreDoors new (offered state (entry_of entry)).next.doors =
-    followed store (entry_of entry) new agree.stands outcome said
-    (subst (λ (s : Store). AreDoors new (doors_by outcome (entry_of entry) s.published
-    agree.stands)) done.state (follows agree.stands agree.are)) in
-    subst (λ (s : Store). Agree s new) (sym done.state) (record {
-      sound = one.sound;
-      stands = (offered state (entry_of entry)).next.doors;
-      are = are;
-      same = ap (λ (b : books.State). b.published) are.book ∙ one.same;
-    })
+    rw (done.state) (with_doors (offered state (entry_of entry)).next.store new
+    (offered state (entry_of entry)).next.doors one.sound
+    (followed store (entry_of entry) new agree.stands outcome said
+    (rw (done.state) at (follows agree.stands agree.are))) one.same)
 
 pub acted_agrees : OneStaysAtDoors → (store : Store) (reading : ℕ) (line : ScriptLine)
     (said : Option SaidAt) (old new : DoorsSeen) → Agree store old
     → ((d : Doors) → AreDoors old d → IsActed said d (act d reading line) new) → Agree store new
 acted_agrees law store reading line said old new agree does =
-    by_case (act agree.stands reading line)
+    by_case (act agree.stands reading line) said
     (law (state_of store reading agree.stands) line (one_of store reading old agree))
     (does agree.stands agree.are)
   where
-    by_said : (a : Acted) (here : Option SaidAt) → HasOneArchive
-        (connected (state_of store reading agree.stands) (Some a)).next
-        → IsActed here agree.stands (Some a) new → Agree store new
-    by_said a None one is = absurd is
-    by_said a (Some s) one is = record {
-      sound = agree.sound;
-      stands = doors_after agree.stands a;
-      are = is.doors;
-      same = ap (λ (b : books.State). b.published) is.doors.book ∙ one.same;
-    }
-
-    by_case : (a : Option Acted) → HasOneArchive
-        (connected (state_of store reading agree.stands) a).next
+    by_case : (a : Option Acted) (said : Option SaidAt)
+        → HasOneArchive (connected (state_of store reading agree.stands) a).next
         → IsActed said agree.stands a new → Agree store new
-    by_case None one is = record {
-      sound = agree.sound;
-      stands = agree.stands;
-      are = is.1;
-      same = ap (λ (b : books.State). b.published) is.1.book ∙ one.same;
-    }
-    by_case (Some a) one is = by_said a said one is
+    by_case None said one is = with_doors store new agree.stands agree.sound is.1 one.same
+    by_case (Some a) None one is = absurd is
+    by_case (Some a) (Some s) one is =
+        with_doors store new (doors_after agree.stands a) agree.sound is.doors one.same

@@ -1,9 +1,8 @@
 -- What an archive is once it is opened again.
-use Rattle.std.proofs.Common.{◌≡◌, ℕ, ◌+◌, ◌-◌, Bool, true, false, Some}
-use Rattle.std.proofs.Common.{MatchOption, if◌then◌else◌, List, [], ◌∷◌, ◌++◌, length, take}
-use Rattle.std.proofs.Common.{drop, not, nat_lt, refl, sym, ap, subst, ◌∙◌, arith}
-use Rattle.std.proofs.lemmas.List.{append-nil}
-use Rattle.std.proofs.Common.{IsTrue}
+use Rattle.std.proofs.Common.{◌≡◌, ℕ, ◌-◌, Bool, true, false, Some, MatchOption, if◌then◌else◌}
+use Rattle.std.proofs.Common.{List, [], ◌∷◌, ◌++◌, length, take, drop, not, nat_lt, refl, sym}
+use Rattle.std.proofs.Common.{arith, IsTrue}
+use Rattle.std.proofs.lemmas.List.{append-nil, length_push}
 use Rattle.archive_terms.specs.Archive.{Entry}
 use Rattle.record_form.specs.Entry.{entry_of}
 use Rattle.record_form.specs.declared.entry.Entry as form
@@ -11,23 +10,18 @@ use Rattle.disk_model.specs.Calls.{AllMade}
 use Rattle.disk_model.specs.MemoryDisk.{DiskState, IsMadeCall, content_of, restarted}
 use Rattle.disk_model.specs.declared.call.Call.TheVariants.{Sync}
 use Rattle.gate_journal.specs.File.{StandsAt}
-use Rattle.gate_journal.specs.JournalState.{holds_batch, IsOldOrNew}
-use Rattle.frame_archive.specs.State as archives
+use Rattle.gate_journal.specs.JournalState.{holds_batch}
 use Rattle.frame_archive.specs.State.{ArchiveState, at_rest, times_of, failed_batch}
 use Rattle.frame_archive.specs.Acknowledges.{Acknowledges, Uses}
 use Rattle.station_law.specs.declared.order.Order.{Order}
-use Rattle.station_law.specs.declared.order.Strike.{Strike}
 use Rattle.station_law.specs.declared.order.Strike.TheVariants.{Fail}
 use Rattle.station_law.specs.declared.storing.Settled.TheVariants.{Failed}
 use Rattle.station_law.specs.Store.{Store}
-use Rattle.station_law.specs.Said.{told, fault}
-use Rattle.station_law.specs.Said as notices
-use Rattle.station_law.specs.Answer.{Answer}
-use Rattle.station_law.specs.Orders.{is_hit, behind_store, leaves_entry, found}
-use Rattle.station_law.specs.Entries.{used, stores, fails, struck, stores_under}
+use Rattle.station_law.specs.Orders.{is_hit}
+use Rattle.station_law.specs.Entries.{used, fails, struck}
 use Rattle.station_law.specs.IsHeld.{told_by, Rests, Takes, HoldsAllOrNone}
 use Rattle.station_law.specs.Storing.{IsDown, HasFailed, IsStruck, IsSettled}
-use Rattle.station_law.proofs.Disks.{IsCalm, calm_after, restarted_by}
+use Rattle.station_law.proofs.Disks.{IsCalm, calm_after}
 use Rattle.station_law.proofs.WorldArchives.{stands_at}
 use Rattle.station_law.proofs.Striking.{OneList}
 
@@ -44,10 +38,7 @@ module _ (one : OneList) (place : OnePlace) (left found : List Entry) (octets : 
 
   pub uses_are : octets ≡ used left
   uses_are =
-      let there : uses.0 ≡ used left - 1 =
-      place found left uses.0 (used left - 1) file uses.2 stands in
-      let is = uses.1 in
-      omega (arith, there, is)
+      omega (arith, place found left uses.0 (used left - 1) file uses.2 stands, uses.1)
 
 -- ---- behind a power failure
 
@@ -57,12 +48,10 @@ module _ (one : OneList) (place : OnePlace) (archive back now : ArchiveState Dis
     (λ pick. back.disk ≡ restarted archive.disk pick))
     (uses : Uses found now.used (content_of back.disk)) where
   back_disk : back.disk ≡ restarted archive.disk down.pick
-  back_disk = restarted_by archive.disk back.disk archive.disk.stopped down.pick down.stopped
-      back_is
+  back_disk = rw down.stopped at back_is
 
   there : StandsAt left (used left - 1) (content_of back.disk)
-  there = subst (λ (d : DiskState). StandsAt left (used left - 1) (content_of d)) (sym back_disk)
-      down.holds
+  there = rw back_disk down.holds
 
   pub found_left : found ≡ left
   found_left = found_is one place left found now.used (content_of back.disk) there uses
@@ -71,7 +60,7 @@ module _ (one : OneList) (place : OnePlace) (archive back now : ArchiveState Dis
       → Acknowledges told_by now found → AllMade IsMadeCall back.disk (Sync ∷ []) now.disk
       → Rests now left
   rests_left capacity now_is acknowledges made =
-      let calm = calm_after (Sync ∷ []) back.disk now.disk (subst IsCalm (sym back_disk) (record {
+      let calm = calm_after (Sync ∷ []) back.disk now.disk (rw back_disk (record {
         runs = refl;
         unsteered = record {
           goes_on = down.unsteered.goes_on;
@@ -80,20 +69,15 @@ module _ (one : OneList) (place : OnePlace) (archive back now : ArchiveState Dis
         };
       })) made in
       record {
-        acknowledges = subst (Acknowledges told_by now) found_left acknowledges;
-        waits = ap (λ (a : ArchiveState DiskState). a.waiting) now_is;
-        fresh = ap (λ (a : ArchiveState DiskState). a.is_stale) now_is;
+        acknowledges = rw found_left at acknowledges;
+        waits = cc;
+        fresh = cc;
         used_are = uses_are one place left found now.used (content_of back.disk) there uses;
         runs = calm.runs;
         unsteered = calm.unsteered;
       }
 
 -- ---- behind a store that failed
-
-pub one_more : (entries : List Entry) (entry : Entry)
-    → length (entries ++ entry ∷ []) ≡ length entries + 1
-one_more [] entry = refl
-one_more (first ∷ entries) entry = let more = one_more entries entry in omega (arith, more)
 
 module _ (one : OneList) (place : OnePlace) (archive now : ArchiveState DiskState) (calls : ℕ)
     (published found landed lost : List Entry) (entry : Entry)
@@ -118,7 +102,7 @@ module _ (one : OneList) (place : OnePlace) (archive now : ArchiveState DiskStat
 
   pub count_there : now.count
       ≡ length (if holds_batch calls then published ++ entry ∷ [] else published)
-  count_there = sym counted ∙ ap (λ (l : List Entry). length l) found_there
+  count_there = rw (← found_there) (sym counted)
 
   calm : IsCalm now.disk
   calm = calm_after (Sync ∷ []) archive.disk now.disk
@@ -128,27 +112,19 @@ module _ (one : OneList) (place : OnePlace) (archive now : ArchiveState DiskStat
       → (lost ≡ (if has then [] else entry ∷ []))
       × (published ++ landed ≡ (if has then published ++ entry ∷ [] else published))
   by_count true is =
-      let long = failed.acknowledges.agrees.counted in
-      let all = one_more published entry in
-      let more : now.count - archive.count ≡ 1 = omega (arith, is, long, all) in (
-        lost_is ∙ ap (λ n. drop n archive.waiting) more ∙ ap (drop 1) failed.waits,
-        ap (λ (l : List Entry). published ++ l) (landed_is ∙ ap (λ n. take n archive.waiting) more
-            ∙ ap (take 1) failed.waits),
-      )
+      let more : now.count - archive.count ≡ 1 =
+      omega (arith, is, failed.acknowledges.agrees.counted, length_push published entry) in
+      rw (lost_is, landed_is, more, failed.waits) (refl, refl)
   by_count false is =
-      let long = failed.acknowledges.agrees.counted in
-      let more : now.count - archive.count ≡ 0 = omega (arith, is, long) in (
-        lost_is ∙ ap (λ n. drop n archive.waiting) more ∙ failed.waits,
-        ap (λ (l : List Entry). published ++ l) (landed_is ∙ ap (λ n. take n archive.waiting) more)
-            ∙ append-nil published,
-      )
+      let more : now.count - archive.count ≡ 0 =
+      omega (arith, is, failed.acknowledges.agrees.counted) in
+      rw (lost_is, landed_is, more, failed.waits) (refl, append-nil published)
 
   pub rests_there : Rests now (if holds_batch calls then published ++ entry ∷ [] else published)
   rests_there = record {
-    acknowledges = subst (Acknowledges told_by now) (by_count (holds_batch calls) count_there).1
-        acknowledges;
-    waits = ap (λ (a : ArchiveState DiskState). a.waiting) now_is;
-    fresh = ap (λ (a : ArchiveState DiskState). a.is_stale) now_is;
+    acknowledges = rw (by_count (holds_batch calls) count_there).1 at acknowledges;
+    waits = cc;
+    fresh = cc;
     used_are = uses_are one place _ found now.used (content_of archive.disk) file uses;
     runs = calm.runs;
     unsteered = calm.unsteered;
@@ -157,23 +133,18 @@ module _ (one : OneList) (place : OnePlace) (archive now : ArchiveState DiskStat
   -- where none is lost the file holds the entry, and where one is it doesn't
   by_lost : (has some : Bool) → lost ≡ (if has then [] else entry ∷ [])
       → nat_lt 0 (length lost) ≡ some → has ≡ not some
-  by_lost true some none is = let no : some ≡ false = sym is ∙ rw none refl in rw no refl
-  by_lost false some one is = let yes : some ≡ true = sym is ∙ rw one refl in rw yes refl
+  by_lost has some none is = grind (arith, none, is)
 
   pub kept_all : nat_lt 0 (length lost) ≡ false → Rests now (published ++ entry ∷ [])
-  kept_all none = subst (λ (has : Bool). Rests now
-      (if has then published ++ entry ∷ [] else published))
-      (by_lost (holds_batch calls) false (by_count (holds_batch calls) count_there).0 none)
-      rests_there
+  kept_all none = rw (by_lost (holds_batch calls) false (by_count (holds_batch calls) count_there).0
+      none) at rests_there
 
   pub lost_all : nat_lt 0 (length lost) ≡ true
       → Rests now published × Takes now published entry
   lost_all some = (
-    subst (λ (has : Bool). Rests now (if has then published ++ entry ∷ [] else published))
-        (by_lost (holds_batch calls) true (by_count (holds_batch calls) count_there).0 some)
+    rw (by_lost (holds_batch calls) true (by_count (holds_batch calls) count_there).0 some) at
         rests_there,
-    ap (λ (a : ArchiveState DiskState). archives.refusal
-        (at_rest archive.disk a.capacity (used published) published) entry) now_is ∙ failed.taken,
+    rw now_is failed.taken,
   )
 
 -- while the archive can't be opened the file holds all or nothing of the store that failed
@@ -182,10 +153,8 @@ pub failed_images : (archive now : ArchiveState DiskState) (published : List Ent
     → now ≡ record archive { disk = now.disk; is_stale = true }
     → Acknowledges told_by now published → HoldsAllOrNone now.disk published (entry ∷ [])
 failed_images archive now published entry waits failed is acknowledges image there =
-    let batch : failed_batch now ≡ entry ∷ [] =
-    ap (λ (a : ArchiveState DiskState). failed_batch a) is
-    ∙ ap (λ n. take n archive.waiting) failed ∙ ap (take 1) waits in
-    subst (λ (b : List Entry). IsOldOrNew published b image) batch (acknowledges.images image there)
+    let batch : failed_batch now ≡ entry ∷ [] = rw (is, failed, waits) refl in
+    rw batch at (acknowledges.images image there)
 
 -- ---- what a store that was hit is told as
 
@@ -194,9 +163,7 @@ pub failed_so : (order : Order) (archive : ArchiveState DiskState) (published : 
     (entry again : form.Entry) → order.strike ≡ Fail → again ≡ entry
     → IsStruck order.strike order.calls archive published (entry_of entry)
     → HasFailed archive order.calls published (entry_of again)
-failed_so order archive published entry again fails same struck =
-    subst (λ (e : form.Entry). HasFailed archive order.calls published (entry_of e)) (sym same)
-    (subst (λ (s : Strike). IsStruck s order.calls archive published (entry_of entry)) fails struck)
+failed_so order archive published entry again fails same struck = rw same (rw fails at struck)
 
 -- it is told as the line of its entry says
 pub settled_failed : (state : Store) (entry again : form.Entry) (archive : ArchiveState DiskState)
@@ -206,24 +173,8 @@ pub settled_failed : (state : Store) (entry again : form.Entry) (archive : Archi
     else state.published)
     → Rests archive (state.published ++ entry_of again ∷ [])
     → IsSettled state (entry_of entry) archive (Failed entries)
-settled_failed state entry again archive order entries is hit fail same count rests =
-    let one = entry_of entry in
-    let there = found order state.published one in
-    let answer : stores_under state one state.order ≡ fails state one there =
-    ap (stores_under state one) is
-    ∙ ap (λ (b : Bool). if b then struck state one there order.strike
-    else stores (record state { order = behind_store order }) one) hit
-    ∙ ap (struck state one there) fail in
-    let long : entries ≡ length there =
-    count ∙ ap (λ (e : form.Entry). length (if holds_batch order.calls
-    then state.published ++ entry_of e ∷ [] else state.published)) same
-    ∙ ap (λ (s : Strike). length (if leaves_entry s order.calls
-    then state.published ++ one ∷ [] else state.published)) (sym fail) in
-    record {
-      said = ap (λ (n : ℕ). told fault ∷ told (notices.archive n) ∷ []) long
-          ∙ ap (λ (a : Answer Store). a.said) (sym answer);
-      rests = subst (λ (a : Answer Store). Rests archive a.next.published) (sym answer)
-          (subst (λ (e : form.Entry). Rests archive (state.published ++ entry_of e ∷ [])) same
-          rests);
-      published = ap (λ (a : Answer Store). a.next.published) (sym answer);
-    }
+settled_failed state entry again archive order entries is hit fail same count rests = record {
+  said = rw (is, hit, fail, count, same) refl;
+  rests = rw (is, hit, fail) (rw same at rests);
+  published = rw (is, hit, fail) refl;
+}

@@ -1,5 +1,5 @@
 -- Rounds of a connection, one after another.
-use Rattle.std.proofs.Common.{◌≡◌, ℕ, zero, suc, Option, Some, None, List, [], ◌++◌, refl, sym, ap}
+use Rattle.std.proofs.Common.{◌≡◌, ℕ, zero, suc, Option, Some, None, List, [], ◌++◌, refl, ap}
 use Rattle.std.proofs.Common.{subst, ◌∙◌, append_assoc}
 use Rattle.std.proofs.lemmas.List.{append-nil}
 use Rattle.std.proofs.lemmas.List.Sums.{fold-append}
@@ -26,39 +26,22 @@ behind said events ran = record {
 
 behind-behind : (s t : List LinkLine) (e f : List Event) (ran : Ran)
     → behind s e (behind t f ran) ≡ behind (s ++ t) (e ++ f) ran
-behind-behind s t e f ran =
-    let make : List LinkLine → List Event → Ran = λ said events.
-    record { said = said; events = events; left = ran.left } in
-    ap (λ (said : List LinkLine). make said (e ++ (f ++ ran.events)))
-    (sym (append_assoc s t ran.said))
-    ∙ ap (λ (events : List Event). make ((s ++ t) ++ ran.said) events)
-    (sym (append_assoc e f ran.events))
+behind-behind s t e f ran = simp append_assoc
 
 behind-none : (ran : Ran) (said : List LinkLine) (events : List Event)
     → ran.said ≡ [] → ran.events ≡ []
     → behind said events ran ≡ record { said = said; events = events; left = ran.left }
-behind-none ran said events no_said no_events =
-    let make : List LinkLine → List Event → Ran = λ s e.
-    record { said = s; events = e; left = ran.left } in
-    ap (λ (s : List LinkLine). make (said ++ s) (events ++ ran.events)) no_said
-    ∙ ap (λ (s : List LinkLine). make s (events ++ ran.events)) (append-nil said)
-    ∙ ap (λ (e : List Event). make said (events ++ e)) no_events
-    ∙ ap (λ (e : List Event). make said e) (append-nil events)
+behind-none ran said events no_said no_events = simp (no_said, no_events, append-nil)
 
 pub replay-append : (b : books.State) (e f : List Event)
     → replay b (e ++ f) ≡ replay (replay b e) f
 replay-append b e f = fold-append then_after b e f
 
 -- a connection is left, or isn't
-record IsLeft (b : Began) (v : links.ConnectionState) (o : Option Connected) : Type 0 where
-  l : Connected
-  so : o ≡ Some l
-  lives : Lives b v l
-
 left_there : (b : Began) (v : links.ConnectionState) (o : Option Connected) → AreLeft b (Some v) o
-    → IsLeft b v o
+    → (l : Connected) × (o ≡ Some l) × Lives b v l
 left_there b v None left = absurd left
-left_there b v (Some l) left = record { l = l; so = refl; lives = left }
+left_there b v (Some l) left = (l, refl, left)
 
 left_none : (b : Began) (o : Option Connected) → AreLeft b None o → o ≡ None
 left_none b None left = refl
@@ -85,7 +68,7 @@ module _ (site : Site) (c reading n : ℕ) (first : books.State) (l₀ : Connect
 
   pub begin : (v : links.ConnectionState) (left : ℕ) → n ≡ left → IsOpen site c v l₀
       → Going left first [] v
-  begin v left all open_so = subst (λ (m : ℕ). Going m first [] v) all (record {
+  begin v left all open_so = rw (← all) (record {
     l = l₀;
     open_so = open_so;
     events = [];
@@ -97,9 +80,8 @@ module _ (site : Site) (c reading n : ℕ) (first : books.State) (l₀ : Connect
   pub done : (b : books.State) (said : List LinkLine) (v : links.ConnectionState)
       → Going zero b said v → HasRan site c whole first b said (Some v)
   done b said v so_far =
-      subst (λ (ran : Ran). HasRan site c ran first b said (Some v))
-      (sym (so_far.is ∙ behind-none (rounds_of site c reading zero b (Some so_far.l)) said
-      so_far.events refl refl))
+      rw (so_far.is ∙ behind-none (rounds_of site c reading zero b (Some so_far.l)) said
+      so_far.events refl refl)
       (record { says = refl; book_is = so_far.book; leaves = so_far.open_so })
 
   -- a round more
@@ -123,23 +105,15 @@ module _ (site : Site) (c reading n : ℕ) (first : books.State) (l₀ : Connect
 
     book_on : after ≡ replay first events_on
     unfolding events_on
-    book_on = turned.book_is ∙ ap (λ (x : books.State). replay x made.events) so_far.book
-        ∙ sym (replay-append first so_far.events made.events)
+    book_on = cc (turned.book_is, replay-append first so_far.events made.events)
 
     -- the rounds that are left are made of what it left
     rest_is : (next : Option Connected) → made.next ≡ next
         → whole ≡ behind (said ++ more) events_on (rounds_of site c reading left after next)
     unfolding made events_on
     rest_is next is =
-        so_far.is ∙ ap (behind said so_far.events)
-        (ap (λ (x : List LinkLine). behind x made.events
-        (rounds_of site c reading left (replay b made.events) made.next)) (sym turned.says)
-        ∙ ap (λ (x : books.State). behind more made.events
-        (rounds_of site c reading left x made.next)) (sym turned.book_is)
-        ∙ ap (λ (x : Option Connected). behind more made.events
-        (rounds_of site c reading left after x)) is)
-        ∙ behind-behind said more so_far.events made.events
-        (rounds_of site c reading left after next)
+        rw (so_far.is, turned.says, turned.book_is, ← is) (behind-behind said made.said
+        so_far.events made.events (rounds_of site c reading left (replay b made.events) made.next))
 
     -- the connection is there still
     pub goes_on : (w : links.ConnectionState) → o ≡ Some w → Going left after (said ++ more) w
@@ -148,11 +122,11 @@ module _ (site : Site) (c reading n : ℕ) (first : books.State) (l₀ : Connect
         let there = left_there of w made.next
         (subst (λ (x : Option links.ConnectionState). AreLeft of x made.next) is turned.leaves) in
         record {
-          l = there.l;
-          open_so = record { entered = so_far.open_so.entered; lives = there.lives };
+          l = there.0;
+          open_so = record { entered = so_far.open_so.entered; lives = there.2 };
           events = events_on;
           book = book_on;
-          is = rest_is (Some there.l) there.so;
+          is = rest_is (Some there.0) there.1;
         }
 
     -- it isn't
@@ -160,9 +134,7 @@ module _ (site : Site) (c reading n : ℕ) (first : books.State) (l₀ : Connect
     over is =
         let none = left_none of made.next
         (subst (λ (x : Option links.ConnectionState). AreLeft of x made.next) is turned.leaves) in
-        subst (λ (ran : Ran). HasRan site c ran first after (said ++ more) None)
-        (sym (rest_is None none
+        rw (rest_is None none
         ∙ ap (behind (said ++ more) events_on) (gone site c reading left after)
         ∙ behind-none (record { said = []; events = []; left = None }) (said ++ more) events_on
-        refl refl))
-        (record { says = refl; book_is = book_on; leaves = tt })
+        refl refl) (record { says = refl; book_is = book_on; leaves = tt })

@@ -1,9 +1,9 @@
 -- What is left to write of what is said of a connection.
-use Rattle.std.proofs.Common.{◌≡◌, ℕ, ◌+◌, ◌≤◌, ◌<◌, List, [], ◌++◌, length, drop, map}
-use Rattle.std.proofs.Common.{get_or, refl, add-one, drop-cons}
-use Rattle.std.proofs.Common.{Option, Some, None, sym, ap, subst, ◌∙◌}
-use Rattle.std.proofs.Common.{Result, Ok, Err, inl, false}
+use Rattle.std.proofs.Common.{◌≡◌, ℕ, ◌+◌, ◌≤◌, ◌<◌, List, [], ◌++◌, length, drop, map, get_or}
+use Rattle.std.proofs.Common.{refl, add-one, drop-cons, Option, Some, None, subst, Result, Ok, Err}
+use Rattle.std.proofs.Common.{inl, false}
 use Rattle.std.proofs.lemmas.List.{drop_all, append-nil}
+use Rattle.std.proofs.Math.Path.{fun_ext}
 use Rattle.std.specs.Result.{IsErrAnd}
 use Rattle.std.specs.Prelude.{vec_items}
 use Rattle.drill_text.specs.declared.script_line.ScriptLine.{ScriptLine}
@@ -12,19 +12,16 @@ use Rattle.station_law.specs.declared.said.SaidAt.{SaidAt}
 use Rattle.station_law.specs.declared.step_done.StepDone.{StepDone}
 use Rattle.station_law.specs.declared.step_done.StepDone.TheVariants.{Fine, WrongState}
 use Rattle.station_law.specs.declared.stop.Stop.{Stop}
+use Rattle.station_law.specs.declared.stop.Stop.TheVariants.{WriteFault}
 use Rattle.station_law.specs.Output.{Wrote}
-use Rattle.station_law.specs.Steps.{at_start, behind_as, step_on, at_end, stopped_by}
+use Rattle.octet_core.specs.Writing.{writes-none, writes-append, writes-stopped}
 use Rattle.station_law.specs.Doors.{Doors, Acted, act}
 use Rattle.station_law.specs.State.{State}
-use Rattle.station_law.specs.Store.{Recorded}
 use Rattle.station_law.specs.Answer.{Answer}
-use Rattle.station_law.specs.Runs.{in_store}
-use Rattle.station_law.specs.Stopped.{IsStopped}
 use Rattle.station_law.specs.Standing.{AreDoors, IsActed, Seen, Stands, HasDone}
 use Rattle.station_law.specs.Does.{IsTaken, Does}
 use Rattle.station_law.specs.Lines.{connected}
 use Rattle.station_law.specs.Said.{Said, linked, text_of, texts}
-use Rattle.station_law.proofs.Results.{if_ok, on_ok, on_err}
 
 abbrev pub told_text : ℕ → List LinkLine → List ℕ
 told_text c lines = texts (map (linked c) lines)
@@ -51,75 +48,43 @@ done_by (Some said) = Fine
 -- it was done, all but its text
 module _ (old new : Seen) (same : new.recorder ≡ old.recorder) (clock : new.clock ≡ old.clock)
     (ready : old.recorder.is_spent ≡ false) where
-  record Tells (said : Option SaidAt) (a : Answer State) : Type 0 where
-    says : said_by said ≡ a.said
-    ends : done_by said ≡ a.done
-    next : HasDone a new
-
   done_then : (answer : Answer State) (state : State) → Stands old state
       → answer.next.store ≡ state.store → answer.next.clock ≡ state.clock
       → AreDoors new.doors answer.next.doors → HasDone answer new
   done_then answer state stands store reading doors = record {
-    stands = record {
-      store = ap (λ (r : Recorded). r.state) same ∙ stands.store ∙ sym store;
-      clock = clock ∙ stands.clock ∙ sym reading;
-      doors = doors;
-    };
-    ready = ap (λ (r : Recorded). r.is_spent) same ∙ ready;
+    stands = record { store = rw (same, store) stands.store; clock = cc; doors = doors };
+    ready = rw same ready;
   }
 
   tells : (said : Option SaidAt) (state : State) (a : Option Acted) → Stands old state
-      → IsActed said state.doors a new.doors → Tells said (connected state a)
-  tells None state None stands acted = record {
-    says = refl;
-    ends = refl;
-    next = done_then (connected state None) state stands refl refl acted.1;
-  }
+      → IsActed said state.doors a new.doors → (said_by said ≡ (connected state a).said)
+      × (done_by said ≡ (connected state a).done) × HasDone (connected state a) new
+  tells None state None stands acted =
+      (refl, refl, done_then (connected state None) state stands refl refl acted.1)
   tells None state (Some a) stands acted = absurd acted
   tells (Some said) state None stands acted = absurd (let no = acted.0 in cc)
-  tells (Some said) state (Some a) stands acted = record {
-    says = ap (λ (c : ℕ). map (linked c) (vec_items said.lines)) acted.c_is
-        ∙ ap (λ (lines : List LinkLine). map (linked a.c) lines) acted.says;
-    ends = refl;
-    next = done_then (connected state (Some a)) state stands refl refl acted.doors;
-  }
+  tells (Some said) state (Some a) stands acted = (
+    rw (acted.c_is, acted.says) refl,
+    refl,
+    done_then (connected state (Some a)) state stands refl refl acted.doors,
+  )
 
   pub acted_taken : (line : ScriptLine) (other said : Option SaidAt) → other ≡ said
       → ((d : Doors) → AreDoors old.doors d → IsActed other d (act d old.clock line) new.doors)
       → IsTaken (λ state. connected state (act state.doors state.clock line)) old new
       (said_by said) (done_by said)
   acted_taken line other said is acted = record {
-    says = λ state stands. (so state stands).says;
-    ends = λ state stands. (so state stands).ends;
-    next = λ state stands. (so state stands).next;
+    says = λ state stands. (so state stands).0;
+    ends = λ state stands. (so state stands).1;
+    next = λ state stands. (so state stands).2;
   }
     where
       so : (state : State) → Stands old state
-          → Tells said (connected state (act state.doors state.clock line))
+          → (said_by said ≡ (connected state (act state.doors state.clock line)).said)
+          × (done_by said ≡ (connected state (act state.doors state.clock line)).done)
+          × HasDone (connected state (act state.doors state.clock line)) new
       so state stands = tells said state (act state.doors state.clock line) stands
-          (subst (λ (o : Option SaidAt). IsActed o state.doors
-          (act state.doors state.clock line) new.doors) is
-          (subst (λ (n : ℕ). IsActed other state.doors (act state.doors n line) new.doors)
-          stands.clock (acted state.doors stands.doors)))
-
--- ---- a text that was written whole, or not
-
-pub all_told : {T U : Type 0} (start now : Option (List ℕ)) (f g : ℕ) (whole text : List ℕ)
-    (value : T) (other : U) → whole ≡ text → Wrote {T = T} start now f g text (Ok value)
-    → Wrote {T = U} start now f g whole (Ok other)
-all_told {T} start now f g whole text value other is wrote =
-    at_end start now f g whole other
-    (step_on {T = T} start start now f f g whole text [] value
-    (behind_as start start f f whole whole (text ++ []) (is ∙ sym (append-nil text))
-    (at_start start f whole)) wrote)
-
-pub cut_off : {T U : Type 0} (start now : Option (List ℕ)) (f g : ℕ) (whole text : List ℕ)
-    (stop : Stop) (result : Result U Stop) → IsErrAnd result (λ e. e ≡ stop) → whole ≡ text
-    → Wrote {T = T} start now f g text (Err stop) → Wrote {T = U} start now f g whole result
-cut_off {T} start now f g whole text stop result stopped is wrote =
-    stopped_by {T = T} start start now f f g whole text [] stop result stopped
-    (behind_as start start f f whole whole (text ++ []) (is ∙ sym (append-nil text))
-    (at_start start f whole)) wrote
+          (rw (is, stands.clock) at (acted state.doors stands.doors))
 
 -- ---- a step's text
 
@@ -129,9 +94,10 @@ pub told : {T : Type 0} {answer : State → Answer State} {old new : Seen} {said
     → (before after : Option (List ℕ)) (f g : ℕ) (value : T)
     → Wrote {T = T} before after f g (texts said) (Ok value)
     → Does answer old new before after f g (Ok done)
-told taken before after f g value wrote = record {
-  written = λ state stands. all_told before after f g _ _ value _
-      (ap texts (sym (taken.says state stands))) wrote;
+told {said = said} {done = done} taken before after f g value wrote = record {
+  written = λ state stands. rw (← taken.says state stands) (rw append-nil at (writes-append
+      WriteFault before after after f g g (texts said) [] value (Ok done) wrote
+      (writes-none WriteFault after g done)));
   done = taken.ends;
   next = taken.next;
   write_fault = λ fault. absurd cc;
@@ -143,8 +109,7 @@ pub told_nothing : {answer : State → Answer State} {old new : Seen} {done : St
     → IsTaken answer old new [] done → (output : Option (List ℕ)) (f : ℕ)
     → Does answer old new output output f f (Ok done)
 told_nothing taken output f =
-    told {T = Unit {0}} taken output output f f tt
-    (at_end output output f f [] tt (at_start output f []))
+    told {T = Unit {0}} taken output output f f tt (writes-none WriteFault output f tt)
 
 -- it wasn't written whole
 pub untold : {T : Type 0} {answer : State → Answer State} {old new : Seen} {said : List Said}
@@ -153,9 +118,10 @@ pub untold : {T : Type 0} {answer : State → Answer State} {old new : Seen} {sa
     → IsErrAnd result (λ e. e ≡ stop) → Wrote {T = T} before after f g (texts said) (Err stop)
     → Does answer old new before after f g result
 untold taken before after f g stop (Ok value) stopped wrote = absurd stopped
-untold taken before after f g stop (Err e) stopped wrote = record {
-  written = λ state stands. cut_off before after f g _ _ stop (Err e) stopped
-      (ap texts (sym (taken.says state stands))) wrote;
+untold {said = said} taken before after f g stop (Err e) stopped wrote = record {
+  written = λ state stands. rw (← taken.says state stands, stopped)
+      (rw append-nil at (writes-stopped {U = StepDone} WriteFault before after f g (texts said) []
+      stop wrote));
   done = tt;
   next = tt;
   write_fault = λ fault. taken.next;
@@ -167,16 +133,6 @@ pub does_as : {one other : State → Answer State} {old new : Seen}
     {before after : Option (List ℕ)} {f g : ℕ} {result : Result StepDone Stop}
     → ((state : State) → one state ≡ other state)
     → Does one old new before after f g result → Does other old new before after f g result
-does_as {one} {other} {old} {new} {before} {after} {f} {g} {result} same does = record {
-  written = λ state stands. subst (λ (a : Answer State). Wrote before after f g (texts a.said)
-      result) (same state) (does.written state stands);
-  done = if_ok _ _ result (λ done is state stands.
-      is state stands ∙ ap (λ (a : Answer State). a.done) (same state)) does.done;
-  next = on_ok _ _ result (λ is state stands.
-      subst (λ (a : Answer State). HasDone a new) (same state) (is state stands)) does.next;
-  write_fault = λ fault state stands. subst (λ (a : Answer State). HasDone a new) (same state)
-      (does.write_fault fault state stands);
-  stopped = on_err _ _ result (λ is state stands.
-      subst (λ (a : Answer State). IsStopped old.recorder (in_store a) new.recorder) (same state)
-      (is state stands)) does.stopped;
-}
+does_as {old} {new} {before} {after} {f} {g} {result} same does =
+    subst (λ (step : State → Answer State). Does step old new before after f g result)
+    (fun_ext same) does

@@ -1,16 +1,11 @@
-use Rattle.std.proofs.Common.{ℕ, List, [], ◌∷◌}
-use Rattle.archive_terms.specs.Archive.{Entry}
+use Rattle.std.proofs.lemmas.Result.{err_from_is_err_and}
 use Rattle.record_form.specs.Entry.{entry_of}
-use Rattle.station_law.specs.IsHeld.{HoldsAllOrNone}
-use Rattle.station_law.specs.Storing.{HasFailed}
-use Rattle.station_law.proofs.WorldArchives.{on_err}
 use Rattle.station_law.proofs.storing.settle.Goals as goal
 
 pub returns-in_err-opened-clause-images : goal.returns-in_err-opened-clause-images
-returns-in_err-opened-clause-images c = on_err {P = (calls : ℕ) (published : List Entry)
-    → HasFailed c.args.archive.now calls published (entry_of c.args.again)
-    → HoldsAllOrNone c.reopen.new.archive.disk published (entry_of c.args.again ∷ [])} _
-    (λ calls published failed.
+returns-in_err-opened-clause-images c =
+    let err = err_from_is_err_and c.from_residual.result c.from_residual.ensures.1 in
+    rw (err.1) (λ calls published failed.
     c.in_err-opened.ensures.images calls published (entry_of c.args.again) failed)
 
 pub returns-then-not-is_lost-clause-rests : goal.returns-then-not-is_lost-clause-rests
@@ -25,10 +20,10 @@ store_again-requires-clause-taken c =
     (f.1, lost.0, lost.1)
 
 pub returns-in_err-store_again-clause-images : goal.returns-in_err-store_again-clause-images
-returns-in_err-store_again-clause-images c = on_err {P = (calls : ℕ) (published : List Entry)
-    → HasFailed c.args.archive.now calls published (entry_of c.args.again)
-    → HoldsAllOrNone c.store_again.new.archive.disk published (entry_of c.args.again ∷ [])} _
-    (λ calls published failed.
+returns-in_err-store_again-clause-images c =
+    let err = err_from_is_err_and c.from_residual-in_err-store_again.result
+    c.from_residual-in_err-store_again.ensures.1 in
+    rw (err.1) (λ calls published failed.
     let lost = c.in_ok-opened.ensures.lost c.if-not-is_lost.false calls published
     (entry_of c.args.again) failed in
     c.in_err-store_again.ensures.images published lost.0 lost.1)

@@ -1,10 +1,10 @@
 use Rattle.std.proofs.Common.{◌∙◌, Option, [], ◌∷◌, subst}
+use Rattle.std.proofs.lemmas.Result.{on_err_weaker}
 use Rattle.record_form.specs.Entry.{entry_of}
 use Rattle.disk_model.specs.Calls.{follows_if_ok}
 use Rattle.frame_archive.specs.declared.fault.OfferFault.{OfferFault}
 use Rattle.frame_archive.specs.Faults.{IsRefusal}
 use Rattle.station_law.proofs.WorldArchives.{none_stored, takes_so, waits_now}
-use Rattle.station_law.proofs.Results.{on_err}
 use Rattle.station_law.proofs.storing.store_again.Goals as goal
 
 pub only_memory-requires : goal.only_memory-requires
@@ -26,7 +26,7 @@ returns-clause-rests c = follows_if_ok c.store.result c.store.ensures.stored
     (c.in_default.ensures.acknowledged published rests.acknowledges)))
 
 pub returns-clause-images : goal.returns-clause-images
-returns-clause-images c = on_err _ _ c.store.result
+returns-clause-images c = on_err_weaker c.store.result
     (λ images published rests takes. images published (entry_of c.args.again)
     (waits_now c.args.archive.now c.offer.new.self published (entry_of c.args.again) rests
     c.in_default.ensures.in_order c.in_default.ensures.taken

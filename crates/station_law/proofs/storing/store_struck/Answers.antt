@@ -1,9 +1,6 @@
-use Rattle.std.proofs.Common.{List, [], ◌∷◌, subst}
-use Rattle.archive_terms.specs.Archive.{Entry}
+use Rattle.std.proofs.Common.{[], ◌∷◌}
+use Rattle.std.proofs.lemmas.Result.{err_from_is_err_and}
 use Rattle.record_form.specs.Entry.{entry_of}
-use Rattle.record_form.specs.declared.entry.Entry as form
-use Rattle.station_law.specs.IsHeld.{Waits, HoldsAllOrNone}
-use Rattle.station_law.proofs.WorldArchives.{on_err}
 use Rattle.station_law.proofs.Reopening.{failed_so, settled_failed}
 use Rattle.station_law.proofs.storing.store_struck.Goals as goal
 
@@ -12,18 +9,18 @@ strike-requires-clause-waits c =
     (c.requires.waits.0, entry_of c.args.entry.now, c.requires.waits.1)
 
 pub returns-in_err-found-in-Stop-clause-images : goal.returns-in_err-found-in-Stop-clause-images
-returns-in_err-found-in-Stop-clause-images c = on_err {P = (published : List Entry)
-    → Waits c.args.archive.now published (entry_of c.args.entry.now)
-    → HoldsAllOrNone c.restart.new.archive.disk published (entry_of c.args.entry.now ∷ [])} _
-    (λ published waits.
+returns-in_err-found-in-Stop-clause-images c =
+    let err = err_from_is_err_and c.from_residual-in_err-found-in-Stop.result
+    c.from_residual-in_err-found-in-Stop.ensures.1 in
+    rw (err.1) (λ published waits.
     c.in_err-found-in-Stop.ensures.images published (entry_of c.args.entry.now ∷ [])
     (c.strike.ensures.images published (entry_of c.args.entry.now) waits))
 
 pub returns-in_err-again-in-Fail-clause-images : goal.returns-in_err-again-in-Fail-clause-images
-returns-in_err-again-in-Fail-clause-images c = on_err {P = (published : List Entry)
-    → Waits c.args.archive.now published (entry_of c.args.entry.now)
-    → HoldsAllOrNone c.strike.new.archive.disk published (entry_of c.args.entry.now ∷ [])} _
-    (λ published waits.
+returns-in_err-again-in-Fail-clause-images c =
+    let err = err_from_is_err_and c.from_residual-in_err-again-in-Fail.result
+    c.from_residual-in_err-again-in-Fail.ensures.1 in
+    rw (err.1) (λ published waits.
     c.strike.ensures.images published (entry_of c.args.entry.now) waits)
 
 pub settle-requires-clause-failed : goal.settle-requires-clause-failed
@@ -37,15 +34,14 @@ settle-requires-clause-failed c = (
 )
 
 pub returns-in_err-entries-in-Fail-clause-images : goal.returns-in_err-entries-in-Fail-clause-images
-returns-in_err-entries-in-Fail-clause-images c = on_err {P = (published : List Entry)
-    → Waits c.args.archive.now published (entry_of c.args.entry.now)
-    → HoldsAllOrNone c.settle.new.archive.disk published (entry_of c.args.entry.now ∷ [])} _
-    (λ published waits.
+returns-in_err-entries-in-Fail-clause-images c =
+    let err = err_from_is_err_and c.from_residual-in_err-entries-in-Fail.result
+    c.from_residual-in_err-entries-in-Fail.ensures.1 in
+    rw (err.1) (λ published waits.
     let failed = failed_so c.args.order c.strike.new.archive published c.args.entry.now
     c.in_ok-again-in-Fail.again c.in-Fail.is c.in_ok-again-in-Fail.ensures
     (c.in_ok-strike.ensures.struck published (entry_of c.args.entry.now) waits) in
-    subst (λ (e : form.Entry). HoldsAllOrNone c.settle.new.archive.disk published (entry_of e ∷ []))
-    c.in_ok-again-in-Fail.ensures
+    rw c.in_ok-again-in-Fail.ensures at
     (c.in_err-entries-in-Fail.ensures.images c.args.order.calls published failed))
 
 pub returns-in_ok-entries-in-Fail-clause-settled : goal.returns-in_ok-entries-in-Fail-clause-settled

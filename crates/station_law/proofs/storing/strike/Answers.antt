@@ -1,12 +1,11 @@
-use Rattle.std.proofs.Common.{◌≡◌, ◌∙◌, ap, rules, List, [], ◌∷◌}
+use Rattle.std.proofs.Common.{◌≡◌, rules, List, [], ◌∷◌}
 use Rattle.archive_terms.specs.Archive.{Entry}
-use Rattle.disk_model.specs.declared.orders.Orders.{Orders}
 use Rattle.disk_model.specs.MemoryDisk.{steered}
 use Rattle.station_law.specs.IsHeld.{Waits, HoldsAllOrNone}
 use Rattle.station_law.specs.Storing.{orders_by}
 use Rattle.station_law.proofs.WorldArchives.{none_stored}
-use Rattle.station_law.proofs.Striking.{Struck, never_made, struck_by, told_as, told_still}
-use Rattle.station_law.proofs.Striking.{told_images, images_told, failed_there}
+use Rattle.station_law.proofs.Striking.{Struck, never_made, struck_by, told_still, told_images}
+use Rattle.station_law.proofs.Striking.{failed_there}
 use Rattle.station_law.proofs.storing.strike.Goals as goal
 use Rattle.station_law.proofs.storing.strike.Goals.{After-store}
 
@@ -27,15 +26,14 @@ laws c = record {
 told : (c : After-store) → c.steer.new.self ≡ record c.args.archive.now {
   disk = steered c.args.archive.now.disk (orders_by c.args.order.strike c.args.order.calls);
 }
-told c = told_as c.args.archive.now c.steer.new.self c.in_ok-orders.orders c.args.order
-    c.steer.ensures.steered c.in_ok-orders.ensures
+told c = rw c.in_ok-orders.ensures at c.steer.ensures.steered
 
 -- whatever became of the store
 images : (c : After-store) → (published : List Entry) (one : Entry)
     → Waits c.args.archive.now published one
     → HoldsAllOrNone c.store.new.self.disk published (one ∷ [])
-images c published one waits = told_images c.args.archive.now c.steer.new.self c.store.new.self
-    c.in_ok-orders.orders published one waits c.steer.ensures.steered
+images c published one waits = told_images c.args.archive.now c.steer.new.self
+    c.in_ok-orders.orders published one waits c.steer.ensures.steered c.store.new.self
     (λ fresh. c.store.ensures.any_moment fresh published)
 
 pub returns-in_err-orders-clause-images : goal.returns-in_err-orders-clause-images
@@ -46,9 +44,9 @@ returns-in_err-orders-clause-images c = λ published one waits.
 pub unreachable-requires : goal.unreachable-requires
 unreachable-requires c =
     let at = (goal.at.unreachable-requires c).After-store in
-    never_made (laws at) c.args.order.strike c.args.order.calls c.requires.to_come c.requires.hit
-    c.args.archive.now c.steer.new.self c.requires.waits.0 c.requires.waits.1 c.requires.waits.2
-    (told at) c.store.new.self.disk c.in-Ok.ensures.calls
+    never_made (laws at) c.args.order.calls c.requires.to_come c.requires.hit c.args.archive.now
+    c.requires.waits.0 c.requires.waits.1 c.requires.waits.2 c.args.order.strike
+    c.steer.new.self (told at) c.store.new.self.disk c.in-Ok.ensures.calls
 
 pub returns-in-Err : goal.returns-in-Err
 returns-in-Err c = record {
@@ -64,22 +62,17 @@ returns-then-wants_memory-clause-images c =
 pub returns-clause-struck : goal.returns-clause-struck
 returns-clause-struck c = λ published one waits.
     let at = (goal.at.returns-clause-struck c).After-store in
+    let orders = orders_by c.args.order.strike c.args.order.calls in
     struck_by (laws at) c.args.order.calls c.requires.to_come c.requires.hit c.args.archive.now
     published one waits (c.steer.ensures.at_rest waits.is_at.fresh) c.args.order.strike
     c.steer.new.self c.store.new.self c.steer-2.new.self (told at)
     (c.store.ensures.failed (search rules))
-    (c.steer-2.ensures.steered ∙ ap (λ (o : Orders). record c.store.new.self {
-      disk = steered c.store.new.self.disk o;
-    }) c.no_orders.ensures)
+    (rw c.no_orders.ensures at c.steer-2.ensures.steered)
     (c.in-Err-DiskFault.ensures.still published (told_still c.args.archive.now c.steer.new.self
-    c.args.order.strike c.args.order.calls published one waits (told at)))
-    (search rules)
-    (failed_there c.args.archive.now c.steer.new.self c.args.order.strike c.args.order.calls
-    published one waits (told at) c.store.new.self.disk
-    (c.store.ensures.failed_calls (search rules)))
+    orders published one waits (told at))) (search rules)
+    (failed_there c.args.archive.now c.steer.new.self orders published one waits (told at)
+    c.store.new.self.disk (c.store.ensures.failed_calls (search rules)))
 
 pub returns-clause-images : goal.returns-clause-images
-returns-clause-images c = λ published one waits.
-    images_told c.store.new.self c.steer-2.new.self c.no_orders.result published (one ∷ [])
-    c.steer-2.ensures.steered
+returns-clause-images c = λ published one waits. rw c.steer-2.ensures.steered
     (images (goal.at.returns-clause-images c).After-store published one waits)

@@ -1,12 +1,12 @@
 use Rattle.std.proofs.Common.{subst}
+use Rattle.std.proofs.lemmas.Result.{IfOk-weaker}
 use Rattle.station_law.specs.Standing.{IsActed}
 use Rattle.station_law.proofs.AtDoors.{goes, no_opening}
-use Rattle.station_law.proofs.Results.{if_ok}
 use Rattle.station_law.proofs.doors.Doors.act.Goals as goal
 
 pub returns : goal.returns
 returns c = record {
-  acted = if_ok _ _ c.go_on.result (λ said rounds d are.
+  acted = IfOk-weaker c.go_on.result _ _ (λ said rounds d are.
       subst (λ acted. IsActed said d acted c.go_on.new.self)
       (no_opening d c.args.reading c.args.line.now c.in_default.not-Open)
       (goes c.args.self.now c.put_at.new.self c.go_on.new.self d c.args.reading
