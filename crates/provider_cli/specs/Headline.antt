@@ -12,6 +12,7 @@ use Rattle.archive_terms.specs.Delivery.{end_of_data, is_end_of_data}
 use Rattle.archive_terms.specs.Rounds.{free_round, outcomes, handed_buffers}
 use Rattle.station_config.specs.declared.site.Site.{Site}
 use Rattle.provider_cli.specs.declared.status.Status.{Status}
+use Rattle.station_desk.specs.declared.limits.TheConstants.{BUFFER_ITEMS}
 use Rattle.station_desk.specs.Start.{moment}
 use Rattle.station_law.specs.State.{start as new_world}
 use Rattle.station_law.specs.Said.{sent_text}
@@ -39,7 +40,7 @@ HasHeadline input =
 abbrev pub terms_of : ℕ → Start → Terms
 terms_of latency s = record {
   mode = offline;
-  size = 2;
+  size = BUFFER_ITEMS;
   latency = latency;
   selection = selection s.start s.stop s.quality;
 }

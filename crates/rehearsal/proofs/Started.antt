@@ -9,6 +9,7 @@ use Rattle.std.specs.List.{count_by, list_any}
 use Rattle.sha1.specs.Sha1.{Holds}
 use Rattle.frame_select.specs.declared.item.Item.{Item}
 use Rattle.frame_select.specs.Item.{items_of, item_of, said_of}
+use Rattle.station_desk.specs.declared.limits.TheConstants.{BUFFER_ITEMS}
 use Rattle.station_desk.specs.ToldBuffer.{ToldBuffer, message_octets}
 use Rattle.station_desk.specs.Cursor.{Cursor, at_next, current}
 use Rattle.rehearsal.specs.declared.tally.Tally.{Tally}
@@ -21,15 +22,16 @@ pub record HasCounted (told : List ToldBuffer) (cursor : Cursor) (tally : Tally)
   pub of_told : cursor.buffers ≡ told
   pub within : cursor.count ≤ length told
   pub counts : Counts tally (take cursor.count told)
-  pub frames : tally.frames ≤ 2 * cursor.count
+  pub frames : tally.frames ≤ BUFFER_ITEMS * cursor.count
   pub buffers : tally.buffers ≤ cursor.count
-  pub ends : tally.ends ≤ 2 * cursor.count
+  pub ends : tally.ends ≤ BUFFER_ITEMS * cursor.count
 
 at_most_one : (b : Bool) → cond b 1 0 ≤ 1
 at_most_one true = omega arith
 at_most_one false = omega arith
 
-few_of : (test : _) (items : List Item) → length items ≤ 2 → count_by test (items_of items) ≤ 2
+few_of : (test : _) (items : List Item) → length items ≤ BUFFER_ITEMS
+    → count_by test (items_of items) ≤ BUFFER_ITEMS
 few_of test items few = omega (
   arith,
   count_by-le-length test (items_of items),
@@ -54,7 +56,8 @@ next_count told old new is next has =
 
 pub counted_more : (told : List ToldBuffer) (old new : Cursor) (before after : Tally)
     (items : List Item) (message : List ℕ) → HasCounted told old before → new ≡ at_next old
-    → new.has_current ≡ true → items_of items ≡ map said_of (current new) → length items ≤ 2
+    → new.has_current ≡ true → items_of items ≡ map said_of (current new)
+    → length items ≤ BUFFER_ITEMS
     → message ≡ message_octets (current new)
     → after.frames ≡ before.frames + count_by tells_frame (items_of items)
     → after.buffers ≡ before.buffers + cond (list_any tells_frame (items_of items)) 1 0

@@ -33,6 +33,7 @@ use Rattle.cds_time.specs.Octets.{FieldsFit}
 use Rattle.cds_time.specs.declared.cds.Cds.{Cds}
 use Rattle.cds_time.specs.declared.cds.Rest.{Rest}
 use Rattle.cds_time.specs.declared.cds.Rest.TheVariants.{Micros, Picos}
+use Rattle.station_desk.specs.declared.limits.TheConstants.{BUFFER_ITEMS}
 use Rattle.station_desk.specs.ToldBuffer.{ToldBuffer, item_tree, buffer_message}
 use Rattle.station_desk.specs.Start.{selection}
 use Rattle.station_desk.specs.Readable.{item_said, IsHanded, IsReadable, AreReadable}
@@ -82,20 +83,20 @@ both_offline (x ∷ xs) ys all =
 -- ---- the buffers of a START
 
 abbrev HasFew : List Item → Type 0
-HasFew items = length items ≤ 2
+HasFew items = length items ≤ BUFFER_ITEMS
 
 abbrev pub CutsAreBuffers : Type 0
 CutsAreBuffers = (size : ℕ) (items : List Item) → 0 < size → All (IsBuffer size) (cut size items)
 
 buffers_few : CutsAreBuffers → (entries : List (ℕ × terms.Entry)) (closed : Bool)
-    → All HasFew (offline_buffers 2 entries closed)
+    → All HasFew (offline_buffers BUFFER_ITEMS entries closed)
 buffers_few cuts entries closed =
-    let buffers = cut 2 (archived_items entries) in
-    let few : All HasFew buffers = All-weaker (IsBuffer 2) HasFew (λ b is. is.few) buffers
-    (cuts 2 (archived_items entries) (omega arith)) in
-    elim closed as (λ b. All HasFew (offline_buffers 2 entries b)) [
+    let buffers = cut BUFFER_ITEMS (archived_items entries) in
+    let few : All HasFew buffers = All-weaker (IsBuffer BUFFER_ITEMS) HasFew (λ b is. is.few) buffers
+    (cuts BUFFER_ITEMS (archived_items entries) (omega arith)) in
+    elim closed as (λ b. All HasFew (offline_buffers BUFFER_ITEMS entries b)) [
       | true ↦ All-push HasFew buffers (end_of_data ∷ []) few (omega arith)
-      | false ↦ All-filter (is_complete 2) HasFew buffers few
+      | false ↦ All-filter (is_complete BUFFER_ITEMS) HasFew buffers few
     ]
 
 -- ---- what a buffer says
@@ -209,7 +210,8 @@ module _ (entries : List terms.Entry) (short : FramesAreShort) (plain : FramesAr
       let items = map item_said (told_items entries before buffer) in
       let octets = canonical (transfer_buffer members) in
       let s = say before buffer all in
-      let fits : length octets ≤ 131682 = buffer_small members 131672 (omega (arith, s.small)) in
+      let fits : length octets ≤ most_octets * BUFFER_ITEMS + 10 =
+      buffer_small members (most_octets * BUFFER_ITEMS) (omega (arith, s.small)) in
       let fit : (said.buffer Raf).Fits items = record {
         few = omega (arith, s.count, length-map (told_items entries before buffer) item_said);
         each = s.fit;
@@ -240,13 +242,13 @@ module _ (entries : List terms.Entry) (short : FramesAreShort) (plain : FramesAr
   pub start_readable : CutsAreBuffers → (start stop : Cds) (quality : ℕ) (closed : Bool)
       → is_archive entries ≡ true
       → (let chosen = picked entries (selection start stop quality) in
-      let items = flat_map (λ b. b) (offline_buffers 2 chosen closed) in
+      let items = flat_map (λ b. b) (offline_buffers BUFFER_ITEMS chosen closed) in
       take (length items) (all_items chosen closed) ≡ items)
       → AreReadable (told_buffers entries None
-      (offline_buffers 2 (picked entries (selection start stop quality)) closed))
+      (offline_buffers BUFFER_ITEMS (picked entries (selection start stop quality)) closed))
   start_readable cuts start stop quality closed archive begins =
       let chosen = picked entries (selection start stop quality) in
-      let buffers = offline_buffers 2 chosen closed in
+      let buffers = offline_buffers BUFFER_ITEMS chosen closed in
       let picks : All IsOffline (archived_items chosen) =
       All-from_recursion IsOffline (archived_items chosen) (picks_are start stop quality 0 entries
       (and_parts (list_all is_storable entries) (is_ordered entries) archive).0) in

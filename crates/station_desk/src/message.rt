@@ -45,7 +45,7 @@ fn content_length(items: &[Item]) -> usize
     requires few { length items.now ≤ BUFFER_ITEMS }
     requires handed { AllByRecursion IsHanded (items_of items.now) }
     ensures exact { result ≡ length (items_spelled (map item_tree (items_of items.now))) }
-    ensures small { result ≤ 131672 }
+    ensures small { result ≤ 65836 * BUFFER_ITEMS }
 {
     let mut content = 0;
     for item in items {

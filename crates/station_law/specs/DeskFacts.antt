@@ -11,6 +11,7 @@ use Rattle.archive_terms.specs.Selection.{Selection, picked}
 use Rattle.archive_terms.specs.Delivery.{Item, Terms, all_items, offline_buffers}
 use Rattle.archive_terms.specs.Rounds.{to_hand_over}
 use Rattle.archive_terms.specs.Continuity.{told_items, told_buffers, last_frame}
+use Rattle.station_desk.specs.declared.limits.TheConstants.{BUFFER_ITEMS}
 use Rattle.station_desk.specs.Start.{moment}
 use Rattle.station_law.specs.Store.{Store}
 use Rattle.station_desk.specs.ToldBuffer.{ToldBuffer}
@@ -94,9 +95,9 @@ module _ (laws : Delivers) (state : Store) (start stop : Cds) (quality : ℕ) wh
   unfolding began
   right = record {
     begins = λ later archive. rw items_are (laws.stays (terms start stop quality) state.published
-        later _ archive (laws.holds 2 (picked state.published (selection start stop quality))
+        later _ archive (laws.holds BUFFER_ITEMS (picked state.published (selection start stop quality))
         (is_closed state.published (moment stop))));
-    told = λ later. rw items_are (laws.told_stays 2 state.published later
+    told = λ later. rw items_are (laws.told_stays BUFFER_ITEMS state.published later
         (selection start stop quality) (is_closed state.published (moment stop)));
   }
 
