@@ -9,9 +9,9 @@
 // In code a world is a `Recorder`, which stores, and `Doors`, a book with the connections over it.
 // Which world of the definitions it stands for is a relation (`specs/Standing.antt`).
 //
-// An entry's line costs one batch of the archive, a START's one pass over the published entries,
-// and a connection's its rounds. An entry is shared by the archive, the published ones and the
-// book, and its octets aren't copied for that.
+// An entry's line costs one batch of the archive, a START's a look at the published entries for
+// each of its buffers, and a connection's its rounds. An entry is shared by the archive, the
+// published ones and the book, and its octets aren't copied for that.
 #![tactic(auto)]
 
 mod desk;

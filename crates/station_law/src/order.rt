@@ -31,14 +31,14 @@ pub struct Order {
 }
 
 impl Order {
-    // Whether the next store makes its call.
+    /// Whether the next store makes its call.
     pub fn is_hit(self) -> bool
         ensures { result ≡ is_hit self }
     {
         self.calls <= STORE_CALLS
     }
 
-    // The order behind a store, or none where the store makes its call.
+    /// The order behind a store, or none where the store makes its call.
     pub fn behind_store(self) -> Option<Order>
         ensures { result ≡ behind_store self }
     {
@@ -49,7 +49,7 @@ impl Order {
         Some(Order { calls, ..self })
     }
 
-    // As a disk in memory takes it.
+    /// As a disk in memory takes it.
     pub fn orders(self, alloc: Global) -> Result<Orders, Memory>
         ensures { IfOk result (λ orders. orders ≡ orders_of self) }
     {

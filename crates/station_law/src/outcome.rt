@@ -28,7 +28,7 @@ pub enum Outcome {
 }
 
 impl Outcome {
-    // Writes its lines of the transcript.
+    /// Writes its lines of the transcript.
     pub fn put<O: Sink>(&self, alloc: Global, output: &mut O) -> Result<(), Stop>
         ensures { Wrote (O.written output.old) (O.written output.new)
             (O.faults output.old) (O.faults output.new)
@@ -46,7 +46,7 @@ impl Outcome {
         }
     }
 
-    // How the entry's line ends.
+    /// How the entry's line ends.
     pub fn done(&self) -> StepDone
         ensures { result ≡ done_of self.now }
     {

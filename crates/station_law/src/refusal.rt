@@ -25,7 +25,7 @@ pub enum Refusal {
 }
 
 impl Refusal {
-    // The refusal of an archive in which nothing waits.
+    /// The refusal of an archive in which nothing waits.
     pub fn of(fault: OfferFault) -> Result<Refusal, Memory>
         requires { IsOfOffer fault }
         ensures ok { IfOk result (λ why. fault_of why ≡ fault) }
@@ -40,7 +40,7 @@ impl Refusal {
         }
     }
 
-    // Its line of the transcript.
+    /// Its line of the transcript.
     pub fn line(&self) -> TranscriptLine<'_>
         ensures { said result ≡ says_of (notice_of self.now) }
     {
@@ -54,7 +54,7 @@ impl Refusal {
         }
     }
 
-    // How the line of the entry ends.
+    /// How the line of the entry ends.
     pub fn done(&self) -> StepDone
         ensures { result ≡ done_of self.now }
     {
