@@ -4,9 +4,10 @@ use Rattle.std.proofs.Common.{◌∷◌, ◌++◌, length, take, ⊎_elim, Some,
 use Rattle.std.proofs.Common.{refl, ap, arith}
 use Rattle.std.proofs.lemmas.Bool.Decides.{nat_tests}
 use Rattle.std.proofs.lemmas.Grind.{common_steps}
-use Rattle.std.proofs.lemmas.List.{take-append-le, take_all, length-append, places, ext_get_or}
+use Rattle.std.proofs.lemmas.List.{take-append-le, take_all, length-append, places}
 use Rattle.disk_model.specs.Images.{IsImage, IsTorn, FailsToWrite, all_synced, overwritten}
 use Rattle.disk_model.specs.Moments.{Elapses}
+use Rattle.disk_model.specs.Facts.Images.{only_synced}
 use Rattle.disk_model.specs.MemoryDisk.{Medium, DiskState, IsImageSince, IsMadeCall, IsFailedCall}
 use Rattle.disk_model.specs.MemoryDisk.{synced_medium, left_by, medium_after, medium_of, pending_of}
 use Rattle.disk_model.specs.MemoryDisk.{content_of, with_call, with_fault, with_refusal, counted}
@@ -128,11 +129,6 @@ module _ (start : List ℕ) (log more : List Event) (pick : Pick)
   restart_elapses = rw restart (logged start log (Restarted pick))
 
 -- where all is synced, a stop leaves just that by any pick
-only_synced : (octets image : List ℕ) → IsImage (all_synced octets) image → image ≡ octets
-only_synced octets image is =
-    ext_get_or 0 image octets (omega (arith, is.no_shorter, is.no_longer))
-    (λ place below. is.kept place (omega (arith, is.no_longer)) refl)
-
 pub synced_is_medium : (disk : DiskState) (octets : List ℕ) → pending_of disk ≡ all_synced octets
     → medium_of disk ≡ synced_medium octets
 synced_is_medium disk octets synced =

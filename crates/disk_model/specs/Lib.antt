@@ -6,3 +6,4 @@ pub mod Calls
 pub mod MemoryDisk
 pub mod MemoryDiskLaws
 pub mod FileDisk
+pub mod Facts

@@ -1,61 +1,16 @@
 -- What a file of octets behind gates stands for, while one more is written.
 use Rattle.std.proofs.Common.{◌≡◌, ◌≢◌, ◌⊎◌, inl, inr, ℕ, ◌+◌, ◌*◌, ◌<◌, ◌≤◌, List, [], ◌∷◌, ◌++◌}
-use Rattle.std.proofs.Common.{length, take, drop, set, get_or, slice_index, false, Option, Some}
+use Rattle.std.proofs.Common.{length, take, drop, slice_index, Option, Some}
 use Rattle.std.proofs.Common.{None, option_map, refl, sym, ◌∙◌, ap, subst, arith, append_assoc}
-use Rattle.std.proofs.lemmas.Bool.Decides.{nat_tests}
 use Rattle.std.proofs.lemmas.Bool.{cases_eq}
-use Rattle.std.proofs.lemmas.List.{take_at, set_at, ext_get_or, get_or-take, get_or-set_same}
-use Rattle.std.proofs.lemmas.List.{get_or-set_other, take-append-drop, length-append}
-use Rattle.std.proofs.lemmas.List.{length-take-le, length-set}
+use Rattle.std.proofs.lemmas.List.{take_at, set_at}
+use Rattle.std.proofs.lemmas.List.{take-append-drop, length-append}
 use Rattle.disk_model.specs.Images.{Pending, IsImage, all_synced, with_range, overwritten}
-use Rattle.disk_model.specs.Images.{is_written, written_and_synced}
+use Rattle.disk_model.specs.Images.{written_and_synced}
 use Rattle.disk_model.specs.Moments.{IsImageOf}
+use Rattle.disk_model.specs.Facts.Images.{written_behind, only_synced, as_before, but_for_one}
 use Rattle.disk_sample.specs.Gated.{gated, StandsFor, Keeps, IsAtRest, IsOldOrNew}
-use Rattle.disk_sample.proofs.Files.{length-gated, gated-append, written_behind, stands_for_one}
-
-before_range : (k place count : ℕ) → k < place → is_written ((place, count) ∷ []) k ≡ false
-before_range k place count before = grind (arith, nat_tests)
-
-but_one : (k place : ℕ) → k ≢ place → is_written ((place, 1) ∷ []) k ≡ false
-but_one k place other = grind (arith, nat_tests)
-
--- before a range that is pending an image is as the file
-module _ (file image : List ℕ) (place count : ℕ) (there : place ≤ length file)
-    (is : IsImage (with_range place count [] (all_synced file)) image) where
-  as_before : take place image ≡ take place file
-  as_before =
-      ext_get_or 0 (take place image) (take place file)
-      (length-take-le place image (omega (arith, there, is.no_shorter))
-      ∙ sym (length-take-le place file there))
-      (λ k below.
-      let before : k < place = omega (
-        arith,
-        below,
-        length-take-le place image (omega (arith, there, is.no_shorter)),
-      ) in
-      get_or-take place image k 0 before
-      ∙ is.kept k (omega (arith, before, there)) (before_range k place count before)
-      ∙ sym (get_or-take place file k 0 before))
-
--- and where one octet inside is pending it is the file but for that one
-module _ (file image : List ℕ) (place : ℕ) (there : place < length file)
-    (is : IsImage (with_range place 1 [] (all_synced file)) image) where
-  same_length : length image ≡ length file
-  same_length = omega (arith, there, is.no_shorter, is.no_longer)
-
-  as_elsewhere : (k : ℕ) → k < length image → (k ≡ place) ⊎ (k ≢ place)
-      → get_or image k 0 ≡ get_or (set file place (slice_index image place)) k 0
-  as_elsewhere k below (inl same) =
-      rw same (sym (get_or-set_same file place (slice_index image place) 0 there))
-  as_elsewhere k below (inr other) =
-      is.kept k (omega (arith, below, same_length)) (but_one k place other)
-      ∙ sym (get_or-set_other file place k (slice_index image place) 0 other)
-
-  but_for_one : image ≡ set file place (slice_index image place)
-  but_for_one =
-      ext_get_or 0 image (set file place (slice_index image place)) (same_length
-      ∙ sym (length-set file place (slice_index image place)))
-      (λ k below. as_elsewhere k below (cases_eq k place))
+use Rattle.disk_sample.proofs.Files.{length-gated, gated-append, stands_for_one}
 
 module _ (octets rest : List ℕ) (octet shut gate : ℕ) (place : gate ≡ 2 * length octets) where
   -- a file that stands for octets, and the same with the new octet behind its gate
@@ -140,12 +95,6 @@ module _ (octets rest : List ℕ) (octet shut gate : ℕ) (place : gate ≡ 2 * 
       (but_for_one (gated octets ++ shut ∷ behind) image gate new_length is
       ∙ set_at (gated octets) shut behind (slice_index image gate) gate gate_is)
       (cases_eq (slice_index image gate) 165)
-
--- where all is synced each image stands for what is kept
-only_synced : (file image : List ℕ) → IsImage (all_synced file) image → image ≡ file
-only_synced file image is =
-    ext_get_or 0 image file (omega (arith, is.no_shorter, is.no_longer))
-    (λ k below. is.kept k (omega (arith, is.no_longer, below)) refl)
 
 pub kept_image : (pending : Option Pending) (octets image : List ℕ) → Keeps pending octets
     → IsImageOf pending image → StandsFor octets image

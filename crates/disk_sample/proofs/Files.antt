@@ -1,8 +1,6 @@
 -- What a file of octets behind gates stands for.
 use Rattle.std.proofs.Common.{◌≡◌, ◌≢◌, inl, inr, ℕ, ◌*◌, List, [], ◌∷◌, ◌++◌, length, drop}
-use Rattle.std.proofs.Common.{slice_index, refl, sym, ◌∙◌, ap, subst, arith}
-use Rattle.std.proofs.Math.Seq.{take-append_seam, drop-append-add}
-use Rattle.disk_model.specs.Images.{overwritten}
+use Rattle.std.proofs.Common.{slice_index, refl, sym, ◌∙◌, ap, arith}
 use Rattle.disk_sample.specs.Gated.{gated, StandsFor, IsCut}
 
 pub length-gated : (octets : List ℕ) → length (gated octets) ≡ 2 * length octets
@@ -13,14 +11,6 @@ pub gated-append : (octets more : List ℕ) → gated (octets ++ more) ≡ gated
 gated-append [] more = refl
 gated-append (octet ∷ octets) more = ap (λ (rest : List ℕ). 165 ∷ octet ∷ rest)
     (gated-append octets more)
-
--- octets written behind a front
-pub written_behind : (front rest octets : List ℕ) (place : ℕ) → length front ≡ place
-    → overwritten (front ++ rest) place octets ≡ front ++ octets ++ drop (length octets) rest
-written_behind front rest octets place there =
-    subst (λ (p : ℕ). overwritten (front ++ rest) p octets
-    ≡ front ++ octets ++ drop (length octets) rest) there
-    (rw (take-append_seam front rest, drop-append-add front rest (length octets)) refl)
 
 head_of : {x y : ℕ} {xs ys : List ℕ} → x ∷ xs ≡ y ∷ ys → x ≡ y
 head_of {x} same = ap (λ (l : List ℕ). slice_index l 0) same

@@ -1,51 +1,21 @@
 -- What a file stands for while a batch is written behind its gate.
-use Rattle.std.proofs.Common.{◌≡◌, ◌≢◌, inl, inr, ℕ, ◌+◌, ◌<◌, ◌≤◌, List, [], ◌∷◌, ◌++◌}
-use Rattle.std.proofs.Common.{length, take, drop, set, slice_index, Option, Some}
+use Rattle.std.proofs.Common.{◌≡◌, ◌≢◌, inl, inr, ℕ, ◌+◌, List, [], ◌∷◌, ◌++◌}
+use Rattle.std.proofs.Common.{length, take, drop, slice_index, Option, Some}
 use Rattle.std.proofs.Common.{None, option_map, refl, sym, ◌∙◌, ap, subst, arith, append_assoc}
-use Rattle.std.proofs.lemmas.Bool.Decides.{nat_tests}
 use Rattle.std.proofs.lemmas.Bool.{cases_eq}
-use Rattle.std.proofs.lemmas.List.{take_at, set_at, ext_get_or, get_or-take, get_or-set_same}
-use Rattle.std.proofs.lemmas.List.{get_or-set_other, take-append-drop, length-append}
-use Rattle.std.proofs.lemmas.List.{length-take-le, length-set}
-use Rattle.std.proofs.Math.Seq.{take-append_seam, drop-append-add}
+use Rattle.std.proofs.lemmas.List.{take_at, set_at}
+use Rattle.std.proofs.lemmas.List.{take-append-drop, length-append}
 use Rattle.archive_terms.specs.Archive.{Entry, IsArchive}
 use Rattle.record_form.specs.Reading.{ReadBack}
 use Rattle.disk_model.specs.Images.{Pending, IsImage, all_synced, with_range, overwritten}
 use Rattle.disk_model.specs.Images.{written_and_synced}
 use Rattle.disk_model.specs.Moments.{IsImageOf}
+use Rattle.disk_model.specs.Facts.Images.{written_behind, only_synced, as_before, but_for_one}
 use Rattle.gate_journal.specs.File.{header, gated, batch_octets, IsBatch, Leads, StandsAt}
 use Rattle.gate_journal.specs.File.{StandsFor}
 use Rattle.gate_journal.specs.JournalState.{Keeps, IsAtRest, IsOldOrNew, IsReady, closed_batch}
 use Rattle.gate_journal.proofs.Growth.{gated_more, leads_more}
 use Rattle.gate_journal.proofs.Unique.{stands_for_one}
-
--- octets written behind a front
-pub written_behind : (front rest octets : List ℕ) (place : ℕ) → length front ≡ place
-    → overwritten (front ++ rest) place octets ≡ front ++ octets ++ drop (length octets) rest
-written_behind front rest octets place there =
-    rw (← there, take-append_seam front rest, drop-append-add front rest (length octets)) refl
-
--- before a range that is pending an image is as the file
-as_before : (file image : List ℕ) (place count : ℕ) → place ≤ length file
-    → IsImage (with_range place count [] (all_synced file)) image
-    → take place image ≡ take place file
-as_before file image place count there is =
-    let long : place ≤ length image = omega (arith, there, is.no_shorter) in
-    let size = length-take-le place image long in
-    ext_get_or 0 _ _ (size ∙ sym (length-take-le place file there))
-    (λ k below. grind (arith, nat_tests, size, get_or-take, is.kept k))
-
--- and where one octet inside is pending it is the file but for that one
-but_for_one : (file image : List ℕ) (place : ℕ) → place < length file
-    → IsImage (with_range place 1 [] (all_synced file)) image
-    → image ≡ set file place (slice_index image place)
-but_for_one file image place there is =
-    let size : length image ≡ length file = omega (arith, there, is.no_shorter, is.no_longer) in
-    ext_get_or 0 _ _ (size ∙ sym (length-set file place (slice_index image place)))
-    (λ k below. elim (cases_eq k place) [
-      | inl same ↦ rw same (sym (get_or-set_same file place (slice_index image place) 0 there))
-      | inr other ↦ grind (arith, nat_tests, size, is.kept k, get_or-set_other)
-    ])
 
 -- what stands behind a gate once octets are written there
 abbrev pub behind : List ℕ → List ℕ → List ℕ
@@ -81,12 +51,6 @@ stands_opened batches entries batch gate rest file leads is_batch archive is = r
   shut = λ same. cc;
   is = is ∙ rw (gated_more batches batch) (simp append_assoc);
 }
-
--- where all is synced each image is what is kept
-only_synced : (file image : List ℕ) → IsImage (all_synced file) image → image ≡ file
-only_synced file image is =
-    ext_get_or 0 image file (omega (arith, is.no_shorter, is.no_longer))
-    (λ k below. is.kept k (omega (arith, is.no_longer, below)) refl)
 
 pub kept_image : (pending : Option Pending) (entries : List Entry) (image : List ℕ)
     → Keeps pending entries → IsImageOf pending image → StandsFor entries image

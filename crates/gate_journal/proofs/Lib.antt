@@ -4,7 +4,6 @@ pub mod Unique
 pub mod Windows
 pub mod Batching
 pub mod Adding
-pub mod Storable
 pub mod Journals
 pub mod Creating
 pub mod Parts

@@ -1,6 +1,6 @@
 -- The entries of a file, as lines.
-use Rattle.std.proofs.Common.{◌≡◌, ℕ, zero, suc, ◌+◌, ◌<◌, ◌≤◌, true, List, [], ◌∷◌, ◌++◌}
-use Rattle.std.proofs.Common.{length, drop, get_or, refl, sym, subst, arith, drop-cons, add-one}
+use Rattle.std.proofs.Common.{◌≡◌, ℕ, ◌+◌, ◌<◌, ◌≤◌, true, List, [], ◌++◌}
+use Rattle.std.proofs.Common.{length, drop, get_or, refl, drop-cons, add-one}
 use Rattle.std.proofs.lemmas.Bool.{and_parts}
 use Rattle.std.proofs.lemmas.List.{drop_all}
 use Rattle.std.specs.List.{list_all}
@@ -34,20 +34,3 @@ pub all_storable : (entries : List terms.Entry) → IsArchive entries
     → list_all is_storable entries ≡ true
 all_storable entries archive =
     (and_parts (list_all is_storable entries) (is_ordered entries) archive).0
-
-storable_at : (entries : List Entry) (i : ℕ) (other : Entry) → i < length entries
-    → list_all is_storable (entries_of entries) ≡ true
-    → is_storable (entry_of (get_or entries i other)) ≡ true
-storable_at [] i other there all = absurd (omega (arith, there))
-storable_at (entry ∷ entries) zero other there all =
-    (and_parts (is_storable (entry_of entry)) (list_all is_storable (entries_of entries)) all).0
-storable_at (entry ∷ entries) (suc i) other there all =
-    storable_at entries i other (omega (arith, there))
-    (and_parts (is_storable (entry_of entry)) (list_all is_storable (entries_of entries)) all).1
-
-pub each_storable : (entries : List Entry) (i : ℕ) (entry : Entry) → i < length entries
-    → entry ≡ get_or entries i entry → list_all is_storable (entries_of entries) ≡ true
-    → is_storable (entry_of entry) ≡ true
-each_storable entries i entry there is all =
-    subst (λ (e : Entry). is_storable (entry_of e) ≡ true) (sym is)
-    (storable_at entries i entry there all)

@@ -3,7 +3,6 @@ use Rattle.std.proofs.Common.{◌≡◌, ℕ, List, Option, Some, None, IfSome, 
 use Rattle.disk_model.specs.Images.{Pending}
 use Rattle.disk_model.specs.Moments.{IsImageOf}
 use Rattle.provider_cli.specs.declared.plan.Plan.{Plan}
-use Rattle.provider_cli.specs.declared.plan.Plan.TheVariants.{Drill, Rehearse}
 use Rattle.provider_cli.specs.declared.status.Status.TheVariants.{Memory}
 use Rattle.provider_cli.specs.Archives.{unasked, IsInit, IsList}
 use Rattle.provider_cli.specs.Command.{NeedsDisk, code}

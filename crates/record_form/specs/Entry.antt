@@ -1,6 +1,6 @@
 -- Entries as the archive's definitions have them.
 use Rattle.std.specs.Prelude.{List, map}
-use Rattle.archive_terms.specs.Archive.{frame, loss_of_sync, production, seal, is_valid}
+use Rattle.archive_terms.specs.Archive.{frame, loss_of_sync, production, seal}
 use Rattle.archive_terms.specs.Archive as terms
 use Rattle.record_form.specs.declared.entry.Entry.{Entry}
 use Rattle.record_form.specs.declared.entry.Entry.TheVariants.{Frame, LossOfSync, Production, Seal}

@@ -3,3 +3,4 @@ pub mod Lent
 pub mod Spelling
 pub mod Left
 pub mod Reading
+pub mod Facts

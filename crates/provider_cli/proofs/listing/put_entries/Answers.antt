@@ -1,14 +1,15 @@
 use Rattle.std.proofs.Common.{◌+◌, drop}
 use Rattle.record_form.specs.Entry.{entry_of, entries_of}
+use Rattle.record_form.specs.Facts.Storable.{storable_at}
 use Rattle.drill_text.specs.Reading.{entry_text}
 use Rattle.provider_cli.specs.Archives.{offered, entries_text}
 use Rattle.provider_cli.proofs.Blocks.{line_on, line_stopped}
 use Rattle.provider_cli.proofs.Gathering.{on_err}
-use Rattle.provider_cli.proofs.Lists.{next_line, each_storable}
+use Rattle.provider_cli.proofs.Lists.{next_line}
 use Rattle.provider_cli.proofs.listing.put_entries.Goals as goal
 
 pub put_entry-requires : goal.put_entry-requires
-put_entry-requires g c = rw c.lend.ensures (each_storable c.args.entries.now
+put_entry-requires g c = rw c.lend.ensures (storable_at c.args.entries.now
     c.loop-entry.entry-index c.entry-item.result c.loop-entry-test.true c.entry-item.is c.requires)
 
 pub returns-in_err-put_entry-clause-stopped : goal.returns-in_err-put_entry-clause-stopped

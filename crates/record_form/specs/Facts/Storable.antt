@@ -8,10 +8,10 @@ use Rattle.archive_terms.specs.Archive.{is_storable}
 use Rattle.record_form.specs.declared.entry.Entry.{Entry}
 use Rattle.record_form.specs.Entry.{entry_of, entries_of}
 
-pub item : (entries : List Entry) (i : ℕ) (entry : Entry) → i < length entries
+pub storable_at : (entries : List Entry) (i : ℕ) (entry : Entry) → i < length entries
     → entry ≡ get_or entries i entry → list_all is_storable (entries_of entries) ≡ true
     → IsTrue (is_storable (entry_of entry))
-item entries i entry there is all =
+storable_at entries i entry there is all =
     grind (
       arith,
       list_all_at is_storable (entries_of entries) i (entry_of entry),
