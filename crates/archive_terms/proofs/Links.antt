@@ -1,6 +1,6 @@
 -- What a round does by its link.
 use Rattle.std.proofs.Common.{◌≡◌, Bool, true, false, cond, List, [], ◌∷◌, Option, Some, None, refl}
-use Rattle.std.proofs.Common.{ap, sym, subst, ◌∙◌, take, ℕ, zero, suc, ◌<◌, slice_get, arith}
+use Rattle.std.proofs.Common.{ap, sym, subst, ◌∙◌, take, ℕ, zero, suc, slice_get, arith}
 use Rattle.std.specs.Option.{option_map_or}
 use Rattle.std.specs.List.{All, list_any}
 use Rattle.archive_terms.specs.Archive.{Entry}

@@ -1,7 +1,7 @@
 -- The archive of a ground station's return frames: its entries, which lists of them are an archive,
 -- and when a stop is closed. A moment is the number of picoseconds since 1958-01-01T00:00:00, and
 -- an octet a number below 256. A time stands as it was received, and names a moment or none.
-use Rattle.std.specs.Prelude.{ℕ, ◌*◌, ◌^◌, Bool, true, false, ◌&&◌, ◌||◌, nat_lt, nat_le, IsTrue}
+use Rattle.std.specs.Prelude.{ℕ, Bool, true, false, ◌&&◌, ◌||◌, nat_lt, nat_le, IsTrue}
 use Rattle.std.specs.Prelude.{Option, None, List, [], ◌∷◌, length}
 use Rattle.std.specs.List.{list_any, list_all, fold}
 use Rattle.std.specs.Option.{option_or, option_map_or}

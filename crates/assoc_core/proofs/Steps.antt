@@ -1,6 +1,6 @@
 -- What a message that passes shows.
-use Rattle.std.proofs.Common.{◌≡◌, ◌≢◌, ◌⊎◌, inl, inr, ℕ, Bool, true, false, not, ◌&&◌, ◌||◌}
-use Rattle.std.proofs.Common.{if◌then◌else◌, Option, Some, None, Result, Ok, Err, List, refl, sym}
+use Rattle.std.proofs.Common.{◌≡◌, ◌⊎◌, inl, inr, ℕ, Bool, true, false, not, ◌||◌}
+use Rattle.std.proofs.Common.{if◌then◌else◌, Option, Some, None, Result, Ok, Err, refl, sym}
 use Rattle.std.proofs.Common.{◌∙◌, ap, subst}
 use Rattle.std.specs.Prelude.{IsSomeAnd, is_some, is_ok}
 use Rattle.isp1_auth.specs.declared.auth_fault.AuthFault.{AuthFault}
@@ -10,8 +10,8 @@ use Rattle.station_config.specs.declared.level.Level.TheVariants as level
 use Rattle.station_config.specs.declared.peer.Peer.{Peer}
 use Rattle.station_config.specs.declared.site.Site.{Site}
 use Rattle.assoc_core.specs.declared.outcome.Outcome.{Outcome}
-use Rattle.assoc_core.specs.declared.outcome.Outcome.TheVariants.{Context, Bound, Denied, Started}
-use Rattle.assoc_core.specs.declared.outcome.Outcome.TheVariants.{Stopped, Unbound, Kept}
+use Rattle.assoc_core.specs.declared.outcome.Outcome.TheVariants.{Context, Bound, Denied}
+use Rattle.assoc_core.specs.declared.outcome.Outcome.TheVariants.{Unbound}
 use Rattle.assoc_core.specs.declared.state.Binding.{Binding}
 use Rattle.assoc_core.specs.declared.state.State.{State}
 use Rattle.assoc_core.specs.declared.state.State.TheVariants as state
@@ -19,11 +19,11 @@ use Rattle.assoc_core.specs.declared.step.Step.{Step}
 use Rattle.assoc_core.specs.declared.step.Step.TheVariants as step
 use Rattle.assoc_core.specs.Numbers.{protocol_error, encoding_error}
 use Rattle.assoc_core.specs.Kind.{Kind, context, heartbeat, bind, peer_abort, Message}
-use Rattle.assoc_core.specs.Table.{next, follows}
+use Rattle.assoc_core.specs.Table.{next}
 use Rattle.assoc_core.specs.State.{phase_of, binding_of, moved}
 use Rattle.assoc_core.specs.Access.{sender, has_credentials, is_asked, secret_of, is_authentic}
 use Rattle.assoc_core.specs.Access.{may_send, is_admitted}
-use Rattle.assoc_core.specs.Association.{is_decoded, is_in_place, refusal, goes_on, step as step_of}
+use Rattle.assoc_core.specs.Association.{is_decoded, is_in_place, refusal, step as step_of}
 use Rattle.assoc_core.specs.Run.{is_of_bound}
 use Rattle.assoc_core.specs.Laws.{HasSender}
 use Rattle.assoc_core.proofs.Tests.{differ}

@@ -2,7 +2,6 @@
 use Rattle.std.specs.Prelude.{◌≡◌, ℕ, Bool, true, false, not, ◌||◌, List, Option, Some, None}
 use Rattle.std.specs.Prelude.{option_and_then, option_map, slice_get, is_ok, if◌then◌else◌}
 use Rattle.std.specs.Borrow.{Bor}
-use Rattle.isp1_auth.specs.declared.hash.Hash.{Hash}
 use Rattle.isp1_auth.specs.declared.hash.Hash.TheVariants.{Sha1, Sha256}
 use Rattle.isp1_auth.specs.declared.secret.Secret.{Secret}
 use Rattle.isp1_auth.specs.Auth.{auth}

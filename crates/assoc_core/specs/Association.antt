@@ -2,7 +2,7 @@
 use Rattle.std.specs.Prelude.{Bool, true, false, not, is_some, if◌then◌else◌}
 use Rattle.station_config.specs.declared.site.Site.{Site}
 use Rattle.assoc_core.specs.declared.state.State.{State}
-use Rattle.assoc_core.specs.declared.state.State.TheVariants.{Opening, Unbound, Ready, Active}
+use Rattle.assoc_core.specs.declared.state.State.TheVariants.{Unbound, Ready, Active}
 use Rattle.assoc_core.specs.declared.state.State.TheVariants.{Closing}
 use Rattle.assoc_core.specs.declared.step.Step.{Step}
 use Rattle.assoc_core.specs.declared.step.Step.TheVariants.{Pass, Denied, Abort}

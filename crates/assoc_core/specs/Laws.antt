@@ -1,6 +1,6 @@
 -- What holds of every list of messages of an association, and of its BIND.
-use Rattle.std.specs.Prelude.{◌≡◌, ◌≢◌, ◌↔◌, ◌⊎◌, ℕ, Bool, IsTrue, IsFalse, IsSomeAnd, Option, Some}
-use Rattle.std.specs.Prelude.{List, [], ◌∷◌, slice_get, Contains, Result, Ok, Any}
+use Rattle.std.specs.Prelude.{◌≡◌, ◌≢◌, ◌↔◌, ◌⊎◌, ℕ, IsTrue, IsFalse, IsSomeAnd, Some}
+use Rattle.std.specs.Prelude.{List, [], ◌∷◌, slice_get, Contains, Ok}
 use Rattle.std.specs.List.{AllByRecursion}
 use Rattle.sle_common.specs.declared.instance_id.InstancePart.{InstancePart}
 use Rattle.isp1_auth.specs.Auth.{auth}

@@ -1,15 +1,14 @@
 -- Lists of messages of one association, each with what it led to.
-use Rattle.std.specs.Prelude.{◌≡◌, ℕ, ◌==◌, Bool, true, false, not, ◌&&◌, if◌then◌else◌, IsTrue}
-use Rattle.std.specs.Prelude.{IsFalse, Option, Some, None, List, [], ◌∷◌}
-use Rattle.std.specs.List.{filter_map, list_any, AllByRecursion}
+use Rattle.std.specs.Prelude.{Bool, true, false, if◌then◌else◌}
+use Rattle.std.specs.Prelude.{Option, Some, None, List, [], ◌∷◌}
+use Rattle.std.specs.List.{filter_map, AllByRecursion}
 use Rattle.station_config.specs.declared.site.Site.{Site}
 use Rattle.assoc_core.specs.declared.outcome.Outcome.{Outcome}
 use Rattle.assoc_core.specs.declared.outcome.Outcome.TheVariants as outcome
-use Rattle.assoc_core.specs.declared.state.Binding.{Binding}
 use Rattle.assoc_core.specs.declared.state.State.{State}
 use Rattle.assoc_core.specs.declared.step.Step.{Step}
 use Rattle.assoc_core.specs.declared.step.Step.TheVariants.{Pass}
-use Rattle.assoc_core.specs.Kind.{Kind, context, heartbeat, bind, unbind, peer_abort, start, stop}
+use Rattle.assoc_core.specs.Kind.{Kind, context, bind, unbind, start, stop}
 use Rattle.assoc_core.specs.Kind.{report, parameter, throw, transfer, Message}
 use Rattle.assoc_core.specs.State.{moved}
 use Rattle.assoc_core.specs.Association.{step, after_step}

@@ -1,10 +1,9 @@
 -- What seated workers did, and the lists that were joined.
-use Rattle.std.proofs.Common.{◌≡◌, List, [], ◌∷◌, ◌++◌, map, refl, ap, sym, subst, ◌∙◌}
-use Rattle.turn_lock.specs.PassState.{PassState, Lock}
+use Rattle.std.proofs.Common.{◌≡◌, List, [], ◌∷◌, ◌++◌, ap, sym, subst, ◌∙◌}
+use Rattle.turn_lock.specs.PassState.{Lock}
 use Rattle.turn_lock.specs.declared.view.Mark.{Mark}
 use Rattle.station_book.specs.State.{Opening, Event}
-use Rattle.book_sample.specs.Jobs.{call_of}
-use Rattle.book_sample.specs.Worked.{HasWorked, calls_of, outcomes_of}
+use Rattle.book_sample.specs.Worked.{calls_of, outcomes_of}
 use Rattle.book_sample.specs.Both.{IsSeated, DidJobs, Did}
 use Rattle.book_sample.specs.declared.work.Plan.{Plan}
 use Rattle.book_sample.specs.declared.work.Worker.{Worker}

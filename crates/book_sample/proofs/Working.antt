@@ -1,6 +1,6 @@
 -- One job more, and the end.
-use Rattle.std.proofs.Common.{◌≡◌, ◌≢◌, ℕ, ◌+◌, ◌<◌, ◌≤◌, List, [], ◌∷◌, ◌++◌, length}
-use Rattle.std.proofs.Common.{length-append, map, Some, refl, ap, sym, subst, ◌∙◌, append_assoc}
+use Rattle.std.proofs.Common.{◌≡◌, ℕ, ◌+◌, ◌≤◌, List, [], ◌∷◌, ◌++◌, length}
+use Rattle.std.proofs.Common.{Some, refl, ap, sym, ◌∙◌, append_assoc}
 use Rattle.std.proofs.Common.{append-nil, arith}
 use Rattle.std.proofs.lemmas.List.{map-append}
 use Rattle.turn_lock.specs.PassState.{PassState, Lock}
@@ -10,7 +10,7 @@ use Rattle.turn_lock.specs.declared.pass.Standing.TheVariants.{Ready}
 use Rattle.station_book.specs.State.{Opening, opened, Event}
 use Rattle.station_book.specs.History.{IsLegal}
 use Rattle.book_sample.specs.Jobs.{call_of, outcome_of}
-use Rattle.book_sample.specs.Worked.{called, MadeOne, calls_of, outcomes_of, Worked, HasWorked}
+use Rattle.book_sample.specs.Worked.{called, MadeOne, Worked}
 use Rattle.book_sample.specs.declared.job.Job.{Job}
 use Rattle.book_sample.specs.declared.job.Outcome.{Outcome}
 

@@ -1,8 +1,8 @@
 -- What two workers did.
-use Rattle.std.specs.Prelude.{◌≡◌, ℕ, ◌+◌, ◌<◌, ◌≤◌, List, [], ◌∷◌, ◌++◌, map, vec_len}
+use Rattle.std.specs.Prelude.{◌≡◌, ◌+◌, ◌<◌, ◌≤◌, List, [], ◌∷◌, ◌++◌, map, vec_len}
 use Rattle.std.specs.Prelude.{vec_capacity, Some}
 use Rattle.cds_time.specs.declared.cds.TheConstants.{MOMENT_END}
-use Rattle.turn_lock.specs.PassState.{PassState, Lock}
+use Rattle.turn_lock.specs.PassState.{Lock}
 use Rattle.turn_lock.specs.declared.view.Mark.{Mark}
 use Rattle.turn_lock.specs.declared.pass.Standing.TheVariants.{Ready}
 use Rattle.station_book.specs.State.{Opening, Event}

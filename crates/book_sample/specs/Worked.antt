@@ -1,5 +1,5 @@
 -- What a worker did.
-use Rattle.std.specs.Prelude.{◌≡◌, ℕ, ◌+◌, List, [], ◌∷◌, ◌++◌, length, map, Some}
+use Rattle.std.specs.Prelude.{◌≡◌, ℕ, ◌+◌, List, [], ◌∷◌, ◌++◌, map, Some}
 use mathlib.Core.List.{IsPrefix}
 use Rattle.turn_lock.specs.PassState.{PassState, Lock}
 use Rattle.turn_lock.specs.Own.{mark}

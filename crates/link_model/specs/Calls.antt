@@ -1,9 +1,8 @@
 -- The calls of a link with their answers, and the parts of them that a reader wants: what was
 -- heard, which octets arrived, and which blocks were handed over. This product's own rule.
 use Rattle.std.specs.Prelude.{ℕ, ◌≡◌, ◌<◌, ◌≤◌, Option, Some, None, IfSome, IsSomeAnd}
-use Rattle.std.specs.Prelude.{List, [], ◌∷◌, ◌++◌, take}
+use Rattle.std.specs.Prelude.{List, [], ◌++◌, take}
 use Rattle.std.specs.List.{filter_map, flat_map}
-use Rattle.octet_core.specs.declared.offer.Offer.{Offer}
 use Rattle.octet_core.specs.declared.offer.Offer.TheVariants.{Whole, Stalled, Failed as Refused}
 use Rattle.link_model.specs.declared.call.Heard.{Heard}
 use Rattle.link_model.specs.declared.call.Heard.TheVariants.{Arrived, Nothing, Closed, Failed}

@@ -1,5 +1,5 @@
 -- Whole runs of a link in memory: what comes and what is ordered, between its polls and offers.
-use Rattle.std.specs.Prelude.{ℕ, ◌≡◌, ◌<◌, ◌-◌, if◌then◌else◌, List, [], ◌∷◌, ◌++◌}
+use Rattle.std.specs.Prelude.{ℕ, if◌then◌else◌, List, [], ◌∷◌, ◌++◌}
 use Rattle.std.specs.List.{flat_map}
 use Rattle.link_model.specs.Calls.{arrived_at}
 use Rattle.link_model.specs.Steering.{Steering, with_piece, shut_behind, broken_next}

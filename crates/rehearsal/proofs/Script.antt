@@ -21,7 +21,7 @@ use Rattle.station_law.specs.Doors.{Doors, anew}
 use Rattle.station_desk.specs.Start.{moment}
 use Rattle.station_law.specs.State.{State, start}
 use Rattle.station_desk.specs.ToldBuffer.{ToldBuffer}
-use Rattle.station_law.specs.Said.{Said, begun, handed, texts}
+use Rattle.station_law.specs.Said.{handed, texts}
 use Rattle.station_law.specs.Entries.{need, used, free, stores}
 use Rattle.station_law.specs.Lines.{step, recorded, doors_behind}
 use Rattle.station_law.specs.Runs.{transcript_from, text_behind, after}

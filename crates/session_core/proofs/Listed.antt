@@ -5,7 +5,7 @@ use Rattle.std.proofs.lemmas.List.{append-nil}
 use Rattle.isp1_tml.specs.Feeding.{StandsFor, fresh}
 use Rattle.link_model.specs.declared.call.Call.{Call}
 use Rattle.station_config.specs.declared.site.Site.{Site}
-use Rattle.station_book.specs.State.{Event, Call as BookCall}
+use Rattle.station_book.specs.State.{Event}
 use Rattle.station_book.specs.State as book
 use Rattle.session_core.specs.Session.{State, Round, BookAnswer, IsRound, after_rounds, begun}
 use Rattle.session_core.specs.Session.{AreRounds}

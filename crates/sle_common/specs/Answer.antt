@@ -1,6 +1,6 @@
 -- What a return answers (CCSDS 911.1-B, annex A): under [0] that the operation was done, under [1]
 -- why not.
-use Rattle.std.proofs.Common.{◌≡◌, ℕ, true, List, [], ◌∷◌, Result, Ok, Err, ◌⊎◌, inl, inr, refl}
+use Rattle.std.proofs.Common.{◌≡◌, true, [], ◌∷◌, Result, Ok, Err, ◌⊎◌, inl, inr, refl}
 use Rattle.ber_shape.specs.Identifier.{is_apart}
 use Rattle.ber_shape.specs.Content.{null}
 use Rattle.ber_shape.specs.Element.{Element, simple}

@@ -1,19 +1,18 @@
 -- A door has one instance at most, and a run is started only where a door has the forward
 -- service's.
-use Rattle.std.proofs.Common.{◌≡◌, ℕ, ◌+◌, ◌<◌, zero, suc, Bool, true, false, not, ◌&&◌, ◌||◌, ◌==◌}
+use Rattle.std.proofs.Common.{◌≡◌, ℕ, ◌+◌, ◌<◌, zero, suc, Bool, true, false, not, ◌||◌}
 use Rattle.std.proofs.Common.{nat_lt, if◌then◌else◌, cond, Option, Some, None, is_some, List, []}
-use Rattle.std.proofs.Common.{◌∷◌, ◌++◌, length, slice_get, slice_set, get_or, replicate, refl, ap}
+use Rattle.std.proofs.Common.{◌∷◌, ◌++◌, length, slice_get, slice_set, replicate, refl, ap}
 use Rattle.std.proofs.Common.{sym, subst, ◌∙◌, arith, ◌⊎◌, inl, inr}
 use Rattle.std.specs.List.{position, position_or_len}
 use Rattle.std.specs.Option.{option_map_or}
 use Rattle.std.proofs.lemmas.Bool.Decides.{nat_tests}
-use Rattle.cltu_queue.specs.Machine.{Machine, on_stop}
 use Rattle.cltu_queue.specs.declared.ask.Ask.{Ask}
 use Rattle.cltu_queue.specs.declared.ask.Ask.TheVariants as ask
 use Rattle.station_book.specs.State.{State, Opening, opened, Event, Call, publish, answer, quit}
 use Rattle.station_book.specs.State.{take, done, interrupted, uplink, gone}
 use Rattle.station_book.specs.History.{is_of, instance_of, is_taken, freed, is_lost, doors_asked}
-use Rattle.station_book.specs.History.{with_ask, asked, may_publish, moment_at, after, then_after}
+use Rattle.station_book.specs.History.{with_ask, may_publish, moment_at, after, then_after}
 use Rattle.station_book.specs.History.{replay}
 use Rattle.station_book.specs.Doors.{Has}
 

@@ -1,8 +1,8 @@
 -- What the calls of one door leave of another's.
-use Rattle.std.proofs.Common.{◌≡◌, ◌≢◌, ℕ, ◌<◌, ◌≤◌, Bool, true, false, not, ◌&&◌, ◌||◌, ◌==◌}
+use Rattle.std.proofs.Common.{◌≡◌, ℕ, Bool, true, false, not, ◌&&◌, ◌||◌, ◌==◌}
 use Rattle.std.proofs.Common.{nat_lt, if◌then◌else◌, cond, Option, Some, None, is_some, List, []}
-use Rattle.std.proofs.Common.{◌∷◌, ◌++◌, zero, suc, length, slice_get, slice_set, get_or, IsTrue}
-use Rattle.std.proofs.Common.{IsFalse, refl, ap, sym, subst, ◌∙◌, arith, inl, inr}
+use Rattle.std.proofs.Common.{◌∷◌, ◌++◌, zero, suc, length, slice_get, slice_set, get_or}
+use Rattle.std.proofs.Common.{IsFalse, refl, ap, sym, subst, ◌∙◌, arith}
 use Rattle.std.specs.List.{position, position_or_len, list_any}
 use Rattle.std.specs.Option.{option_map_or}
 use Rattle.std.proofs.lemmas.List.{length-set}
@@ -10,11 +10,11 @@ use Rattle.std.proofs.lemmas.List.Folds.{position_or_len-set}
 use Rattle.std.proofs.lemmas.List.Quantifiers.{position-Some}
 use Rattle.std.proofs.lemmas.Option.{slice_get-get_or}
 use Rattle.std.proofs.lemmas.Bool.Decides.{nat_tests}
-use Rattle.cltu_queue.specs.Machine.{Machine, on_transfer, on_start, on_stop, on_take, on_take_of}
-use Rattle.cltu_queue.specs.Machine.{on_radiation, on_radiation_of, is_idle, begins_at, expired}
-use Rattle.cltu_queue.specs.Machine.{on_done, on_done_of, is_this, is_of_run, ended, landed}
-use Rattle.cltu_queue.specs.Machine.{radiated_at, with_radiation_notice, with_empty_notice}
-use Rattle.cltu_queue.specs.Machine.{on_interrupted, on_interrupted_of, broken_off, on_uplink}
+use Rattle.cltu_queue.specs.Machine.{Machine, on_transfer, on_stop, on_take, on_take_of}
+use Rattle.cltu_queue.specs.Machine.{on_radiation_of, is_idle, begins_at}
+use Rattle.cltu_queue.specs.Machine.{on_done, on_done_of, is_this, is_of_run, ended}
+use Rattle.cltu_queue.specs.Machine.{radiated_at, with_radiation_notice}
+use Rattle.cltu_queue.specs.Machine.{on_interrupted, on_interrupted_of, on_uplink}
 use Rattle.cltu_queue.specs.Machine.{production_changed, on_notice, on_notice_of, queued_unless}
 use Rattle.cltu_queue.specs.Machine.{refusal}
 use Rattle.cltu_queue.specs.Times.{is_above, latest_of}
@@ -24,7 +24,6 @@ use Rattle.cltu_queue.specs.declared.notice.Notice.{Notice}
 use Rattle.cltu_queue.specs.declared.taken.Taken.{Taken}
 use Rattle.cltu_queue.specs.declared.ask.Ask.{Ask}
 use Rattle.cltu_queue.specs.declared.ask.Ask.TheVariants as ask
-use Rattle.archive_terms.specs.Glimpse.{Want}
 use Rattle.station_book.specs.State.{State, Event, Call, publish, answer, quit, take, done}
 use Rattle.station_book.specs.State.{interrupted, uplink, gone}
 use Rattle.station_book.specs.History.{moment_at, is_of, instance_of, is_forward, has_forward}

@@ -1,6 +1,6 @@
 -- Entries that are put behind others one by one.
 use Rattle.std.proofs.Common.{◌≡◌, ℕ, ◌+◌, ◌<◌, get_or, drop, add-one, true, false, ◌&&◌, List, []}
-use Rattle.std.proofs.Common.{◌∷◌, ◌++◌, take, length, map, refl, ap, sym, subst, ◌∙◌, append_assoc}
+use Rattle.std.proofs.Common.{◌∷◌, ◌++◌, take, length, refl, ap, sym, subst, ◌∙◌, append_assoc}
 use Rattle.std.proofs.Common.{append-nil}
 use Rattle.std.proofs.lemmas.List.{map-append, take-append-drop, take-map}
 use Rattle.std.proofs.Math.Seq.{drop-cons}

@@ -3,7 +3,7 @@ use Rattle.std.proofs.Common.{◌≡◌, ℕ, true, false, List, [], ◌∷◌, 
 use Rattle.std.proofs.Common.{sym, subst, ◌∙◌}
 use Rattle.std.proofs.lemmas.List.Sums.{fold-append}
 use Rattle.cltu_queue.specs.declared.ask.Ask.{Ask}
-use Rattle.station_book.specs.State.{State, Opening, Event, Call, publish, answer, quit, take, done}
+use Rattle.station_book.specs.State.{State, Event, Call, publish, answer, quit, take, done}
 use Rattle.station_book.specs.State.{interrupted, uplink, gone, opened}
 use Rattle.station_book.specs.History.{after, may_publish, is_lost, with_ask, asked, event_at}
 use Rattle.station_book.specs.History.{then_after, replay, IsLegal, StandsAs}

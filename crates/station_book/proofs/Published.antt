@@ -1,5 +1,5 @@
 -- What the events of a history publish.
-use Rattle.std.proofs.Common.{IfSome, unwrap_or, ◌≡◌, ℕ, ◌≤◌, true, false, ◌&&◌, List, [], ◌∷◌}
+use Rattle.std.proofs.Common.{IfSome, unwrap_or, ◌≡◌, ℕ, ◌≤◌, true, false, List, [], ◌∷◌}
 use Rattle.std.proofs.Common.{◌++◌, length, length-append, if◌then◌else◌, Bool, refl, ap, sym}
 use Rattle.std.proofs.Common.{subst, ◌∙◌, append_assoc, append-nil, arith}
 use Rattle.std.proofs.lemmas.List.Sums.{fold-append}

@@ -11,7 +11,6 @@ use Rattle.cltu_queue.specs.Machine.{Machine, new_machine, on_start, on_stop, on
 use Rattle.cltu_queue.specs.Machine.{queued_unless, on_take, on_notice, on_notice_of}
 use Rattle.cltu_queue.specs.Forward as queue
 use Rattle.cltu_queue.specs.Forward.{forward, unfit, started, transferred, took as was_taken}
-use Rattle.cltu_queue.specs.Forward.{notified}
 use Rattle.cltu_queue.specs.Run as run
 use Rattle.cltu_queue.specs.Run.{Step, steps, Radiation, RadiateInOrder, AreInTurn, ids_of}
 use Rattle.cltu_queue.specs.Run.{count_up}
@@ -26,7 +25,7 @@ use Rattle.cltu_queue.specs.declared.taken.Taken.TheVariants.{Idle, Waits, Expir
 use Rattle.station_book.specs.State.{State, Opening, opened, Event, Answer, answered, accepted}
 use Rattle.station_book.specs.State.{foreign, took, Call, publish, answer, quit, take, done}
 use Rattle.station_book.specs.State.{interrupted, uplink, gone}
-use Rattle.station_book.specs.History.{moment_at, has_forward, is_running, is_lost, is_told}
+use Rattle.station_book.specs.History.{moment_at, is_running, is_lost, is_told}
 use Rattle.station_book.specs.History.{queue_asked, with_ask, asked, queue_answered, start_reply}
 use Rattle.station_book.specs.History.{transfer_reply, reply_asked, after, answer_to, event_at}
 use Rattle.station_book.specs.History.{then_after, replay, IsLegal, may_publish}

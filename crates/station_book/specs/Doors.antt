@@ -1,5 +1,5 @@
 -- Which door has which instance, and what the calls of other doors leave.
-use Rattle.std.specs.Prelude.{◌≡◌, ℕ, Bool, false, ◌==◌, Option, Some, List, slice_get, IsTrue}
+use Rattle.std.specs.Prelude.{◌≡◌, ℕ, Bool, false, ◌==◌, Some, List, slice_get, IsTrue}
 use Rattle.station_book.specs.declared.service_kind.ServiceKind.{ServiceKind}
 use Rattle.station_book.specs.State.{State, Call, answer, quit}
 use Rattle.station_book.specs.History.{is_forward}

@@ -22,9 +22,8 @@ use Rattle.cltu_queue.specs.declared.book_reply.BookReply.TheVariants.{Rejected,
 use Rattle.cltu_queue.specs.declared.cltu.Cltu.{Cltu}
 use Rattle.cltu_queue.specs.declared.notice.Notice.{Notice}
 use Rattle.station_book.specs.declared.service_kind.ServiceKind.{ServiceKind}
-use Rattle.station_book.specs.declared.service_kind.ServiceKind.TheVariants.{Raf, Rcf}
 use Rattle.station_book.specs.declared.service_kind.ServiceKind.TheVariants.{Cltu as Forward}
-use Rattle.station_book.specs.State.{Opening, State, opened, Call, publish, answer, quit, take}
+use Rattle.station_book.specs.State.{State, opened, Call, publish, answer, quit, take}
 use Rattle.station_book.specs.State.{done, interrupted, uplink, gone, Answer, Reply, nothing}
 use Rattle.station_book.specs.State.{accepted, foreign, answered, took, Event}
 

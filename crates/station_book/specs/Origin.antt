@@ -1,5 +1,5 @@
 -- The origin that a site gives a book.
-use Rattle.std.specs.Prelude.{ℕ, Option, None, List, map, slice_get}
+use Rattle.std.specs.Prelude.{ℕ, Option, List, map, slice_get}
 use Rattle.std.specs.List.{position}
 use Rattle.std.specs.Option.{option_map_or}
 use Rattle.archive_terms.specs.Archive.{Entry}

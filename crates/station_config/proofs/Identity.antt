@@ -1,5 +1,5 @@
 -- A test that passes exactly at equal identifiers.
-use Rattle.std.proofs.Common.{◌≡◌, Bool, true, false, List, refl, sym, ◌∙◌}
+use Rattle.std.proofs.Common.{◌≡◌, Bool, true, false, List, refl}
 use Rattle.std.specs.Prelude.{IsTrue, ◌↔◌}
 use Rattle.sle_common.specs.declared.instance_id.InstancePart.{InstancePart}
 use Rattle.station_config.specs.Drafts.{same_id}

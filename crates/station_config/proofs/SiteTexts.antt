@@ -1,7 +1,7 @@
 -- Each valid site is one that some text says: its settings, then its peers, then its instances.
 use Rattle.std.proofs.Common.{◌≡◌, ℕ, zero, suc, ◌+◌, ◌<◌, ◌≤◌, Bool, true, false, not, ◌&&◌, ◌||◌}
 use Rattle.std.proofs.Common.{◌==◌, cond, if◌then◌else◌, nat_le, nat_lt, List, [], ◌∷◌, ◌++◌}
-use Rattle.std.proofs.Common.{length, map, get_or, Option, Some, None, Result, Ok, Err, unwrap_or}
+use Rattle.std.proofs.Common.{length, map, get_or, Some, None, Ok, unwrap_or}
 use Rattle.std.proofs.Common.{refl, sym, ◌∙◌, ap, subst, arith, zero-add, eq-eqb, append-nil}
 use Rattle.std.proofs.Common.{append_assoc, length-append}
 use Rattle.std.proofs.lemmas.Bool.{and_parts, leb-true, le-leb}
@@ -45,17 +45,16 @@ use Rattle.station_config.specs.declared.service.Service.TheVariants.{Raf as Raf
 use Rattle.station_config.specs.declared.service.Service.TheVariants.{Rcf as RcfService}
 use Rattle.station_config.specs.declared.service.Service.TheVariants.{Cltu as CltuService}
 use Rattle.station_config.specs.declared.site.Site.{Site}
-use Rattle.words.specs.Alphabet.{Of, EachOf}
+use Rattle.words.specs.Alphabet.{EachOf}
 use Rattle.words.specs.Channels.{gvcid, number_of}
 use Rattle.words.specs.Fixed.{same_word, is_same, or_none}
-use Rattle.words.specs.Identifiers.{identifier, identifier_fits}
+use Rattle.words.specs.Identifiers.{identifier_fits}
 use Rattle.words.specs.Judged.{and_so}
 use Rattle.words.specs.Lines.{reading, spelling}
 use Rattle.words.specs.Many.{each_fits, AreMany}
-use Rattle.words.specs.Names.{is_name, is_graphic}
+use Rattle.words.specs.Names.{is_graphic}
 use Rattle.words.specs.Number.{IsWithin, number}
-use Rattle.words.specs.Parts.{parts, joined_by, parts_of_text}
-use Rattle.words.specs.Steps.{contradicted}
+use Rattle.words.specs.Parts.{joined_by, parts_of_text}
 
 -- ---- the text
 

@@ -1,8 +1,8 @@
 -- A site that a configuration says is valid.
-use Rattle.std.proofs.Common.{◌≡◌, ℕ, ◌+◌, ◌<◌, ◌≤◌, ◌⊎◌, inl, inr, Bool, true, false, not, ◌&&◌}
+use Rattle.std.proofs.Common.{◌≡◌, ℕ, ◌+◌, ◌<◌, ◌≤◌, inl, inr, Bool, true, false, not, ◌&&◌}
 use Rattle.std.proofs.Common.{◌||◌, cond, if◌then◌else◌, nat_le, nat_lt, List, [], ◌∷◌, ◌++◌}
 use Rattle.std.proofs.Common.{length, map, Option, Some, None, Result, Ok, Err, unwrap_or, refl}
-use Rattle.std.proofs.Common.{sym, ◌∙◌, ap, subst, arith, zero-add, zero, suc, slice_index}
+use Rattle.std.proofs.Common.{◌∙◌, ap, subst, arith, zero-add, zero, suc, slice_index}
 use Rattle.std.proofs.Common.{length-append}
 use Rattle.std.proofs.lemmas.Bool.{and_parts, leb-true, eqb-true}
 use Rattle.std.proofs.lemmas.Bool.Decides.{nat_tests}
@@ -12,13 +12,12 @@ use Rattle.std.proofs.lemmas.List.Quantifiers.{all_pairs_push}
 use Rattle.std.proofs.lemmas.List.Sums.{fails_before_first, sum_by-append}
 use Rattle.std.specs.List.{All, list_any, position, position_or_len, count_by}
 use Rattle.std.specs.Option.{is_some}
-use Rattle.std.specs.Prelude.{codes, IfOk}
+use Rattle.std.specs.Prelude.{IfOk}
 use Rattle.std.specs.Str.{bytes_eq}
 use Rattle.sle_common.specs.Identifier.{IsIdentifier}
 use Rattle.sle_common.specs.declared.gvcid.Channel.{Channel}
 use Rattle.sle_common.specs.declared.gvcid.Channel.TheVariants.{Master, Virtual}
 use Rattle.sle_common.specs.declared.gvcid.Gvcid.{Gvcid}
-use Rattle.sle_common.specs.declared.instance_id.InstancePart.{InstancePart}
 use Rattle.station_config.proofs.Places.{place_within}
 use Rattle.station_config.specs.Answers.{Answers}
 use Rattle.station_config.specs.Drafts.{id_of, owner_of, timeout_of, service_of, empty, place_of}
@@ -27,11 +26,10 @@ use Rattle.station_config.specs.Drafts.{cause_in, instance_in, added, is_skipped
 use Rattle.station_config.specs.Drafts.{told, Refusal, onward, next, told_from, site_of, finished}
 use Rattle.station_config.specs.Drafts.{site_told}
 use Rattle.station_config.specs.Grammar.{configuration, configuration_is_exact, instance_line}
-use Rattle.station_config.specs.Grammar.{both_rise}
 use Rattle.station_config.specs.Identity.{same_id_decides}
 use Rattle.station_config.specs.Kinds.{is_latency, mode_number}
-use Rattle.station_config.specs.Validity.{IsFrom, AreApart, IsSpan, AreVersions, IsPeer, ArePeers}
-use Rattle.station_config.specs.Validity.{IsReturn, IsChannel, IsVirtual, AreChannels, IsForward}
+use Rattle.station_config.specs.Validity.{IsFrom, AreApart, IsPeer, ArePeers}
+use Rattle.station_config.specs.Validity.{IsReturn, IsChannel, IsVirtual, AreChannels}
 use Rattle.station_config.specs.Validity.{IsService, is_forward, IsInstance, AreInstances, IsSite}
 use Rattle.station_config.specs.declared.cause.Cause.{Cause}
 use Rattle.station_config.specs.declared.cause.Cause.TheVariants.{Repeated, NoOwner, Surplus}
@@ -52,7 +50,7 @@ use Rattle.words.specs.Channels.{gvcid, number_of}
 use Rattle.words.specs.Fixed.{is_same, or_none as fits_or_none}
 use Rattle.words.specs.Identifiers.{fits_identifier}
 use Rattle.words.specs.Judged.{err_ok}
-use Rattle.words.specs.Lines.{reading, by_first}
+use Rattle.words.specs.Lines.{reading}
 use Rattle.words.specs.Many.{each_fits, AreMany}
 use Rattle.words.specs.Number.{IsWithin, number}
 use Rattle.words.specs.Parts.{parts}

@@ -1,5 +1,5 @@
 -- What a call on a configuration answers; want of memory is free.
-use Rattle.std.specs.Prelude.{◌≡◌, ℕ, Result, Ok, Err}
+use Rattle.std.specs.Prelude.{◌≡◌, Result, Ok, Err}
 use Rattle.station_config.specs.Causes.{cause_of_words}
 use Rattle.station_config.specs.Drafts.{Refusal}
 use Rattle.station_config.specs.declared.cause.Cause.{Cause}

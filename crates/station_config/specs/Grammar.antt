@@ -1,10 +1,9 @@
 -- The lines of a configuration, each a first word and a row of words behind it.
-use Rattle.std.proofs.Common.{◌≡◌, ℕ, ◌⊎◌, inl, inr, Bool, ◌&&◌, nat_le, List, [], ◌∷◌, refl}
+use Rattle.std.proofs.Common.{◌≡◌, ℕ, ◌⊎◌, inl, inr, Bool, ◌&&◌, nat_le, List, refl}
 use Rattle.std.specs.Prelude.{codes}
 use Rattle.sle_common.specs.declared.gvcid.Gvcid.{Gvcid}
 use Rattle.sle_common.specs.declared.instance_id.InstancePart.{InstancePart}
 use Rattle.station_config.specs.Kinds.{level, hash, mode, is_latency, owner}
-use Rattle.station_config.specs.declared.heartbeat.Heartbeat.{Heartbeat}
 use Rattle.station_config.specs.declared.instance_line.InstanceLine.{InstanceLine}
 use Rattle.station_config.specs.declared.instance_line.InstanceLine.TheVariants.{Raf, Rcf, Cltu}
 use Rattle.station_config.specs.declared.level.Level.{Level}

@@ -22,8 +22,8 @@ use Rattle.return_pdu.specs.declared.service.Service.TheVariants.{Raf}
 use Rattle.return_pdu.specs.TransferItem as said
 use Rattle.return_pdu.specs.TransferItem.{raf_item, BuffersAreExact}
 use Rattle.return_pdu.specs.Plain.{FramesArePlain, EndIsPlain, FramesAreShort}
-use Rattle.archive_terms.specs.Archive.{frame, loss_of_sync, production, seal, is_moment}
-use Rattle.archive_terms.specs.Archive.{is_storable, is_archive, may_precede, is_ordered}
+use Rattle.archive_terms.specs.Archive.{frame, is_moment}
+use Rattle.archive_terms.specs.Archive.{is_storable, is_archive, is_ordered}
 use Rattle.archive_terms.specs.Archive as terms
 use Rattle.archive_terms.specs.Selection.{Selection, is_picked, picked}
 use Rattle.archive_terms.specs.Delivery.{Item, archived, end_of_data, archived_items, all_items}
@@ -46,16 +46,8 @@ made days millis rest = record { days = days; millis = millis; rest = rest }
 
 fields_by : (days millis : ℕ) (rest : Rest) → IsTrue (is_moment (made days millis rest))
     → FieldsFit (made days millis rest)
-fields_by days millis (Micros n) is = record {
-  days = grind (arith, nat_tests);
-  millis = grind (arith, nat_tests);
-  rest = grind (arith, nat_tests);
-}
-fields_by days millis (Picos n) is = record {
-  days = grind (arith, nat_tests);
-  millis = grind (arith, nat_tests);
-  rest = grind (arith, nat_tests);
-}
+fields_by days millis (Micros n) is = grind (arith, nat_tests)
+fields_by days millis (Picos n) is = grind (arith, nat_tests)
 
 -- what makes a frame storable, one by one
 parts : (time : Bool) (quality antenna lost octets : ℕ)
@@ -92,8 +84,8 @@ buffers_few : CutsAreBuffers → (entries : List (ℕ × terms.Entry)) (closed :
     → All HasFew (offline_buffers BUFFER_ITEMS entries closed)
 buffers_few cuts entries closed =
     let buffers = cut BUFFER_ITEMS (archived_items entries) in
-    let few : All HasFew buffers = All-weaker (IsBuffer BUFFER_ITEMS) HasFew (λ b is. is.few) buffers
-    (cuts BUFFER_ITEMS (archived_items entries) (omega arith)) in
+    let few : All HasFew buffers = All-weaker (IsBuffer BUFFER_ITEMS) HasFew
+    (λ b is. is.few) buffers (cuts BUFFER_ITEMS (archived_items entries) (omega arith)) in
     elim closed as (λ b. All HasFew (offline_buffers BUFFER_ITEMS entries b)) [
       | true ↦ All-push HasFew buffers (end_of_data ∷ []) few (omega arith)
       | false ↦ All-filter (is_complete BUFFER_ITEMS) HasFew buffers few
@@ -129,11 +121,7 @@ said_more x told n one rest = record {
   handed = (one.handed, rest.handed);
   fit = (one.fits, rest.fit);
   are = rw (one.tree, rest.are) refl;
-  small = omega (
-    arith,
-    length-append (canonical (item_tree x)) (flat_map canonical
-        (map item_tree told)),
-  );
+  small = omega (arith, length-append {A = ℕ});
 }
 
 buffer_small : (members : List Tree) (n : ℕ) → length (flat_map canonical members) ≤ n

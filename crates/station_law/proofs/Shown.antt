@@ -11,8 +11,6 @@ use Rattle.drill_text.specs.declared.script_line.ScriptLine.{ScriptLine}
 use Rattle.drill_text.specs.declared.script_line.ScriptLine.TheVariants.{Open}
 use Rattle.drill_text.specs.Reading.{reading}
 use Rattle.session_core.specs.Session as sessions
-use Rattle.session_core.specs.Session.{step_events}
-use Rattle.session_core.specs.Course.{is_over}
 use Rattle.session_core.specs.Steps.{ask_of}
 use Rattle.station_links.specs.Connected.{Connected}
 use Rattle.station_law.specs.Store.{Store}

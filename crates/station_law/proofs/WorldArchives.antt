@@ -22,8 +22,8 @@ use Rattle.gate_journal.specs.File.{IsBatch, joined, StandsAt, StandsFor, entrie
 use Rattle.gate_journal.specs.JournalState.{Keeps, IsOldOrNew, HasBatch}
 use Rattle.frame_archive.specs.declared.fault.OfferFault.{OfferFault}
 use Rattle.frame_archive.specs.State as archives
-use Rattle.frame_archive.specs.State.{ArchiveState, with_waiting, with_stored, with_failed}
-use Rattle.frame_archive.specs.State.{times_of, failed_batch, at_rest}
+use Rattle.frame_archive.specs.State.{ArchiveState, with_waiting, with_stored}
+use Rattle.frame_archive.specs.State.{times_of, at_rest}
 use Rattle.frame_archive.specs.Acknowledges.{Acknowledges}
 use Rattle.frame_archive.specs.Faults.{IsRefusal}
 use Rattle.station_law.specs.declared.refusal.Refusal.{Refusal}

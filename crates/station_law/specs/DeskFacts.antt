@@ -95,7 +95,8 @@ module _ (laws : Delivers) (state : Store) (start stop : Cds) (quality : ℕ) wh
   unfolding began
   right = record {
     begins = λ later archive. rw items_are (laws.stays (terms start stop quality) state.published
-        later _ archive (laws.holds BUFFER_ITEMS (picked state.published (selection start stop quality))
+        later _ archive (laws.holds BUFFER_ITEMS
+        (picked state.published (selection start stop quality))
         (is_closed state.published (moment stop))));
     told = λ later. rw items_are (laws.told_stays BUFFER_ITEMS state.published later
         (selection start stop quality) (is_closed state.published (moment stop)));

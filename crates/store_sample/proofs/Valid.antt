@@ -1,5 +1,5 @@
 -- Each numbered entry is valid.
-use Rattle.std.proofs.Common.{◌≡◌, ℕ, ◌<◌, ◌%◌, ◌+◌, ◌*◌, true, arith}
+use Rattle.std.proofs.Common.{◌≡◌, ℕ, ◌<◌, ◌%◌, true, arith}
 use Rattle.std.proofs.lemmas.Bool.{lt-ltb}
 use Rattle.cds_time.specs.declared.cds.Rest.TheVariants.{Micros}
 use Rattle.archive_terms.specs.Archive.{is_moment}

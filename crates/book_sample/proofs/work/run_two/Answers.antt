@@ -1,6 +1,4 @@
-use Rattle.std.proofs.Common.{◌≡◌, List, [], ◌∷◌, ◌++◌, ap, ◌∙◌, rules}
-use Rattle.turn_lock.specs.declared.view.Mark.{Mark}
-use Rattle.station_book.specs.State.{Event}
+use Rattle.std.proofs.Common.{◌≡◌, [], ◌∷◌, ◌++◌, ◌∙◌, rules}
 use Rattle.book_sample.proofs.Seated.{did_of, joined_two}
 use Rattle.book_sample.proofs.work.run_two.Goals as goal
 

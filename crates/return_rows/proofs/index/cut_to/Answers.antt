@@ -1,4 +1,4 @@
-use Rattle.std.proofs.Common.{List, take, subst}
+use Rattle.std.proofs.Common.{List, subst}
 use Rattle.std.proofs.lemmas.List.{take-map}
 use Rattle.archive_terms.specs.Archive as archive
 use Rattle.record_form.specs.Entry.{entry_of, entries_of}

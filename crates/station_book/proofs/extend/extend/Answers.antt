@@ -1,5 +1,4 @@
-use Rattle.std.proofs.Common.{◌≡◌, ◌+◌, ◌++◌, ◌∷◌, take, drop, false, sym, subst, ◌∙◌, IsFalse}
-use Rattle.std.proofs.Common.{rules}
+use Rattle.std.proofs.Common.{◌≡◌, ◌+◌, ◌++◌, ◌∷◌, take, drop, false, subst}
 use Rattle.archive_terms.specs.Archive.{is_archive, may_follow}
 use Rattle.record_form.specs.Entry.{entry_of, entries_of}
 use Rattle.station_book.proofs.Extending.{foreign_entry, taken_apart}

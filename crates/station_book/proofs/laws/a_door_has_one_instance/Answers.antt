@@ -1,4 +1,3 @@
-use Rattle.std.proofs.Common.{sym, ◌∙◌}
 use Rattle.station_book.proofs.Bound.{one_instance, one_door}
 use Rattle.station_book.proofs.laws.a_door_has_one_instance.Goals as goal
 

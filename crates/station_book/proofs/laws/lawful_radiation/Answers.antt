@@ -1,5 +1,4 @@
-use Rattle.station_book.proofs.Histories.{legal_goes_on}
-use Rattle.station_book.proofs.Radiating.{lawful_run, run_of_history}
+use Rattle.station_book.proofs.Radiating.{run_of_history}
 use Rattle.station_book.proofs.laws.lawful_radiation.Goals as goal
 
 pub returns : goal.returns

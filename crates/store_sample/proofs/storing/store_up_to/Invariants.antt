@@ -1,4 +1,4 @@
-use Rattle.std.proofs.Common.{◌≡◌, ◌≤◌, ◌++◌, ℕ, Ok, max, List}
+use Rattle.std.proofs.Common.{◌≡◌, ◌≤◌, ◌++◌, Ok, max, List}
 use Rattle.octet_core.specs.Written.{Writes}
 use Rattle.archive_terms.specs.Archive.{Entry}
 use Rattle.frame_archive.specs.Acknowledges.{Acknowledges}
