@@ -6,7 +6,8 @@ import os
 import subprocess
 import sys
 import tempfile
-import time
+
+RUNS = 15
 
 
 def script(frames):
@@ -22,19 +23,20 @@ def script(frames):
 
 
 def run(command, path, want):
-    """Seconds and what the command says on standard error; the number of messages is tested."""
+    """Seconds of processor time and what the command says on standard error; the number of messages
+    is tested."""
     with open(path, "rb") as source, tempfile.TemporaryFile() as output:
-        begun = time.perf_counter()
-        done = subprocess.run(command, stdin=source, stdout=output, stderr=subprocess.PIPE,
-                              text=True)
-        seconds = time.perf_counter() - begun
-        if done.returncode != 0:
-            sys.exit(f"the program ended with {done.returncode}")
+        process = subprocess.Popen(command, stdin=source, stdout=output, stderr=subprocess.PIPE,
+                                   text=True)
+        said = process.stderr.read()
+        _, status, usage = os.wait4(process.pid, 0)
+        if status != 0:
+            sys.exit(f"the program ended with {status}")
         output.seek(0)
         sent = sum(1 for line in output if line.startswith(b"sent 0 "))
         if sent != want:
             sys.exit(f"{sent} messages, not {want}")
-        return seconds, done.stderr
+        return usage.ru_utime + usage.ru_stime, said
 
 
 def main():
@@ -47,10 +49,11 @@ def main():
             file.flush()
             size = os.path.getsize(file.name) // 1024
             want = (frames + 1) // 2 + 1
-            seconds = min(run(program, file.name, want)[0] for _ in range(5))
+            seconds = min(run(program, file.name, want)[0] for _ in range(RUNS))
             _, peak = run(["/usr/bin/time", "-f", "%M"] + program, file.name, want)
             rate = frames / seconds
             print(f"{frames:>7} {size:>11} {seconds:>8.4f} {rate:>9.0f} {peak.strip():>9}")
+    print("load: %.1f %.1f %.1f" % os.getloadavg())
 
 
 main()
