@@ -24,7 +24,7 @@ SEED = int(sys.argv[3]) if len(sys.argv) > 3 else random.SystemRandom().randrang
 ROUNDS = 100
 ROUNDS_A_FILE = 10
 MOST_ENTRIES = b"500000"
-# A program that does nothing for so long is stopped, in seconds.
+# A program that runs for longer is stopped, in seconds.
 PATIENCE = 20
 
 passed = failed = 0

@@ -11,7 +11,7 @@ use std::test::Fail;
 pub const MESSAGES: &str = "context heartbeat bind=MOC unbind peer-abort start stop report get \
     throw transfer other undecoded";
 
-/// The names of all outcomes; of a bound user the peer stands behind `-`.
+/// A name of each outcome; of a bound user, here of a forward service, the peer stands behind `-`.
 pub const OUTCOMES: &str = ">context >forward-7 >denied >started >stopped >unbound >kept";
 
 fn message_of(word: &str) -> Option<PduKind<'_>> {

@@ -341,7 +341,8 @@ mod tests {
         Ok(())
     }
 
-    // The octet is in the file where the disk stops at the gate, and its pick keeps the gate.
+    // The octet is in the file where the disk stops at the gate or behind it, and its pick keeps
+    // the gate.
     #[test]
     fn after_each_stop_octets_are_recovered_and_added(rt: HostRuntime) -> Result<(), Fail> {
         for calls in 1..=4 {

@@ -49,7 +49,7 @@ fn a_file_is_full_at_its_last_octet(rt: HostRuntime) -> Result<(), Fail> {
     Ok(())
 }
 
-// In a file with room for 256 entries and no octet more: a frame that is late, long, one too many
+// In a file with room for what waits and no octet more: a frame that is late, long, one too many
 // and too much for the file, and then without the first of these causes, and so on.
 #[test]
 fn each_refusal_of_an_offer_comes_before_the_next(rt: HostRuntime) -> Result<(), Fail> {

@@ -42,7 +42,8 @@ fn check_appends(rt: &impl Abort, alloc: Global, order: &str, is_kept: bool) -> 
     check(rt, alloc, FILE, &second_rows(alloc, order, is_kept)?)
 }
 
-// A batch is in the file where the disk stops at its gate, and the pick keeps the gate.
+// A batch is in the file where the disk stops at its gate or behind it, and the pick keeps the
+// gate.
 fn check_stop(rt: &impl Abort, alloc: Global, calls: u64, pick: &str) -> Result<(), Fail> {
     let order = format!(in alloc; "stop {calls} {pick}")?;
     check_appends(rt, alloc, &order, calls >= 3 && pick == "new")

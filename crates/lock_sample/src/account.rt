@@ -52,6 +52,8 @@ impl StandsFor<Booking> for Account {
 }
 
 impl Account {
+    /// An account with the opening's balance, no booking and room for the opening's count of notes:
+    /// all the memory that it ever takes. The error is that there was none.
     pub fn new(alloc: Global, opening: Opening) -> Result<Account, Memory>
         ensures { IfOk result (λ a. a ≡ opened opening) }
     {
@@ -63,6 +65,7 @@ impl Account {
         })
     }
 
+    /// What is in the account after the orders that were booked.
     pub fn balance(&self) -> u64
         ensures { result ≡ self.now.balance }
     {

@@ -20,6 +20,7 @@ pub trait Counter {
         ensures answers { Tells (answers self.old) (answers self.new) (result ∷ []) }
         ensures replies { Tells (replies self.old) (replies self.new) [] };
 
+    /// Takes the reply to an order that it gave.
     fn take(&mut self, reply: Reply)
         ensures answers { Tells (answers self.old) (answers self.new) [] }
         ensures replies { Tells (replies self.old) (replies self.new) (reply ∷ []) };
@@ -32,6 +33,7 @@ pub trait Clock {
 
     ghost readings: { Self → Option (List ℕ) };
 
+    /// What the clock reads now.
     fn read(&mut self) -> u64
         ensures { Tells (readings self.old) (readings self.new) (result ∷ []) };
 }
@@ -47,6 +49,7 @@ pub trait Desk {
         ensures { Adds (told self.old) (told self.new) (order_of result ∷ []) (reading_of result)
             [] };
 
+    /// Takes the reply to an order that it gave.
     fn take(&mut self, reply: Reply)
         ensures { Adds (told self.old) (told self.new) [] [] (reply ∷ []) };
 }

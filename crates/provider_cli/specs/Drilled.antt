@@ -99,7 +99,7 @@ Completes before after status =
     → ¬ Rose before.read_faults after.read_faults → ¬ Rose before.write_faults after.write_faults
     → (status ≡ status_by script) ⊎ (status ≡ Memory))
 
--- all of it
+-- what was written, which calls failed, and what the script is
 pub record Drilled (before after : Outside) (status : Status) : Type 0 where
   pub text : HasText before after (ended status)
   pub reads : HasReads before after (ended status)

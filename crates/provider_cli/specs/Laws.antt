@@ -1,5 +1,5 @@
--- The laws that the headline rests on: of scripts, of deliveries, of buffers and what a user reads
--- of them, and of streams.
+-- The laws that a drill's promise rests on: of scripts and their connections, of deliveries, of
+-- buffers and what a user reads of them, and of streams.
 use Rattle.std.specs.Prelude.{◌≡◌, ℕ, ◌<◌, ◌≤◌, Bool, IsTrue, IsFalse, List, [], ◌∷◌, ◌++◌}
 use Rattle.std.specs.Prelude.{length, map, take, None}
 use Rattle.std.specs.List.{AllByRecursion, list_any}

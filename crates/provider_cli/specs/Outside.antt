@@ -1,4 +1,4 @@
--- What the outside of a drill shows.
+-- What the outside of the program shows.
 use Rattle.std.specs.Prelude.{ℕ, Option, List}
 
 -- the octets that the input has left and those that the output holds, where they tell, and how

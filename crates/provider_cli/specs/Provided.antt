@@ -16,7 +16,7 @@ use Rattle.provider_cli.specs.Promise.{IsDrill}
 use Rattle.provider_cli.specs.Rehearsals.{IsRehearsal}
 
 -- Words that are no command are told so; each command does what it promises, `init` and `list` on
--- the disk; and no other command reads, or has the disk.
+-- the disk; none but `drill` reads, and none but those two changes the disk.
 pub record IsProvided {D : Type 0} (pending : D → Option Pending) (extent moment : D → ℕ)
     (images_since : D → ℕ → List ℕ → Type 0) (faults : D → ℕ) (plan : Option Plan)
     (old new : Option D) (before after : Outside) (exit : ℕ) : Type 0 where

@@ -26,8 +26,8 @@ pub const SCRIPT_OCTETS: usize = 16_777_216;
 // How many octets of the input are asked for at once.
 const PIECE_OCTETS: usize = 65_536;
 
-/// Runs the script on the input, writes its transcript and the last line of its status, and answers
-/// the status's exit code.
+/// Runs the script on the input, writes its transcript and the line of a status that has one, and
+/// answers the status's exit code.
 pub fn drill<I: Source, O: Sink>(alloc: Global, input: &mut I, output: &mut O) -> u8
     ensures { IsDrill
         (showing (I.left input.old) (I.faults input.old)

@@ -5,7 +5,7 @@
 pub enum Ending {
     /// All of it was read.
     Whole,
-    /// At the gate at this place it isn't of its form, as it was when it was checked.
+    /// At the gate at this place it is no longer of its form, which it had when it was checked.
     Changed { place: u64 },
     /// The disk failed.
     DiskFault,

@@ -2,7 +2,8 @@
 //
 // `drill` reads a script of received frames, other entries, clock readings, STARTs of an offline
 // return service and connections of users, has its lines run in the world of `station_law`, and
-// writes the transfer buffers that a user would be handed and what a connection's user hears. `init` makes an archive file, and `list` writes the entries of one.
+// writes the transfer buffers that a user would be handed and what a connection's user hears.
+// `init` makes an archive file, and `list` writes the entries of one.
 // `rehearse` makes a pass of frames from a number, and writes what a START over all of it comes to.
 // `provide` is the program over any input, output and disk; `main` gives it the standard ones, and
 // the disk over the file of a path.

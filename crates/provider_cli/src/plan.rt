@@ -9,12 +9,12 @@ pub enum Plan {
     Drill,
     /// `init PATH`: make a new archive file.
     Init {
-        /// The file's path, a text of any octets.
+        /// The file's path, the octets of a text.
         path: Octets,
     },
     /// `list PATH`: write the entries of an archive file.
     List {
-        /// The file's path, a text of any octets.
+        /// The file's path, the octets of a text.
         path: Octets,
     },
     /// `rehearse N`: write what a pass of frames comes to.

@@ -23,7 +23,7 @@ pub fn tell<O: Sink>(text: &[u8], own: Status, output: &mut O) -> u8
     }
 }
 
-/// Writes a line, its line end with it.
+/// Writes octets as they are: a line brings its line end.
 pub fn put_line<O: Sink>(line: &[u8], output: &mut O) -> Result<(), Stop>
     ensures written { Wrote (O.written output.old) (O.written output.new)
         (O.faults output.old) (O.faults output.new)

@@ -9,7 +9,7 @@ use Rattle.station_desk.specs.Start.{told_desk}
 use Rattle.rehearsal.specs.Frames.{time_at, frames_stored, archive}
 use Rattle.rehearsal.specs.Counts.{frames_sent, buffers_sent, ends_sent, octets_sent}
 
--- the buffers of the desk's START for the good frames, from the first one's time to the last one's
+-- the buffers of the desk's START for the good frames, from frame 0's time to frame n - 1's
 abbrev pub told : ℕ → List ToldBuffer
 told n = told_desk (archive n) (time_at 0) (time_at (n - 1)) 0
 

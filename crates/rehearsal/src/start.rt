@@ -12,7 +12,7 @@ use station_desk::Buffers;
 use station_desk::laws::a_start_has_few_buffers;
 use std::alloc::Global;
 
-/// Makes a START over the whole archive, and counts what it hands over.
+/// Makes a START of these times and this quality over an archive, and counts what it hands over.
 pub fn count_start(
     alloc: Global,
     archive: &Archive,

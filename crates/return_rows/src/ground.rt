@@ -10,7 +10,7 @@ use std::alloc::{AllocError, Global};
 use std::process::Abort;
 use std::test::Fail;
 
-/// An entry of the archive, which stands at its place in a list. Each is picked.
+/// An entry of the archive, at its place in a list. Each is picked that the stop doesn't shut out.
 #[derive(Clone, Copy, Debug, PartialEq, Eq)]
 pub enum Entry {
     /// A frame of one octet.

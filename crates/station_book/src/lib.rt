@@ -2,13 +2,13 @@
 // forward service's queue, which door has which instance, which workers are gone, and the latest
 // moment.
 //
-// The definition `History` says what one thread gets that makes calls of the book one after the
-// other: an event names a call, its moment and its whole reply, each reply is what the replay of
-// the events before it gives, and a list is legal where that holds of all. `Book` does exactly
-// that, call by call: `new`, `peek`, `look`, `publish`, `answer`, `quit`, `take`, `done`,
-// `interrupted`, `uplink`, `gone`, `all_gone`, `view`. Under the lock of `turn_lock` a book stands
-// for the list of its events (`StandsFor<Event>`), and an `Event` names a call by what determines
-// it. `laws` has what holds of every legal history, lawful radiation among it.
+// The definition in `specs/History.antt` says what one thread gets that makes calls of the book
+// one after the other: an event names a call, its moment and its whole reply, each reply is what
+// the replay of the events before it gives, and a list is legal where that holds of all. `Book`
+// does exactly that, call by call: `new`, `peek`, `look`, `publish`, `answer`, `quit`, `take`,
+// `done`, `interrupted`, `uplink`, `gone`, `all_gone`, `view`. Under the lock of `turn_lock` a
+// book stands for the list of its events (`StandsFor<Event>`), and an `Event` names a call by what
+// determines it. `laws` has what holds of every legal history, lawful radiation among it.
 //
 // `look` and `answer` go over the index from the wanted place to the last item that they give and
 // on to the next picked one, and share the octets of what they give; `publish` costs what it is

@@ -2,8 +2,8 @@
 // everything. What a START of it hands over, and the messages of that.
 //
 // `Buffers` goes over the buffers of a START. It is a `Delivery` of `return_core` over whatever
-// gives looks at entries, as a session's is: each round a look, and a buffer that is offered and
-// taken whole, until a round hands nothing over. No more than one buffer and its message are held.
+// gives looks at entries: each round a look, and a buffer that is offered and taken whole, until a
+// round hands nothing over. No more than one buffer and its message are held.
 //
 // A buffer costs one look, and its message one copy of its frames.
 #![tactic(auto)]

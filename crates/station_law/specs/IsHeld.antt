@@ -1,5 +1,5 @@
--- What holds of the parts of each world: its archive on a disk in memory has acknowledged what is
--- published, and nothing else.
+-- What holds of the parts of each recorder: unless it is spent, its archive on a disk in memory has
+-- acknowledged what is published, and nothing else.
 use Rattle.std.specs.Prelude.{◌≡◌, ℕ, ◌<◌, Bool, false, Option, Some, None, IfSome, List, [], ◌∷◌}
 use Rattle.archive_terms.specs.Archive.{Entry}
 use Rattle.record_form.specs.Entry.{entry_of}
@@ -63,16 +63,16 @@ abbrev pub begun_list : Option form.Entry → List Entry
 begun_list None = []
 begun_list (Some entry) = entry_of entry ∷ []
 
--- A world between two lines: its archive has acknowledged what is published, of which these are the
--- last times, and no store is begun.
+-- A recorder between two lines: its archive has acknowledged what is published, of which these are
+-- the last times, and no store is begun.
 pub record IsReady (archive : ArchiveState DiskState) (published : List Entry) (times : Times)
     (begun : Option form.Entry) : Type 0 where
   pub rests : Rests archive published
   pub times_are : times ≡ times_of published
   pub none_begun : begun ≡ None
 
--- Each world is between two lines unless it is spent, and a recovery finds what is published and of
--- a store that isn't over all or nothing; an order that stands is for a call to come.
+-- Each recorder is between two lines unless it is spent, and a recovery finds what is published and
+-- of a store that isn't over all or nothing; an order that stands is for a call to come.
 pub record IsHeld (archive : ArchiveState DiskState) (published : List Entry) (times : Times)
     (begun : Option form.Entry) (order : Option Order) (is_spent : Bool) : Type 0 where
   pub ready : is_spent ≡ false → IsReady archive published times begun

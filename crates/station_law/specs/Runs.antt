@@ -11,7 +11,7 @@ use Rattle.station_law.specs.Said.{Handed, texts, handed_by, buffers_handed, buf
 use Rattle.station_law.specs.Answer.{Answer}
 use Rattle.station_law.specs.Sound.{Begins, AreRight}
 
--- the number of the first line that is outside the grammar or in a wrong state
+-- the line that tells the number of a bad line
 abbrev pub bad_line : ℕ → List ℕ
 bad_line number = codes "bad line " ++ decimal number ++ 10 ∷ []
 

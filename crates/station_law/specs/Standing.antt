@@ -90,7 +90,7 @@ abbrev pub IsActed : Option SaidAt → Doors → Option Acted → DoorsSeen → 
 IsActed said d None new = (said ≡ None) × AreDoors new d
 IsActed said d (Some a) new = IsSomeAnd said (λ s. HasActed s d a new)
 
--- the same doors but for one, at which no connection is now
+-- the same doors but for one, whatever is at that one now
 pub record AreLeft (seen : DoorsSeen) (d : Doors) (c : ℕ) : Type 0 where
   pub site : seen.site ≡ d.site
   pub book : seen.book ≡ d.book

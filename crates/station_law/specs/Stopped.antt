@@ -33,7 +33,7 @@ HoldsAlone disk entries =
     (image : List ℕ) → IsImage (pending_of disk) image → StandsFor entries image
 
 -- each image of a disk stands for what is published, or for that and the entries of a store that
--- failed, whole
+-- isn't over, whole
 abbrev pub Recovers : DiskState → Store → Type 0
 Recovers disk state =
     (image : List ℕ) → IsImage (pending_of disk) image

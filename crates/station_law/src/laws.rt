@@ -1,5 +1,5 @@
-// The promises of every script, each the contract of an empty function: a caller has it by the
-// call. They follow from the facts of each line alone.
+// The promises of every script, each the contract of a function that does nothing: a caller has it
+// by the call. The headline follows from the facts of each line alone.
 ghost use Rattle.std.specs.Prelude.{◌≡◌, ℕ, ◌≤◌, List, ◌∷◌, Some};
 ghost use Rattle.cds_time.specs.declared.cds.Cds.{Cds};
 ghost use Rattle.drill_text.specs.declared.script_line.ScriptLine.{ScriptLine};

@@ -90,8 +90,8 @@ impl Recorder {
     }
 
     /// The disk in memory, to be looked at. At each return of a call, also of one that was
-    /// stopped, a recovery would find there all that is published, and of a store that failed all
-    /// or nothing.
+    /// stopped, a recovery would find there all that is published, and of a store that isn't over
+    /// all or nothing.
     pub fn disk(&self) -> &MemoryDisk
         ensures disk { result.now ≡ self.now.disk }
         ensures images { Recovers result.now self.now.state }

@@ -1,11 +1,11 @@
-// Why no further line is run.
+// Why a line is stopped.
 ghost use Rattle.std.specs.Prelude.{◌≡◌};
 ghost use Rattle.station_law.specs.declared.stop.Stop.TheVariants.{Memory};
 
 use octet_core::Memory as Refused;
 use std::alloc::{AllocError, AllocFailed};
 
-/// Why no further line is run.
+/// Why a line is stopped, or the writing of its text.
 #[derive(Clone, Copy, Debug, PartialEq, Eq)]
 pub enum Stop {
     /// The output failed.

@@ -82,8 +82,8 @@ impl World {
     }
 
     /// The disk in memory, to be looked at. At each return of a call, also of one that was
-    /// stopped, a recovery would find there all that is published, and of a store that failed all
-    /// or nothing.
+    /// stopped, a recovery would find there all that is published, and of a store that isn't over
+    /// all or nothing.
     pub fn disk(&self) -> &MemoryDisk
         ensures disk { result.now ≡ self.now.recorder.disk }
         ensures images { Recovers result.now self.now.recorder.state }

@@ -4,8 +4,8 @@ use isp1_tml::{Feeder, Message};
 use std::alloc::{AllocError, Global};
 use std::test::Fail;
 
-// A context with interval 30 and factor 5, a heartbeat, PDUs of 4, 0 and 17 octets, and a context
-// with the greatest numbers.
+// A context with interval 30 and factor 5, a heartbeat, PDUs of 4, 0 and 17 octets, a context with
+// the greatest numbers, and the first three octets of a PDU's header.
 const STREAM: [u8; 96] = *b"\x02\0\0\0\0\0\0\x0cISP1\0\0\0\x01\0\x1e\0\x05\
 \x03\0\0\0\0\0\0\0\
 \x01\0\0\0\0\0\0\x04\x9f\x68\x01\x7f\

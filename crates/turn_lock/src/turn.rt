@@ -37,12 +37,15 @@ impl<T: StandsFor<E>, E: HistoryEvent> Model for Turn<T, E> {
 }
 
 impl<T: StandsFor<E>, E: HistoryEvent> Turn<T, E> {
+    /// The value under the lock, as this turn has left it so far.
     pub fn value(&self) -> &T
         ensures { result.now ≡ self.now.value }
     {
         &self.value
     }
 
+    /// The value under the lock, lent to be changed. What is written into it is the turn's value
+    /// when the loan ends; nothing else of the turn changes.
     pub fn value_mut(&mut self) -> &mut T
         ensures* writes_back { sem 𝓛 (Lends (the_row T.row E.row E.Origin.row T.StandsFor) T.row
             self.entry result (λ w. record self.old { value = w })) }

@@ -1,5 +1,4 @@
-// The words of the texts that people write and read: configurations, scripts, transcripts and the
-// user program's lines.
+// The words of the texts that people write and read: configurations, scripts and transcripts.
 //
 // A line is words, one blank apart. Each kind of word says once what it reads, what it writes and
 // which octets its spellings may have (`specs/`), and carries the proof that reading is exact, that

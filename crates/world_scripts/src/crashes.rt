@@ -12,7 +12,7 @@ const F2: &str = "frame 20000/2000/0 0 41 0 0010a2\n";
 
 const F3: &str = "frame 20000/3000/0 0 41 0 0010a3\n";
 
-// F1 alone in a buffer; F1 and F2; F3 behind them; F1 and F3; the end of data.
+// F1 alone in a buffer; F1 and F2; F3 behind them; F1 and F3; F2 and F3; the end of data.
 const A1: &str = "\
 sent 0 0100000000000020a81ea01c800080084e20000003e800008101410201ff020100800004030010a1\n";
 

@@ -425,8 +425,8 @@ full 19 17
 full 17 0
 ";
 
-// A line whose text can't be written changes nothing, and lines behind it go on as if it weren't
-// there.
+// An entry that is refused changes nothing, also where its text can't be written, and the lines
+// behind it run.
 #[test]
 fn a_failed_write_leaves_the_world_as_it_was(rt: HostRuntime) -> Result<(), Fail> {
     let alloc = rt.alloc();

@@ -401,8 +401,8 @@ quit 1
 in 1 UNBIND=heard 16 Aborted { diagnostic: 127 }
 ";
 
-// The same five rounds, in which each call of the link fails in turn. Behind the round in which one
-// failed, the book has no later moment.
+// Each of the first seven calls of a link fails in turn, and at last the offer of a heartbeat.
+// Behind the round in which one failed, the book has no later moment.
 pub const FAILING: &str = "\
 open 1 1
 clock 10000000
