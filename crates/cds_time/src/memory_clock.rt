@@ -53,35 +53,3 @@ impl Clock for MemoryClock {
         reading
     }
 }
-
-#[cfg(test)]
-mod tests {
-    use super::*;
-    use crate::Rest;
-    use std::test::Fail;
-
-    // Through the bound alone, as callers read a clock.
-    fn two_readings<C: Clock>(clock: &mut C) -> [Cds; 2] {
-        [clock.now(), clock.now()]
-    }
-
-    #[test]
-    fn a_list_is_given_in_order_and_then_its_last_again(rt: HostRuntime) -> Result<(), Fail> {
-        let first = Cds {
-            days: 20_000,
-            millis: 0,
-            rest: Rest::Micros(0),
-        };
-        let second = Cds {
-            days: 20_000,
-            millis: 5,
-            rest: Rest::Picos(7),
-        };
-        let mut clock = MemoryClock::new(vec![in rt.alloc(); first, second]?);
-        assert_eq!(rt; two_readings(&mut clock), [first, second]);
-        assert_eq!(rt; two_readings(&mut clock), [second, second]);
-        let mut empty = MemoryClock::new(Vec::new(rt.alloc()));
-        assert_eq!(rt; empty.now(), Cds::EPOCH);
-        Ok(())
-    }
-}

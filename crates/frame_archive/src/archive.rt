@@ -493,38 +493,3 @@ fn as_opening(fault: JournalFault) -> ArchiveFault
         JournalFault::Full { .. } | JournalFault::Stale => unreachable!(),
     }
 }
-
-#[cfg(test)]
-mod tests {
-    use super::*;
-    use std::test::Fail;
-
-    // One change of the production status: 2 octets, in a batch of its own.
-    const FILE: &[u8] = b"SLEA\x00\x00\x00\x01\xa5\x00\x00\x00\x02\x00\x01\x03\x01\x00";
-
-    // Every field is named, so that a list of what is stored can't be one.
-    #[test]
-    fn an_archive_holds_no_list_of_what_is_stored(rt: HostRuntime) -> Result<(), Fail> {
-        let disk = MemoryDisk::holding(rt.alloc(), FILE)?;
-        let Ok((mut archive, _)) = open_archive(rt.alloc(), disk, 100) else {
-            return Err(Fail::from("refused"));
-        };
-        assert!(rt; archive.offer(Entry::Production { status: 1 }).is_ok());
-        let FrameArchive {
-            alloc: _,
-            journal: _,
-            capacity,
-            count,
-            used,
-            times,
-            waiting,
-            octets,
-            failed,
-            is_stale,
-        } = archive;
-        assert_eq!(rt; [capacity, count, used, octets], [100, 1, 18, 9]);
-        assert_eq!(rt; times, Times::NONE);
-        assert_eq!(rt; (waiting.len(), failed, is_stale), (1, 0, false));
-        Ok(())
-    }
-}

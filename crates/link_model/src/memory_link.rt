@@ -302,6 +302,3 @@ impl Link for MemoryLink {
         answer
     }
 }
-
-#[cfg(test)]
-mod tests;

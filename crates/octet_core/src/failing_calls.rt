@@ -54,22 +54,3 @@ impl FailingCalls {
         fails
     }
 }
-
-#[cfg(test)]
-mod tests {
-    use super::*;
-    use std::test::Fail;
-
-    #[test]
-    fn listed_calls_fail_and_each_call_is_counted(rt: HostRuntime) -> Result<(), Fail> {
-        let mut calls = FailingCalls::new(vec![in rt.alloc(); 3, 1]?);
-        assert!(rt; calls.fails_next());
-        assert!(rt; calls.count_call());
-        assert!(rt; !calls.fails_next());
-        assert!(rt; !calls.count_call());
-        assert!(rt; calls.count_call());
-        assert!(rt; !calls.count_call());
-        assert_eq!(rt; calls.made(), 4);
-        Ok(())
-    }
-}

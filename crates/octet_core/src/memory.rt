@@ -36,34 +36,3 @@ impl From<Memory> for AllocError {
         AllocError
     }
 }
-
-#[cfg(test)]
-mod tests {
-    use super::*;
-    use std::test::Fail;
-
-    // Want of memory as another crate has it.
-    #[derive(Clone, Copy, Debug, PartialEq, Eq)]
-    struct Theirs;
-
-    impl From<Theirs> for AllocError {
-        fn from(_: Theirs) -> AllocError {
-            AllocError
-        }
-    }
-
-    fn ours_of(theirs: Result<u8, Theirs>) -> Result<u8, Memory> {
-        Ok(theirs.map_err(AllocError::from)?)
-    }
-
-    #[test]
-    fn want_of_memory_of_one_crate_turns_into_that_of_another(rt: HostRuntime) -> Result<(), Fail> {
-        assert_eq!(rt; ours_of(Err(Theirs)), Err(Memory));
-        assert_eq!(rt; ours_of(Ok(7)), Ok(7));
-        assert_eq!(rt;
-            format!(in rt.alloc(); "{}", Memory)?.as_str(),
-            "out of memory"
-        );
-        Ok(())
-    }
-}

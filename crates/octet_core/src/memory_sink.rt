@@ -114,28 +114,3 @@ impl Sink for MemorySink {
         self.write(octets)
     }
 }
-
-#[cfg(test)]
-mod tests {
-    use super::*;
-    use std::test::Fail;
-
-    // Through the bound alone, as callers write octets.
-    fn put<S: Sink>(sink: &mut S, octets: &[u8]) -> Result<(), Failed> {
-        sink.put_all(octets)
-    }
-
-    #[test]
-    fn a_sink_in_memory_keeps_what_it_wrote_and_fails_as_listed(
-        rt: HostRuntime,
-    ) -> Result<(), Fail> {
-        let mut sink = MemorySink::new(rt.alloc(), vec![in rt.alloc(); 2]?);
-        assert_eq!(rt; put(&mut sink, b"abc"), Ok(()));
-        assert_eq!(rt; put(&mut sink, b"defgh"), Err(Failed));
-        assert_eq!(rt; put(&mut sink, b"i"), Ok(()));
-        assert_eq!(rt; sink.written(), b"abcdei".as_slice());
-        assert_eq!(rt; sink.faults(), 1);
-        assert!(rt; !sink.memory_refused());
-        Ok(())
-    }
-}

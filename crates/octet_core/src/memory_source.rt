@@ -95,32 +95,3 @@ impl Source for MemorySource {
         Ok(count)
     }
 }
-
-#[cfg(test)]
-mod tests {
-    use super::*;
-    use std::test::Fail;
-
-    // Through the bound alone, as callers take octets.
-    fn take_three<S: Source>(source: &mut S) -> (Result<usize, Failed>, [u8; 3]) {
-        let mut into = *b"...";
-        let answer = source.take(&mut into);
-        (answer, into)
-    }
-
-    #[test]
-    fn a_source_in_memory_gives_its_octets_and_fails_as_listed(
-        rt: HostRuntime,
-    ) -> Result<(), Fail> {
-        let octets = Octets::copy_of(rt.alloc(), b"abcde")?;
-        let mut source = MemorySource::new(octets, vec![in rt.alloc(); 2, 5]?);
-        assert_eq!(rt; take_three(&mut source), (Ok(3), *b"abc"));
-        assert_eq!(rt; take_three(&mut source).0, Err(Failed));
-        assert_eq!(rt; source.left(), b"de".as_slice());
-        assert_eq!(rt; take_three(&mut source), (Ok(2), *b"de."));
-        assert_eq!(rt; take_three(&mut source), (Ok(0), *b"..."));
-        assert_eq!(rt; take_three(&mut source).0, Err(Failed));
-        assert_eq!(rt; source.faults(), 2);
-        Ok(())
-    }
-}

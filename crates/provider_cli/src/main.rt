@@ -26,22 +26,14 @@ mod ending;
 mod entry_line;
 mod head;
 mod lines;
-#[cfg(test)]
-mod list_tests;
 mod listing;
 mod number;
-#[cfg(test)]
-mod plain;
 mod plan;
 mod provide;
 mod put;
 mod rehearse;
 mod run;
-#[cfg(test)]
-mod slipping_disk;
 mod status;
-#[cfg(test)]
-mod tests;
 
 use crate::command::plan;
 use crate::plan::Plan;

@@ -14,6 +14,3 @@ mod tally;
 
 pub use octet_core::Memory;
 pub use report::{MOST_FRAMES, rehearse};
-
-#[cfg(test)]
-mod tests;

@@ -18,6 +18,3 @@ pub use buffers::Buffers;
 pub use limits::BUFFER_ITEMS;
 pub use looks::Looks;
 pub use octet_core::Memory;
-
-#[cfg(test)]
-mod tests;

@@ -14,6 +14,3 @@ mod memory;
 
 pub use buffer::Buffer;
 pub use memory::Memory;
-
-#[cfg(test)]
-mod tests;

@@ -35,6 +35,3 @@ pub use lock_fault::LockFault;
 pub use pass::{Pass, Standing};
 pub use turn::Turn;
 pub use turns::Turns;
-
-#[cfg(test)]
-mod tests;

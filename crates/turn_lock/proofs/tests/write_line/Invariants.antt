@@ -1,5 +1,0 @@
-use Rattle.turn_lock.proofs.tests.write_line.Given as goal
-
--- the line that was written
-abbrev pub ghost-commit_line : goal.ghost-commit_line
-ghost-commit_line g a = record { by = a.by }
