@@ -1,7 +1,0 @@
-use Rattle.std.specs.Vec.Iter.{into_iter_items}
-use Rattle.lock_sample.specs.Team.{Gathered}
-use Rattle.lock_sample.proofs.run.gather.Given as goal
-
-abbrev pub invariant-loop-seat : goal.invariant-loop-seat
-invariant-loop-seat l = Gathered l.lock l.fn.seats.items l.initial.pass l.yielded
-    (into_iter_items l.seat-iterator) l.pass

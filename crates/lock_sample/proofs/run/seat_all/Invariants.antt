@@ -1,7 +1,0 @@
-use Rattle.std.proofs.Common.{◌≡◌, ◌≤◌, vec_len, vec_capacity}
-use Rattle.lock_sample.specs.Team.{Seating}
-use Rattle.lock_sample.proofs.run.seat_all.Given as goal
-
-abbrev pub invariant-loop-place : goal.invariant-loop-place
-invariant-loop-place l = Seating l.lock l.initial.pass l.count l.turns l._place l.seats.items l.pass
-    × (vec_len l.seats ≡ l._place) × (l.count ≤ vec_capacity l.seats)

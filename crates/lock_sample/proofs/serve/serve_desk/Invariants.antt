@@ -1,9 +1,0 @@
-use Rattle.lock_sample.proofs.Serving.{Serving}
-use Rattle.lock_sample.proofs.serve.serve_desk.Given as goal
-
-abbrev pub invariant-orders : goal.invariant-orders
-invariant-orders g l = Serving l.lock l.clerk l.initial.pass l.pass (g.D.Desk.told l.initial.desk)
-    (g.D.Desk.told l.desk)
-
-abbrev pub decreases-orders : goal.decreases-orders
-decreases-orders g l = l.pass.left
