@@ -1,0 +1,10 @@
+// Tests of the lock: each of its calls, and turns of two threads, which are held for some time. They
+// stand above `turn_lock`, and are proved once.
+#![tactic(auto)]
+
+#[cfg(test)]
+mod log;
+#[cfg(test)]
+mod threads;
+#[cfg(test)]
+mod turns;

@@ -1,0 +1,85 @@
+// Turns of two threads.
+ghost use Rattle.std.specs.Prelude.{◌≡◌, IfOk, Some};
+ghost use Rattle.turn_lock.specs.declared.pass.Standing.TheVariants.{Ready};
+
+use crate::log::{Line, Log, empty_log, write_line};
+use std::alloc::AllocError;
+use std::rt::Clock;
+use std::sync::Wait;
+use std::test::Fail;
+use std::thread::{Threads, join};
+use std::time::Duration;
+use turn_lock::{Pass, Turns};
+
+// Writes lines until the pass has no turn left.
+fn write_all<R: Wait + Clock>(
+    rt: &R,
+    lock: &Turns<Log, Line>,
+    mut pass: Pass<Line>,
+    by: u32,
+    hold: Duration,
+) -> Result<Pass<Line>, AllocError>
+    requires lock { pass.lock ≡ Some lock.now }
+    requires ready { pass.standing ≡ Ready }
+    ensures { IfOk result (λ p. (p.lock ≡ Some lock.now) × (p.standing ≡ Ready)) }
+{
+    while pass.left() > 0 {
+        write_line(rt, lock, &mut pass, by, hold)?;
+    }
+    Ok(pass)
+}
+
+// Two threads write into one list, which is handed back.
+fn write_by_two<R: Threads + Wait + Clock + Sync>(
+    rt: &R,
+    lock: Turns<Log, Line>,
+    first: Pass<Line>,
+    second: Pass<Line>,
+    hold: Duration,
+) -> Result<Option<Log>, AllocError>
+    requires lock { (first.lock ≡ Some lock) × (second.lock ≡ Some lock) }
+    requires ready { (first.standing ≡ Ready) × (second.standing ≡ Ready) }
+{
+    let shared = &lock;
+    let (a, b) = join(
+        rt,
+        move || -> Result<Pass<Line>, AllocError>
+            requires { (first.lock ≡ Some shared.now) × (first.standing ≡ Ready) }
+            ensures { IfOk result (λ p. (p.lock ≡ Some shared.entry.now) × (p.standing ≡ Ready)) }
+        { write_all(rt, shared, first, 1, hold) },
+        move || -> Result<Pass<Line>, AllocError>
+            requires { (second.lock ≡ Some shared.now) × (second.standing ≡ Ready) }
+            ensures { IfOk result (λ p. (p.lock ≡ Some shared.entry.now) × (p.standing ≡ Ready)) }
+        { write_all(rt, shared, second, 2, hold) },
+    );
+    let mut pass = a?;
+    lock.join(&mut pass, b?);
+    match lock.close(pass) {
+        Ok((log, _)) => Ok(Some(log)),
+        Err(_) => Ok(None),
+    }
+}
+
+// Turns of each thread, and for how many milliseconds each is held. While a turn is held the other
+// thread falls asleep: a lock that never wakes it, or looks for sleepers when a turn begins, leaves
+// it asleep, and the test doesn't end.
+const ROUNDS: [(u64, u64); 2] = [(100, 0), (6, 5)];
+
+#[test]
+fn two_threads_make_all_their_turns(rt: HostRuntime) -> Result<(), Fail> {
+    for (turns, millis) in ROUNDS {
+        let made: (Turns<Log, Line>, Pass<Line>) = Turns::new(
+            rt.alloc(),
+            empty_log(&rt),
+            2 * turns,
+        )?;
+        let (lock, mut pass) = made;
+        let other = lock.split(&mut pass, turns)?;
+        let hold = Duration::from_millis(millis);
+        let log = write_by_two(&rt, lock, pass, other, hold)?.ok_or("a pass is outside")?;
+        let first = log.lines.iter().filter(|by| **by == 1).count();
+        assert_eq!(rt; first as u64, turns);
+        assert_eq!(rt; log.lines.len() as u64, 2 * turns);
+    }
+    Ok(())
+}
