@@ -1,5 +1,6 @@
 // A list under the lock, and a line that is written into it in a turn.
-ghost use Rattle.std.specs.Prelude.{◌≡◌, ◌+◌, ◌<◌, ◌∷◌, ◌++◌, OnOk, OnErr, Some, map};
+ghost use Rattle.std.specs.Prelude.{◌≡◌, ◌+◌, ◌<◌, ◌≤◌, ◌∷◌, ◌++◌, OnOk, OnErr, IfOk, Some};
+ghost use Rattle.std.specs.Prelude.{map};
 ghost use Rattle.turn_lock.specs.declared.pass.Standing.TheVariants.{Ready};
 ghost use Rattle.turn_lock.specs.Own.{mark};
 ghost use mathlib.Core.List.{[]};
@@ -9,7 +10,7 @@ use std::rt::Clock;
 use std::sync::Wait;
 use std::thread;
 use std::time::Duration;
-use turn_lock::{HistoryEvent, Names, Pass, StandsFor, Turn, Turns};
+use turn_lock::{HistoryEvent, LockFault, Names, Pass, StandsFor, Turn, Turns};
 
 /// A line was written. It is no value of the program, and can't be dropped.
 pub struct Line {
@@ -47,14 +48,17 @@ impl Log {
     }
 }
 
-/// A list without lines.
-pub fn empty_log(rt: &HostRuntime) -> Log
-    ensures { (result.name ≡ 7) × (result.lines.items ≡ []) }
+/// A lock over a list without lines, with so many turns.
+pub fn lock_of(rt: &HostRuntime, turns: u64) -> Result<(Turns<Log, Line>, Pass<Line>), LockFault>
+    requires { (1 ≤ turns) × (turns ≤ 200) }
+    ensures { IfOk result (λ r. (r.1.lock ≡ Some r.0) × (r.1.standing ≡ Ready)
+        × (r.1.left ≡ turns)) }
 {
-    Log {
+    let log = Log {
         name: 7,
         lines: Vec::new(rt.alloc()),
-    }
+    };
+    Turns::new(rt.alloc(), log, turns)
 }
 
 /// Who wrote a line, which names it.

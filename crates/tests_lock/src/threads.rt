@@ -1,8 +1,8 @@
 // Turns of two threads.
-ghost use Rattle.std.specs.Prelude.{◌≡◌, IfOk, Some};
+ghost use Rattle.std.specs.Prelude.{◌≡◌, ◌≤◌, IfOk, Some};
 ghost use Rattle.turn_lock.specs.declared.pass.Standing.TheVariants.{Ready};
 
-use crate::log::{Line, Log, empty_log, write_line};
+use crate::log::{Line, Log, lock_of, write_line};
 use std::alloc::AllocError;
 use std::rt::Clock;
 use std::sync::Wait;
@@ -60,26 +60,29 @@ fn write_by_two<R: Threads + Wait + Clock + Sync>(
     }
 }
 
-// Turns of each thread, and for how many milliseconds each is held. While a turn is held the other
-// thread falls asleep: a lock that never wakes it, or looks for sleepers when a turn begins, leaves
-// it asleep, and the test doesn't end.
-const ROUNDS: [(u64, u64); 2] = [(100, 0), (6, 5)];
+// A list into which two threads wrote in so many turns each.
+fn log_by_two(rt: &HostRuntime, turns: u64, hold: Duration) -> Result<Log, Fail>
+    requires { (1 ≤ turns) × (turns ≤ 100) }
+{
+    let (lock, mut pass) = lock_of(rt, 2 * turns)?;
+    let other = lock.split(&mut pass, turns)?;
+    let log = write_by_two(rt, lock, pass, other, hold)?;
+    Ok(log.ok_or("a pass is outside")?)
+}
 
 #[test]
-fn two_threads_make_all_their_turns(rt: HostRuntime) -> Result<(), Fail> {
-    for (turns, millis) in ROUNDS {
-        let made: (Turns<Log, Line>, Pass<Line>) = Turns::new(
-            rt.alloc(),
-            empty_log(&rt),
-            2 * turns,
-        )?;
-        let (lock, mut pass) = made;
-        let other = lock.split(&mut pass, turns)?;
-        let hold = Duration::from_millis(millis);
-        let log = write_by_two(&rt, lock, pass, other, hold)?.ok_or("a pass is outside")?;
-        let first = log.lines.iter().filter(|by| **by == 1).count();
-        assert_eq!(rt; first as u64, turns);
-        assert_eq!(rt; log.lines.len() as u64, 2 * turns);
-    }
+fn two_threads_make_a_hundred_turns_each(rt: HostRuntime) -> Result<(), Fail> {
+    let log = log_by_two(&rt, 100, Duration::ZERO)?;
+    let first = log.lines.as_slice().iter().filter(|by| **by == 1).count();
+    assert_eq!(rt; (first, log.lines.len()), (100, 200));
+    Ok(())
+}
+
+// While a turn is held the other thread falls asleep. A lock that never wakes it, or looks for
+// sleepers before the turn ends, leaves it asleep, and the test doesn't end.
+#[test]
+fn a_thread_that_waits_for_a_held_turn_is_woken(rt: HostRuntime) -> Result<(), Fail> {
+    let log = log_by_two(&rt, 6, Duration::from_millis(5))?;
+    assert_eq!(rt; log.lines.len(), 12);
     Ok(())
 }

@@ -1,11 +1,10 @@
 // Turns of one thread.
-ghost use Rattle.std.specs.Prelude.{◌≡◌};
-
-use crate::log::{Author, Line, Log, empty_log, write_line};
+use crate::log::{Author, lock_of, write_line};
 use std::alloc::AllocError;
+use std::marker::Send;
 use std::test::Fail;
 use std::time::Duration;
-use turn_lock::{LockFault, Pass, Turns};
+use turn_lock::LockFault;
 
 #[test]
 fn want_of_memory_has_a_text_and_turns_into_that_of_std(rt: HostRuntime) -> Result<(), Fail> {
@@ -19,14 +18,19 @@ fn want_of_memory_has_a_text_and_turns_into_that_of_std(rt: HostRuntime) -> Resu
 fn goes_to_a_thread<T: Send>(_: &T) {}
 
 #[test]
-fn a_turn_is_left_or_committed_by_a_name(rt: HostRuntime) -> Result<(), Fail> {
-    let made: (Turns<Log, Line>, Pass<Line>) = Turns::new(rt.alloc(), empty_log(&rt), 2)?;
-    let (lock, mut pass) = made;
+fn a_turn_lends_the_value_and_gives_it_back(rt: HostRuntime) -> Result<(), Fail> {
+    let (lock, mut pass) = lock_of(&rt, 3)?;
     goes_to_a_thread(&lock);
     let turn = lock.enter(&rt, &mut pass);
-    assert!(rt; turn.value().lines.is_empty());
+    let empty = turn.value().lines.is_empty();
     lock.leave(&mut pass, turn);
+    assert!(rt; empty && pass.left() == 2);
+    Ok(())
+}
 
+#[test]
+fn a_line_is_named_by_its_author(rt: HostRuntime) -> Result<(), Fail> {
+    let (lock, mut pass) = lock_of(&rt, 1)?;
     let author = Author { name: 4 };
     let mut turn = lock.enter(&rt, &mut pass);
     turn.value_mut().push(author.name)?;
@@ -40,21 +44,19 @@ fn a_turn_is_left_or_committed_by_a_name(rt: HostRuntime) -> Result<(), Fail> {
 
 #[test]
 fn a_lock_is_closed_beside_a_pass_that_entered_no_turn(rt: HostRuntime) -> Result<(), Fail> {
-    let made: (Turns<Log, Line>, Pass<Line>) = Turns::new(rt.alloc(), empty_log(&rt), 3)?;
-    let (lock, mut pass) = made;
+    let (lock, mut pass) = lock_of(&rt, 3)?;
     let unused = lock.split(&mut pass, 2)?;
     write_line(&rt, &lock, &mut pass, 1, Duration::ZERO)?;
     let Ok((log, _)) = lock.close(pass) else {
         panic!(rt; "the other pass entered no turn")
     };
-    assert_eq!(rt; (log.lines.len(), unused.left()), (1, 2));
+    assert!(rt; log.lines.len() == 1 && unused.left() == 2);
     Ok(())
 }
 
 #[test]
 fn a_lock_is_handed_back_while_another_pass_has_entered(rt: HostRuntime) -> Result<(), Fail> {
-    let made: (Turns<Log, Line>, Pass<Line>) = Turns::new(rt.alloc(), empty_log(&rt), 2)?;
-    let (lock, mut pass) = made;
+    let (lock, mut pass) = lock_of(&rt, 2)?;
     let mut other = lock.split(&mut pass, 1)?;
     write_line(&rt, &lock, &mut other, 1, Duration::ZERO)?;
     let Err((lock, mut pass)) = lock.close(pass) else {
@@ -64,6 +66,6 @@ fn a_lock_is_handed_back_while_another_pass_has_entered(rt: HostRuntime) -> Resu
     let Ok((log, _)) = lock.close(pass) else {
         panic!(rt; "all passes were joined")
     };
-    assert_eq!(rt; log.lines.len(), 1);
+    assert!(rt; log.lines.len() == 1);
     Ok(())
 }
