@@ -3,6 +3,8 @@
 #![tactic(auto)]
 
 #[cfg(test)]
+mod opening;
+#[cfg(test)]
 mod plain;
 #[cfg(test)]
 mod script;
