@@ -1,4 +1,4 @@
-// Tests of the lock: each of its calls, and turns of two threads, which are held for some time. They
+// Tests of the lock: each of its calls, and turns of two threads that are held for some time. They
 // stand above `turn_lock`, and are proved once.
 #![tactic(auto)]
 

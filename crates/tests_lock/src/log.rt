@@ -5,7 +5,7 @@ ghost use Rattle.turn_lock.specs.declared.pass.Standing.TheVariants.{Ready};
 ghost use Rattle.turn_lock.specs.Own.{mark};
 ghost use mathlib.Core.List.{[]};
 
-use std::alloc::AllocError;
+use std::alloc::{AllocError, Global};
 use std::rt::Clock;
 use std::sync::Wait;
 use std::thread;
@@ -49,16 +49,16 @@ impl Log {
 }
 
 /// A lock over a list without lines, with so many turns.
-pub fn lock_of(rt: &HostRuntime, turns: u64) -> Result<(Turns<Log, Line>, Pass<Line>), LockFault>
+pub fn lock_of(alloc: Global, turns: u64) -> Result<(Turns<Log, Line>, Pass<Line>), LockFault>
     requires { (1 ≤ turns) × (turns ≤ 200) }
     ensures { IfOk result (λ r. (r.1.lock ≡ Some r.0) × (r.1.standing ≡ Ready)
         × (r.1.left ≡ turns)) }
 {
     let log = Log {
         name: 7,
-        lines: Vec::new(rt.alloc()),
+        lines: Vec::new(alloc),
     };
-    Turns::new(rt.alloc(), log, turns)
+    Turns::new(alloc, log, turns)
 }
 
 /// Who wrote a line, which names it.

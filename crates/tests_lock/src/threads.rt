@@ -3,7 +3,7 @@ ghost use Rattle.std.specs.Prelude.{◌≡◌, ◌≤◌, IfOk, Some};
 ghost use Rattle.turn_lock.specs.declared.pass.Standing.TheVariants.{Ready};
 
 use crate::log::{Line, Log, lock_of, write_line};
-use std::alloc::AllocError;
+use std::alloc::{AllocError, Global};
 use std::rt::Clock;
 use std::sync::Wait;
 use std::test::Fail;
@@ -61,10 +61,15 @@ fn write_by_two<R: Threads + Wait + Clock + Sync>(
 }
 
 // A list into which two threads wrote in so many turns each.
-fn log_by_two(rt: &HostRuntime, turns: u64, hold: Duration) -> Result<Log, Fail>
+fn log_by_two<R: Threads + Wait + Clock + Sync>(
+    rt: &R,
+    alloc: Global,
+    turns: u64,
+    hold: Duration,
+) -> Result<Log, Fail>
     requires { (1 ≤ turns) × (turns ≤ 100) }
 {
-    let (lock, mut pass) = lock_of(rt, 2 * turns)?;
+    let (lock, mut pass) = lock_of(alloc, 2 * turns)?;
     let other = lock.split(&mut pass, turns)?;
     let log = write_by_two(rt, lock, pass, other, hold)?;
     Ok(log.ok_or("a pass is outside")?)
@@ -72,7 +77,7 @@ fn log_by_two(rt: &HostRuntime, turns: u64, hold: Duration) -> Result<Log, Fail>
 
 #[test]
 fn two_threads_make_a_hundred_turns_each(rt: HostRuntime) -> Result<(), Fail> {
-    let log = log_by_two(&rt, 100, Duration::ZERO)?;
+    let log = log_by_two(&rt, rt.alloc(), 100, Duration::ZERO)?;
     let first = log.lines.as_slice().iter().filter(|by| **by == 1).count();
     assert_eq!(rt; (first, log.lines.len()), (100, 200));
     Ok(())
@@ -82,7 +87,7 @@ fn two_threads_make_a_hundred_turns_each(rt: HostRuntime) -> Result<(), Fail> {
 // sleepers before the turn ends, leaves it asleep, and the test doesn't end.
 #[test]
 fn a_thread_that_waits_for_a_held_turn_is_woken(rt: HostRuntime) -> Result<(), Fail> {
-    let log = log_by_two(&rt, 6, Duration::from_millis(5))?;
+    let log = log_by_two(&rt, rt.alloc(), 6, Duration::from_millis(5))?;
     assert_eq!(rt; log.lines.len(), 12);
     Ok(())
 }

@@ -19,7 +19,7 @@ fn goes_to_a_thread<T: Send>(_: &T) {}
 
 #[test]
 fn a_turn_lends_the_value_and_gives_it_back(rt: HostRuntime) -> Result<(), Fail> {
-    let (lock, mut pass) = lock_of(&rt, 3)?;
+    let (lock, mut pass) = lock_of(rt.alloc(), 3)?;
     goes_to_a_thread(&lock);
     let turn = lock.enter(&rt, &mut pass);
     let empty = turn.value().lines.is_empty();
@@ -30,7 +30,7 @@ fn a_turn_lends_the_value_and_gives_it_back(rt: HostRuntime) -> Result<(), Fail>
 
 #[test]
 fn a_line_is_named_by_its_author(rt: HostRuntime) -> Result<(), Fail> {
-    let (lock, mut pass) = lock_of(&rt, 1)?;
+    let (lock, mut pass) = lock_of(rt.alloc(), 1)?;
     let author = Author { name: 4 };
     let mut turn = lock.enter(&rt, &mut pass);
     turn.value_mut().push(author.name)?;
@@ -44,7 +44,7 @@ fn a_line_is_named_by_its_author(rt: HostRuntime) -> Result<(), Fail> {
 
 #[test]
 fn a_lock_is_closed_beside_a_pass_that_entered_no_turn(rt: HostRuntime) -> Result<(), Fail> {
-    let (lock, mut pass) = lock_of(&rt, 3)?;
+    let (lock, mut pass) = lock_of(rt.alloc(), 3)?;
     let unused = lock.split(&mut pass, 2)?;
     write_line(&rt, &lock, &mut pass, 1, Duration::ZERO)?;
     let Ok((log, _)) = lock.close(pass) else {
@@ -56,7 +56,7 @@ fn a_lock_is_closed_beside_a_pass_that_entered_no_turn(rt: HostRuntime) -> Resul
 
 #[test]
 fn a_lock_is_handed_back_while_another_pass_has_entered(rt: HostRuntime) -> Result<(), Fail> {
-    let (lock, mut pass) = lock_of(&rt, 2)?;
+    let (lock, mut pass) = lock_of(rt.alloc(), 2)?;
     let mut other = lock.split(&mut pass, 1)?;
     write_line(&rt, &lock, &mut other, 1, Duration::ZERO)?;
     let Err((lock, mut pass)) = lock.close(pass) else {

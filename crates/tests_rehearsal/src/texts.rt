@@ -30,7 +30,8 @@ const TEXTS: [(u32, &str); 7] = [
     ),
     (
         300,
-        "stored 300\nsent 257\nbuffers 129\nends 1\ndigest bd17bc97a10ee92975c4bfdc28ffef3f40f97594\n",
+        "stored 300\nsent 257\nbuffers 129\nends 1\n\
+         digest bd17bc97a10ee92975c4bfdc28ffef3f40f97594\n",
     ),
 ];
 
