@@ -1,11 +1,8 @@
-// Tests of an archive over a disk in memory: scripts of its calls, what each answers, and the same
-// calls of a plain list.
+// Tests of an archive over a disk in memory: scripts of its calls, and what each answers.
 #![tactic(auto)]
 
 #[cfg(test)]
 mod opening;
-#[cfg(test)]
-mod plain;
 #[cfg(test)]
 mod script;
 #[cfg(test)]

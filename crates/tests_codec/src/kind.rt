@@ -138,8 +138,8 @@ fn told_pdu<'a, P: Pdu<'a> + Debug + Drop>(
     Ok(format!(in alloc; "{pdu:?} {otherwise}")?)
 }
 
-/// The canonical spelling of a PDU.
-pub fn written<'a, P: Pdu<'a>>(alloc: Global, pdu: &P) -> Result<Vec<u8>, Fail>
+// The canonical spelling of a PDU.
+fn written<'a, P: Pdu<'a>>(alloc: Global, pdu: &P) -> Result<Vec<u8>, Fail>
     requires { P.Members.shape.Fits (P.Members.seen pdu.now) }
 {
     let mut writer = Writer::new(alloc, pdu.length())?;
@@ -241,16 +241,6 @@ fn told_identifier(alloc: Global, octets: &[u8]) -> Result<String, Fail> {
     Ok(text)
 }
 
-// Of a frame of over 2,000 octets their number alone.
-fn told_item(alloc: Global, item: &TransferItem) -> Result<String, Fail> {
-    Ok(match item {
-        TransferItem::Frame { octets, .. } if octets.len() > 2_000 => {
-            format!(in alloc; "frame of {} octets ", octets.len())?
-        }
-        _ => format!(in alloc; "{item:?} ")?,
-    })
-}
-
 // Of a transfer buffer its items, one after another.
 fn told_buffer(
     alloc: Global,
@@ -269,7 +259,7 @@ fn told_buffer(
             let mut writer = Writer::new(alloc, item.length())?;
             item.encode(&mut writer);
             items.extend_from_slice(writer.octets())?;
-            text.push_str(told_item(alloc, &item)?.as_str())?;
+            text.push_str(format!(in alloc; "{item:?} ")?.as_str())?;
         }
     }
     let canonical = buffer_of(alloc, &items)?;

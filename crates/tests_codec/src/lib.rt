@@ -8,6 +8,4 @@ mod kind;
 #[cfg(test)]
 mod rows;
 #[cfg(test)]
-mod scripts;
-#[cfg(test)]
 mod tests;

@@ -21,8 +21,8 @@ fn spelled_out(alloc: Global, text: &str, behind: &str) -> Result<String, AllocE
     Ok(all)
 }
 
-/// The octets of words.
-pub fn octets_of(alloc: Global, words: &str) -> Result<Vec<u8>, Fail> {
+// The octets of words.
+fn octets_of(alloc: Global, words: &str) -> Result<Vec<u8>, Fail> {
     Ok(hex::decode(alloc, spelled_out(alloc, words, "")?.as_str())?)
 }
 
@@ -42,18 +42,5 @@ fn wrong_row<'a>(alloc: Global, kind: Kind, rows: &'a str) -> Result<Option<&'a 
 /// Each row is so.
 pub fn check(rt: &impl Abort, alloc: Global, kind: Kind, rows: &str) -> Result<(), Fail> {
     assert_eq!(rt; wrong_row(alloc, kind, rows)?, None);
-    Ok(())
-}
-
-/// Octets are decoded, and each front of them is refused as cut.
-pub fn check_cuts(rt: &impl Abort, alloc: Global, kind: Kind, words: &str) -> Result<(), Fail> {
-    let octets = octets_of(alloc, words)?;
-    for end in 0..octets.len() {
-        assert_eq!(rt;
-            told(alloc, kind, &octets[..end])?.as_str(),
-            "cut inside the element at octet 0 ",
-            "{end}"
-        );
-    }
     Ok(())
 }

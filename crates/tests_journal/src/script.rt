@@ -7,11 +7,11 @@ ghost use Rattle.std.specs.Prelude.{Some};
 ghost use Rattle.disk_model.specs.MemoryDisk.{pending_of};
 ghost use Rattle.gate_journal.specs.JournalState.{Keeps};
 
-use crate::journals::{CAPACITY, append, frame, frames};
-use disk_model::{Call, Disk, Event, MemoryDisk, Orders, Pick, Stop};
+use crate::journals::{append, batch_of, told};
+use disk_model::{Disk, MemoryDisk, Orders, Pick, Stop};
 use gate_journal::Journal;
 use octet_core::{Failed, FailingCalls};
-use record_form::{Entries, Entry};
+use record_form::Entries;
 use std::alloc::{AllocError, Global};
 use std::mem;
 use std::process::Abort;
@@ -30,15 +30,6 @@ fn cut<D: Disk>(disk: &mut D, size: u64) -> Result<(), Failed> {
         return Err(Failed);
     }
     disk.cut(size)
-}
-
-fn first_three<D: Disk>(disk: &mut D) -> Result<[u8; 3], Failed> {
-    let mut octets = [0; 3];
-    if disk.size() < 3 {
-        return Err(Failed);
-    }
-    disk.read_at(0, &mut octets)?;
-    Ok(octets)
 }
 
 // A step's first word, and what stands behind it.
@@ -103,27 +94,6 @@ fn left(alloc: Global, disk: &MemoryDisk, pick: Pick) -> Result<String, AllocErr
     String::from_str(alloc, text_of(&octets))
 }
 
-fn told_event(alloc: Global, event: &Event) -> Result<String, AllocError> {
-    match event {
-        Event::Made(Call::Write { place, octets }) => {
-            format!(in alloc; "write {place} {} ", octets.len())
-        }
-        Event::Made(Call::Cut { size }) => format!(in alloc; "cut {size} "),
-        Event::Made(Call::Sync) => format!(in alloc; "sync "),
-        Event::Restarted(pick) => format!(in alloc; "{pick:?} "),
-    }
-}
-
-// The counted calls that took effect, a write's with its place and how many octets it has, and the
-// picks of the restarts.
-fn log(alloc: Global, disk: &MemoryDisk) -> Result<String, AllocError> {
-    let mut text = String::new(alloc);
-    for event in disk.log() {
-        text.push_str(told_event(alloc, event)?.as_str())?;
-    }
-    Ok(text)
-}
-
 // How often a disk has failed, whether it has stopped, and whether it lacked memory.
 fn state(alloc: Global, disk: &MemoryDisk) -> Result<String, AllocError> {
     let (faults, stopped) = (disk.faults(), disk.is_stopped());
@@ -139,29 +109,8 @@ fn hex_of(alloc: Global, octets: &[u8]) -> Result<String, AllocError> {
     Ok(text)
 }
 
-// Frames by their numbers, behind how many octets the file uses.
-fn told_frames(alloc: Global, size: u64, entries: &Entries) -> Result<String, AllocError> {
-    let mut text = format!(in alloc; "{size}:")?;
-    for entry in entries.as_slice() {
-        text.push_str(told_frame(alloc, entry)?.as_str())?;
-    }
-    Ok(text)
-}
-
-fn told_frame(alloc: Global, entry: &Entry) -> Result<String, AllocError> {
-    let number = match entry {
-        Entry::Frame { ert, .. } => u8::try_from(ert.millis / 1_000).unwrap_or(0),
-        _ => 0,
-    };
-    if *entry == frame(alloc, number)? {
-        format!(in alloc; " {number}")
-    } else {
-        format!(in alloc; " another entry")
-    }
-}
-
-// A disk, and what was answered.
-type Answered = (MemoryDisk, Result<String, AllocError>);
+/// A disk, and what was answered.
+pub type Answered = (MemoryDisk, Result<String, AllocError>);
 
 fn create(alloc: Global, disk: MemoryDisk) -> Answered {
     match Journal::create(alloc, disk) {
@@ -173,10 +122,11 @@ fn create(alloc: Global, disk: MemoryDisk) -> Answered {
     }
 }
 
-fn recover(alloc: Global, disk: MemoryDisk) -> Answered {
+/// What the journal of a disk is recovered as.
+pub fn recover(alloc: Global, disk: MemoryDisk) -> Answered {
     match Journal::recover(alloc, disk) {
         Ok((journal, entries)) => {
-            let answer = told_frames(alloc, journal.used(), &entries);
+            let answer = told(alloc, journal.used(), &entries);
             (journal.into_disk(), answer)
         }
         Err((fault, disk)) => (disk, format!(in alloc; "{fault}")),
@@ -205,8 +155,8 @@ fn append_by(
     if words != "" {
         journal.steer(orders(alloc, words)?);
     }
-    let batch = frames(alloc, &[number.parse().unwrap_or(0)])?;
-    match append(journal, before, &batch, CAPACITY) {
+    let batch = batch_of(alloc, number.parse().unwrap_or(0))?;
+    match append(journal, before, &batch) {
         Ok(()) => format!(in alloc; "{}", journal.used()),
         Err(fault) => format!(in alloc; "{fault}"),
     }
@@ -237,16 +187,11 @@ fn answer(alloc: Global, disk: &mut MemoryDisk, step: &str) -> Result<String, Al
             Ok(String::new(alloc))
         }
         "create" | "recover" | "append" => on_journal(alloc, disk, word, rest),
-        "read" => match first_three(disk) {
-            Ok(octets) => String::from_str(alloc, text_of(&octets)),
-            Err(_) => String::from_str(alloc, "failed"),
-        },
         "content" => String::from_str(alloc, text_of(disk.content())),
         "octets" => hex_of(alloc, disk.content()),
         "old" => left(alloc, disk, Pick::Old),
         "new" => left(alloc, disk, Pick::New),
         "torn" => left(alloc, disk, Pick::Torn),
-        "log" => log(alloc, disk),
         "state" => state(alloc, disk),
         _ => String::from_str(alloc, call(disk, word, rest)),
     }

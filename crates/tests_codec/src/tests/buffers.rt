@@ -1,14 +1,6 @@
 // Transfer buffers of RAF and of RCF (CCSDS 911.1-B and 911.2-B, annex A).
-use crate::kind::Kind;
-use crate::rows::check;
-use std::test::Fail;
 
-#[test]
-fn buffers_of_raf_have_their_octets(rt: HostRuntime) -> Result<(), Fail> {
-    check(&rt, rt.alloc(), Kind::RafBuffer, RAF_BUFFER)
-}
-
-const RAF_BUFFER: &str = "
+pub const RAF_BUFFER: &str = "
 a81e a01c 8000 80084e20000003e80000 810141 0201ff 020100 8000 04030010a1
     = Frame { credentials: Unused, ert: Cds { days: 20000, millis: 1000, rest: Micros(0) },
       antenna: Local([65]), continuity: -1, quality: Some(0), note: None, octets: [0, 16, 161] };
@@ -71,7 +63,9 @@ a81c a01a 8000 80084e20000000000000 810141 020100 020100 8000 0401 55
       antenna: Local([65]), continuity: 0, quality: Some(0), note: None, octets: [85] };
 a883010021 a08301001c 8000 80084e20000000000000 810141 020100 020100 8000
     0483010000 8192*5555555555555555
-    = frame of 65536 octets;
+    = Frame { credentials: Unused, ert: Cds { days: 20000, millis: 0, rest: Micros(0) },
+      antenna: Local([65]), continuity: 0, quality: Some(0), note: None, octets: [85, 65534*85, 85]
+      };
 a823 a021 810700000000000000 80084e20000000000000 810141 020100 020100 8000 040100
     = no content of its type at octet 6;
 a81c a01a 8200 80084e20000000000000 810141 020100 020100 8000 040100
@@ -132,12 +126,7 @@ a883010022 a08301001d 8000 80084e20000000000000 810141 020100 020100 8000
     0483010001 8192*5555555555555555 55
     = no content of its type at octet 38;";
 
-#[test]
-fn buffers_of_rcf_have_their_octets(rt: HostRuntime) -> Result<(), Fail> {
-    check(&rt, rt.alloc(), Kind::RcfBuffer, RCF_BUFFER)
-}
-
-const RCF_BUFFER: &str = "
+pub const RCF_BUFFER: &str = "
 a800 = ;
 a81b a019 8000 80084e20000003e80000 810141 0201ff 8000 0403407fa1
     = Frame { credentials: Unused, ert: Cds { days: 20000, millis: 1000, rest: Micros(0) },

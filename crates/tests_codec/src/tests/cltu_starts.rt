@@ -1,15 +1,6 @@
 // START of forward CLTU and its return (CCSDS 912.1-B, annex A).
-use crate::kind::Kind;
-use crate::rows::check;
-use std::test::Fail;
 
-#[test]
-fn starts_of_forward_cltu_have_their_octets(rt: HostRuntime) -> Result<(), Fail> {
-    check(&rt, rt.alloc(), Kind::CltuStart, CLTU_START)?;
-    check(&rt, rt.alloc(), Kind::CltuStartReturn, CLTU_START_RETURN)
-}
-
-const CLTU_START: &str = "
+pub const CLTU_START: &str = "
 a008 8000 020100 020100 = CltuStart { credentials: Unused, invoke: 0, first: 0 };
 a016 81080102030405060708 020300ffff 020500ffffffff
     = CltuStart { credentials: Used([1, 2, 3, 4, 5, 6, 7, 8]), invoke: 65535, first: 4294967295 };
@@ -26,7 +17,7 @@ a00a 8000 020100 020100 8000 = no fitting length at octet 10;
 a082010b 81820101 257*55 020100 020100 = no content of its type at octet 8;
 a200 = another identifier at octet 0, beginning with 0xa2;";
 
-const CLTU_START_RETURN: &str = "
+pub const CLTU_START_RETURN: &str = "
 a113 8000 020100 a00c 80084e20000000000000 8000
     = CltuStartReturn { credentials: Unused, invoke: 0,
       result: Ok((Cds { days: 20000, millis: 0, rest: Micros(0) }, None)) };

@@ -1,20 +1,10 @@
 // Service instance identifiers (CCSDS 911.1-B, annex A). The octets were made by pyasn1 0.6.3 from
 // the texts beside them; those of faults were changed by hand, and their places counted by hand.
-use crate::kind::Kind;
-use crate::rows::{check, octets_of};
-use ber_core::Writer;
-use ber_shape::Element;
-use sle_common::{Attribute, InstanceId, InstanceRef};
-use std::test::Fail;
-
-#[test]
-fn identifiers_are_named_however_they_are_spelled(rt: HostRuntime) -> Result<(), Fail> {
-    check(&rt, rt.alloc(), Kind::InstanceRef, IDENTIFIER)
-}
+use sle_common::Attribute;
 
 // The second row has the outer length in two octets. The faulty ones have one octet changed, or no
 // attribute, or nine.
-const IDENTIFIER: &str = "
+pub const IDENTIFIER: &str = "
 3044 310e 300c 06072b700403010234 1a0131 310e 300c 06072b700403010235 1a0150
     310e 300c 06072b700403010226 1a0131 3112 3010 06072b700403010216 1a056f6e6c6331
     = sagr=1.spack=P.rsl-fg=1.raf=onlc1;
@@ -50,33 +40,6 @@ const IDENTIFIER: &str = "
     = no content of its type at octet 17;
 3000 = no fitting length at octet 2;
 308190 9*310e300c06072b7004030102341a0131 = no fitting length at octet 131;";
-
-#[test]
-fn an_identifier_of_this_side_names_itself_and_is_written(rt: HostRuntime) -> Result<(), Fail> {
-    let id = InstanceId::parse_text(rt.alloc(), "sagr=1.spack=P.rsl-fg=1.raf=onlc1")?;
-    let own = InstanceRef::Own(&id);
-    assert!(rt; own.names(&id));
-    assert!(rt; !InstanceRef::Spelled(&[0x31]).names(&id));
-    for text in [
-        "sagr=1",
-        "sagr=1.spack=P.rsl-fg=1.raf=onlc2",
-        "sagr=1.spack=P.rsl-fg=1.rcf=onlc1",
-    ] {
-        let other = InstanceId::parse_text(rt.alloc(), text)?;
-        assert!(rt; !own.names(&other), "{text}");
-    }
-    let mut writer = Writer::new(rt.alloc(), 70)?;
-    let size = InstanceRef::size(&own);
-    assert_eq!(rt; size, 70);
-    assert!(rt; size <= writer.room());
-    InstanceRef::write(&own, &mut writer);
-    assert_eq!(rt; writer.octets(), octets_of(rt.alloc(), OWN)?.as_slice());
-    Ok(())
-}
-
-const OWN: &str = "
-3044 310e 300c 06072b700403010234 1a0131 310e 300c 06072b700403010235 1a0150
-    310e 300c 06072b700403010226 1a0131 3112 3010 06072b700403010216 1a056f6e6c6331";
 
 #[test]
 fn attributes_have_their_object_identifiers(rt: HostRuntime) {

@@ -1,14 +1,6 @@
 // ASYNC-NOTIFY (CCSDS 912.1-B, annex A).
-use crate::kind::Kind;
-use crate::rows::check;
-use std::test::Fail;
 
-#[test]
-fn notices_have_their_octets(rt: HostRuntime) -> Result<(), Fail> {
-    check(&rt, rt.alloc(), Kind::Async, ASYNC)
-}
-
-const ASYNC: &str = "
+pub const ASYNC: &str = "
 ac23 8000 8100 a108 020108 8000 020101 a10d 020107 80084e2000000000000a 020100 020103
     = Async { credentials: Unused, kind: 1, number: None, processed: Some((8, None, 1)),
       ok: Some((7, Cds { days: 20000, millis: 0, rest: Micros(10) })), production: 0, uplink: 3 };

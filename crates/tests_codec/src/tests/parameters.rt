@@ -1,15 +1,6 @@
 // GET-PARAMETER and its return (CCSDS 911.1-B, annex A).
-use crate::kind::Kind;
-use crate::rows::check;
-use std::test::Fail;
 
-#[test]
-fn parameters_have_their_octets(rt: HostRuntime) -> Result<(), Fail> {
-    check(&rt, rt.alloc(), Kind::GetParameter, GET_PARAMETER)?;
-    check(&rt, rt.alloc(), Kind::ParameterReturn, PARAMETER_RETURN)
-}
-
-const GET_PARAMETER: &str = "
+pub const GET_PARAMETER: &str = "
 a608 8000 020100 020104 = GetParameter { credentials: Unused, invoke: 0, name: 4 };
 a614 81080102030405060708 020300ffff 020300ffff
     = GetParameter { credentials: Used([1, 2, 3, 4, 5, 6, 7, 8]), invoke: 65535, name: 65535 };
@@ -23,7 +14,7 @@ a607 8000 020100 8000 = another identifier at octet 7, beginning with 0x80;
 a60b 8000 020100 020104 020104 = no fitting length at octet 10;
 a682010b 81820101 257*07 020100 020104 = no content of its type at octet 8;";
 
-const PARAMETER_RETURN: &str = "
+pub const PARAMETER_RETURN: &str = "
 a70f 8000 020100 a008 a006 020104 02010a
     = ParameterReturn { credentials: Unused, invoke: 0, result: Ok(BufferSize(10)) };
 a719 81080102030405060708 020300ffff a008 a106 020106 020102

@@ -1,16 +1,7 @@
 // The status reports of RAF, of RCF and of forward CLTU (CCSDS 911.1-B, 911.2-B and 912.1-B, annex
 // A).
-use crate::kind::Kind;
-use crate::rows::check;
-use std::test::Fail;
 
-#[test]
-fn reports_of_return_services_have_their_octets(rt: HostRuntime) -> Result<(), Fail> {
-    check(&rt, rt.alloc(), Kind::RafReport, RAF_REPORT)?;
-    check(&rt, rt.alloc(), Kind::RcfReport, RCF_REPORT)
-}
-
-const RAF_REPORT: &str = "
+pub const RAF_REPORT: &str = "
 a917 8000 020100 020100 020103 020103 020103 020103 020100
     = RafReport { credentials: Unused, error_free: 0, delivered: 0, frame_sync: 3, symbol: 3,
       subcarrier: 3, carrier: 3, production: 0 };
@@ -35,7 +26,7 @@ a91a 8000 020100 020100 020103 020103 020103 020103 020100 020100 = no fitting l
 a982011a 81820101 257*07 020100 020100 020103 020103 020103 020103 020100
     = no content of its type at octet 8;";
 
-const RCF_REPORT: &str = "
+pub const RCF_REPORT: &str = "
 a914 8000 020100 020103 020103 020103 020103 020100
     = RcfReport { credentials: Unused, delivered: 0, frame_sync: 3, symbol: 3, subcarrier: 3,
       carrier: 3, production: 0 };
@@ -58,12 +49,7 @@ a917 8000 020100 020100 020103 020103 020103 020103 020100 = no fitting length a
 a9820117 81820101 257*07 020100 020103 020103 020103 020103 020100
     = no content of its type at octet 8;";
 
-#[test]
-fn reports_of_forward_cltu_have_their_octets(rt: HostRuntime) -> Result<(), Fail> {
-    check(&rt, rt.alloc(), Kind::CltuReport, CLTU_REPORT)
-}
-
-const CLTU_REPORT: &str = "
+pub const CLTU_REPORT: &str = "
 ad2b 8000 a112 020107 a10a 80084e20000000000000 020104 8000 020100 020103 020101 020101 020100
     020203e8
     = CltuReport { credentials: Unused, processed: Some((7,

@@ -1,15 +1,6 @@
 // START of RAF and of RCF, and their return (CCSDS 911.1-B and 911.2-B, annex A).
-use crate::kind::Kind;
-use crate::rows::check;
-use std::test::Fail;
 
-#[test]
-fn starts_have_their_octets(rt: HostRuntime) -> Result<(), Fail> {
-    check(&rt, rt.alloc(), Kind::RafStart, RAF_START)?;
-    check(&rt, rt.alloc(), Kind::RcfStart, RCF_START)
-}
-
-const RAF_START: &str = "
+pub const RAF_START: &str = "
 a00c 8000 020100 8000 8000 020102
     = RafStart { credentials: Unused, invoke: 0, start: None, stop: None, quality: 2 };
 a02c 81080102030405060708 020300ffff a10a 80084e20000000000000 a10c 810affffffffffffffffffff 020100
@@ -43,7 +34,7 @@ a00e 8000 020100 8000 8000 020102 8000 = no fitting length at octet 14;
 a10c 8000 020100 8000 8000 020102 = another identifier at octet 0, beginning with 0xa1;
 a082010f 81820101 257*07 020100 8000 8000 020102 = no content of its type at octet 8;";
 
-const RCF_START: &str = "
+pub const RCF_START: &str = "
 a01e 8000 020100 a10a 80084e20000000000000 8000 3009 020101 020101 81013f
     = RcfStart { credentials: Unused, invoke: 0,
       start: Some(Cds { days: 20000, millis: 0, rest: Micros(0) }), stop: None, channel: Gvcid {
@@ -72,12 +63,7 @@ a00c 8000 020100 8000 8000 020102 = another identifier at octet 11, beginning wi
 a0820117 81820101 257*07 020100 8000 8000 3009 020100 020100 810100
     = no content of its type at octet 8;";
 
-#[test]
-fn returns_of_starts_have_their_octets(rt: HostRuntime) -> Result<(), Fail> {
-    check(&rt, rt.alloc(), Kind::StartReturn, START_RETURN)
-}
-
-const START_RETURN: &str = "
+pub const START_RETURN: &str = "
 a107 8000 020100 8000 = StartReturn { credentials: Unused, invoke: 0, result: Ok(()) };
 a10a 8000 020100 a103 810104
     = StartReturn { credentials: Unused, invoke: 0, result: Err(Specific(4)) };

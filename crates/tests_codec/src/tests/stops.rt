@@ -1,15 +1,6 @@
 // STOP and SCHEDULE-STATUS-REPORT, with their returns (CCSDS 911.1-B, annex A).
-use crate::kind::Kind;
-use crate::rows::check;
-use std::test::Fail;
 
-#[test]
-fn stops_have_their_octets(rt: HostRuntime) -> Result<(), Fail> {
-    check(&rt, rt.alloc(), Kind::Stop, STOP)?;
-    check(&rt, rt.alloc(), Kind::StopReturn, STOP_RETURN)
-}
-
-const STOP: &str = "
+pub const STOP: &str = "
 a205 8000 020100 = Stop { credentials: Unused, invoke: 0 };
 a20f 81080102030405060708 020300ffff
     = Stop { credentials: Used([1, 2, 3, 4, 5, 6, 7, 8]), invoke: 65535 };
@@ -22,7 +13,7 @@ a207 8000 020100 8000 = no fitting length at octet 7;
 a305 8000 020100 = another identifier at octet 0, beginning with 0xa3;
 a2820108 81820101 257*07 020100 = no content of its type at octet 8;";
 
-const STOP_RETURN: &str = "
+pub const STOP_RETURN: &str = "
 a307 8000 020100 8000 = StopReturn { credentials: Unused, invoke: 0, result: Ok(()) };
 a312 81080102030405060708 020300ffff 81017f
     = StopReturn { credentials: Used([1, 2, 3, 4, 5, 6, 7, 8]), invoke: 65535, result: Err(127) };
@@ -39,13 +30,7 @@ a307 8000 020100 8100 = no content of its type at octet 9;
 a309 8000 020100 8000 8000 = no fitting length at octet 9;
 a382010a 81820101 257*07 020100 8000 = no content of its type at octet 8;";
 
-#[test]
-fn schedules_have_their_octets(rt: HostRuntime) -> Result<(), Fail> {
-    check(&rt, rt.alloc(), Kind::Schedule, SCHEDULE)?;
-    check(&rt, rt.alloc(), Kind::ScheduleReturn, SCHEDULE_RETURN)
-}
-
-const SCHEDULE: &str = "
+pub const SCHEDULE: &str = "
 a407 8000 020100 8000 = Schedule { credentials: Unused, invoke: 0, report: Now };
 a414 81080102030405060708 020300ffff 810300ffff
     = Schedule { credentials: Used([1, 2, 3, 4, 5, 6, 7, 8]), invoke: 65535,
@@ -61,7 +46,7 @@ a405 8000 020100 = no fitting length at octet 7;
 a409 8000 020100 8200 8000 = no fitting length at octet 9;
 a482010a 81820101 257*07 020100 8000 = no content of its type at octet 8;";
 
-const SCHEDULE_RETURN: &str = "
+pub const SCHEDULE_RETURN: &str = "
 a507 8000 020100 8000 = ScheduleReturn { credentials: Unused, invoke: 0, result: Ok(()) };
 a514 81080102030405060708 020300ffff a103 810102
     = ScheduleReturn { credentials: Used([1, 2, 3, 4, 5, 6, 7, 8]), invoke: 65535,

@@ -1,15 +1,6 @@
 // THROW-EVENT and its return (CCSDS 912.1-B, annex A).
-use crate::kind::Kind;
-use crate::rows::check;
-use std::test::Fail;
 
-#[test]
-fn throws_have_their_octets(rt: HostRuntime) -> Result<(), Fail> {
-    check(&rt, rt.alloc(), Kind::Throw, THROW)?;
-    check(&rt, rt.alloc(), Kind::ThrowReturn, THROW_RETURN)
-}
-
-const THROW: &str = "
+pub const THROW: &str = "
 a80d 8000 020100 020100 020100 0400
     = Throw { credentials: Unused, invoke: 0, number: 0, event: 0, qualifier: [] };
 a820 81080102030405060708 020300ffff 020500ffffffff 020300ffff 0403c0ffee
@@ -34,7 +25,7 @@ a8820110 81820101 257*55 020100 020100 020100 0400 = no content of its type at o
 a8820410 8000 020100 020100 020100 04820401 1025*55 = no content of its type at octet 19;
 aa00 = another identifier at octet 0, beginning with 0xaa;";
 
-const THROW_RETURN: &str = "
+pub const THROW_RETURN: &str = "
 a90a 8000 020100 020100 8000
     = ThrowReturn { credentials: Unused, invoke: 0, number: 0, result: Ok(()) };
 a90d 8000 020100 020100 a103 810101

@@ -1,15 +1,6 @@
 // TRANSFER-DATA of forward CLTU and its return (CCSDS 912.1-B, annex A).
-use crate::kind::Kind;
-use crate::rows::check;
-use std::test::Fail;
 
-#[test]
-fn transfers_have_their_octets(rt: HostRuntime) -> Result<(), Fail> {
-    check(&rt, rt.alloc(), Kind::CltuTransfer, CLTU_TRANSFER)?;
-    check(&rt, rt.alloc(), Kind::TransferReturn, TRANSFER_RETURN)
-}
-
-const CLTU_TRANSFER: &str = "
+pub const CLTU_TRANSFER: &str = "
 aa17 8000 020100 020107 8000 8000 020100 020101 0403aa0007
     = CltuTransfer { credentials: Unused, invoke: 0, id: 7, earliest: None, latest: None, delay: 0,
       wanted: false, octets: [170, 0, 7] };
@@ -99,7 +90,7 @@ aa3b 81080102030405060708 02020080 020200ff a10a 80084e20000003e80007 a10c 810a0
     = no fitting length at octet 61;
 a800 = another identifier at octet 0, beginning with 0xa8;";
 
-const TRANSFER_RETURN: &str = "
+pub const TRANSFER_RETURN: &str = "
 ab0e 8000 020100 020108 020203e5 8000
     = TransferReturn { credentials: Unused, invoke: 0, next: 8, free: 997, result: Ok(()) };
 ab0e 8000 020100 020109 020203e2 8000
