@@ -1,10 +1,6 @@
-// Tests of the world behind a script: scripts with their transcripts, and how each ends. They stand
-// above the world, and are proved once.
+// Tests of the world behind a script: lines, what each comes to, and what they write. Scripts of the
+// whole program are run by the program itself, and not here.
 #![tactic(auto)]
 
-#[cfg(test)]
-mod connections;
-#[cfg(test)]
-mod crashes;
 #[cfg(test)]
 mod tests;

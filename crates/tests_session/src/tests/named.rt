@@ -1,104 +1,76 @@
 // The messages of the scripts, spelled by hand from the standards: CCSDS 913.1-B for the transport,
 // CCSDS 911.1-B, annex A, and X.690 for the PDUs.
 
-// What a PDU says.
-#[derive(Clone, Copy, PartialEq, Eq)]
-pub enum Says {
-    // A BIND of a peer: the place of the instance that it asks for or why it is refused, and the
-    // version.
-    Bind(Result<u32, u8>, u8),
-    // A BIND whose initiator is no peer, or whose credentials fail.
-    Denied,
-    Unbind,
-    Abort(u8),
-    // None of these, and its tag isn't BIND's or PEER-ABORT's.
-    Other,
-}
-
-const PDUS: [(&str, &str, Says); 14] = [
+// Those of users, the returns, and the identifiers of some instances.
+const WORDS: [(&str, &str); 31] = [
     (
         "MOC-0-5-RC",
         "010000000000005dbf645a80001a034d4f431a05504f5254310201000201053044310e300c06072b7004\
          030102341a0131310e300c06072b7004030102351a0150310e300c06072b7004030102261a0131311230\
          1006072b7004030102161a056f6e6c6331",
-        Says::Bind(Ok(1), 5),
     ),
     (
         "MOC-0-4-RT",
         "010000000000005dbf645a80001a034d4f431a05504f5254310201000201043044310e300c06072b7004\
          030102341a0131310e300c06072b7004030102351a0150310e300c06072b7004030102261a0131311230\
          1006072b7004030102161a056f6e6c7431",
-        Says::Bind(Ok(0), 4),
     ),
     (
         "MOC-16-5-FW",
         "010000000000005dbf645a80001a034d4f431a05504f5254310201100201053044310e300c06072b7004\
          030102341a0131310e300c06072b7004030102351a0150310e300c06072b70040301020e1a0131311230\
          1006072b7004030102071a05636c747531",
-        Says::Bind(Ok(5), 5),
     ),
     (
         "MOC-2-5-RC",
         "010000000000005dbf645a80001a034d4f431a05504f5254310201020201053044310e300c06072b7004\
          030102341a0131310e300c06072b7004030102351a0150310e300c06072b7004030102261a0131311230\
          1006072b7004030102161a056f6e6c6331",
-        Says::Bind(Err(6), 0),
     ),
     (
         "OTHER-0-5-RC",
         "010000000000005fbf645c80001a054f544845521a05504f5254310201000201053044310e300c06072b\
          7004030102341a0131310e300c06072b7004030102351a0150310e300c06072b7004030102261a013131\
          12301006072b7004030102161a056f6e6c6331",
-        Says::Bind(Err(5), 0),
     ),
     (
         "MOC-0-5-X",
         "0100000000000039bf643680001a034d4f431a05504f5254310201000201053020310e300c06072b7004\
          030102341a0139310e300c06072b7004030102161a0178",
-        Says::Bind(Err(3), 0),
     ),
     (
         "MOC-0-3-RC",
         "010000000000005dbf645a80001a034d4f431a05504f5254310201000201033044310e300c06072b7004\
          030102341a0131310e300c06072b7004030102351a0150310e300c06072b7004030102261a0131311230\
          1006072b7004030102161a056f6e6c6331",
-        Says::Bind(Err(2), 0),
     ),
     (
         "MOC-4-5-RC",
         "010000000000005dbf645a80001a034d4f431a05504f5254310201040201053044310e300c06072b7004\
          030102341a0131310e300c06072b7004030102351a0150310e300c06072b7004030102261a0131311230\
          1006072b7004030102161a056f6e6c6331",
-        Says::Bind(Err(1), 0),
     ),
     (
         "SEC-0-5-RC",
         "010000000000005dbf645a80001a035345431a05504f5254310201000201053044310e300c06072b7004\
          030102341a0131310e300c06072b7004030102351a0150310e300c06072b7004030102261a0131311230\
          1006072b7004030102161a056f6e6c6331",
-        Says::Denied,
     ),
     (
         "NOBODY-0-5-RC",
         "0100000000000060bf645d80001a064e4f424f44591a05504f5254310201000201053044310e300c0607\
          2b7004030102341a0131310e300c06072b7004030102351a0150310e300c06072b7004030102261a0131\
          3112301006072b7004030102161a056f6e6c6331",
-        Says::Denied,
     ),
     (
         "MOC-USED",
         "0100000000000065bf6462810800010203040506071a034d4f431a05504f525431020100020105304431\
          0e300c06072b7004030102341a0131310e300c06072b7004030102351a0150310e300c06072b70040301\
          02261a01313112301006072b7004030102161a056f6e6c6331",
-        Says::Bind(Ok(1), 5),
     ),
-    ("UNBIND", "0100000000000008bf66058000020100", Says::Unbind),
-    ("ABORT", "01000000000000049f68017f", Says::Abort(127)),
-    ("STOP", "0100000000000007a2058000020100", Says::Other),
-];
-
-// The other messages of users, the returns, and the identifiers of some instances.
-const WORDS: [(&str, &str); 17] = [
+    ("UNBIND", "0100000000000008bf66058000020100"),
+    ("ABORT", "01000000000000049f68017f"),
+    ("STOP", "0100000000000007a2058000020100"),
     ("CONTEXT", "020000000000000c4953503100000001001e0005"),
     ("QUICK", "020000000000000c495350310000000100050002"),
     ("UNTIMED", "020000000000000c495350310000000100000005"),
@@ -131,25 +103,10 @@ const WORDS: [(&str, &str); 17] = [
 
 // The digits that a word names, or else the word, which is digits.
 pub fn hex_of(word: &str) -> &str {
-    for (name, hex, _) in PDUS {
-        if word == name {
-            return hex;
-        }
-    }
     for (name, hex) in WORDS {
         if word == name {
             return hex;
         }
     }
     word
-}
-
-// What a PDU of the table says.
-pub fn says_of(digits: &str) -> Option<Says> {
-    for (_, hex, says) in PDUS {
-        if digits == hex {
-            return Some(says);
-        }
-    }
-    None
 }

@@ -4,31 +4,31 @@ ghost use Rattle.cds_time.specs.declared.cds.TheConstants.{MOMENT_END};
 ghost use Rattle.station_config.specs.Validity.{IsSite};
 
 use super::step::{Step, What};
-use super::talker::Talker;
 use super::telling::{calls_told, spoken_told};
 use frame_select::Want;
 use link_model::MemoryLink;
 use octet_core::{Memory, Octets};
 use record_form::Entries;
+use session_core::Session;
 use station_book::{Ask, Book};
 use station_config::Site;
 use std::alloc::{AllocError, Global};
 
 // A session with its link, of whose calls so many were told.
 #[derive(Drop)]
-struct Door<T: Talker> {
+struct Door {
     number: u32,
-    talker: T,
+    session: Session,
     link: MemoryLink,
     told: usize,
 }
 
 // The clock reads microseconds since 1958-01-01.
 #[derive(Drop)]
-pub struct Station<T: Talker> {
+pub struct Station {
     alloc: Global,
     book: Book,
-    doors: Vec<Door<T>>,
+    doors: Vec<Door>,
     clock: u32,
 }
 
@@ -39,12 +39,12 @@ fn reading_of(clock: u32) -> u128
     u128::from(clock) * 1_000_000
 }
 
-impl<T: Talker> Door<T> {
-    fn open(alloc: Global, step: &Step, clock: u32) -> Result<Door<T>, AllocError> {
+impl Door {
+    fn open(alloc: Global, step: &Step, clock: u32) -> Result<Door, AllocError> {
         let failing = vec![in alloc; u64::from(step.number)]?;
         Ok(Door {
             number: step.door,
-            talker: T::begin(alloc, step.door, reading_of(clock))?,
+            session: Session::new(alloc, step.door, 1, reading_of(clock))?,
             link: MemoryLink::new(alloc, failing),
             told: 0,
         })
@@ -77,7 +77,7 @@ impl<T: Talker> Door<T> {
         requires { IsSite site.now }
     {
         let spoken = self
-            .talker
+            .session
             .round(site, book, reading_of(clock), &mut self.link)?;
         let mut told = self.tell(alloc)?;
         told.push_str(spoken_told(alloc, spoken)?.as_str())?;
@@ -85,7 +85,7 @@ impl<T: Talker> Door<T> {
     }
 
     fn speak(&mut self, alloc: Global) -> Result<String, AllocError> {
-        let spoken = self.talker.speak(&mut self.link)?;
+        let spoken = self.session.speak(&mut self.link);
         let mut told = self.tell(alloc)?;
         told.push_str(spoken_told(alloc, spoken)?.as_str())?;
         Ok(told)
@@ -109,8 +109,8 @@ impl<T: Talker> Door<T> {
                 return self.round(alloc, site, book, clock);
             }
             What::Round => return self.round(alloc, site, book, clock),
-            What::Listen => self.talker.listen(&mut self.link)?,
-            What::Step => self.talker.step(site, book, reading_of(clock))?,
+            What::Listen => self.session.listen(&mut self.link),
+            What::Step => self.session.step(site, book, reading_of(clock))?,
             What::Speak => return self.speak(alloc),
             What::Shut => self.link.shut(),
             What::Break => self.link.break_poll(),
@@ -120,8 +120,8 @@ impl<T: Talker> Door<T> {
     }
 }
 
-impl<T: Talker> Station<T> {
-    pub fn new(alloc: Global, site: &Site) -> Result<Station<T>, AllocError> {
+impl Station {
+    pub fn new(alloc: Global, site: &Site) -> Result<Station, AllocError> {
         Ok(Station {
             alloc,
             book: Book::new(alloc, site, Entries::new(alloc), 0)?,
