@@ -1,9 +1,8 @@
 // What a BIND is answered, as a text.
-ghost use Rattle.station_config.specs.Validity.{IsSite};
-
+use crate::rows::octets_of;
+use crate::stations::station_of;
 use assoc_core::{BindFault, check_bind, peer_of};
 use sle_common::{InstanceId, InstanceRef};
-use station_config::Site;
 use std::alloc::Global;
 use std::test::Fail;
 
@@ -16,32 +15,30 @@ fn answer_text(alloc: Global, answer: Result<u32, BindFault>) -> Result<String, 
 }
 
 /// Of a peer, a service, a version and an identifier.
-pub fn bind_text(alloc: Global, site: &Site, words: &str) -> Result<String, Fail>
-    requires { IsSite site.now }
-{
+pub fn bind_text(alloc: Global, words: &str) -> Result<String, Fail> {
+    let site = station_of(alloc, "")?;
     let mut words = words.split_whitespace();
     let initiator = words.next().unwrap_or("");
     let service = words.next().unwrap_or("").parse()?;
     let version = words.next().unwrap_or("").parse()?;
     let id = InstanceId::parse_text(alloc, words.next().unwrap_or(""))?;
-    let peer = peer_of(site, initiator.as_bytes());
-    let answer = check_bind(site, peer, service, version, &InstanceRef::Own(&id));
+    let peer = peer_of(&site, initiator.as_bytes());
+    let answer = check_bind(&site, peer, service, version, &InstanceRef::Own(&id));
     answer_text(alloc, answer)
 }
 
 /// Of the octets of an identifier, by the first peer, the service 0 and the version 5.
-pub fn spelled_text(alloc: Global, site: &Site, octets: &[u8]) -> Result<String, Fail>
-    requires { IsSite site.now }
-{
-    let answer = check_bind(site, Some(0), 0, 5, &InstanceRef::Spelled(octets));
+pub fn spelled_text(alloc: Global, words: &str) -> Result<String, Fail> {
+    let site = station_of(alloc, "")?;
+    let octets = octets_of(alloc, words)?;
+    let answer = check_bind(&site, Some(0), 0, 5, &InstanceRef::Spelled(&octets));
     answer_text(alloc, answer)
 }
 
 /// The place of the peer of a name.
-pub fn peer_text(alloc: Global, site: &Site, name: &str) -> Result<String, Fail>
-    requires { IsSite site.now }
-{
-    Ok(match peer_of(site, name.as_bytes()) {
+pub fn peer_text(alloc: Global, name: &str) -> Result<String, Fail> {
+    let site = station_of(alloc, "")?;
+    Ok(match peer_of(&site, name.as_bytes()) {
         Some(place) => format!(in alloc; "peer {place}")?,
         None => format!(in alloc; "no peer")?,
     })

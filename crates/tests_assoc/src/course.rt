@@ -1,18 +1,48 @@
 // What happens to an association, word by word. A word is the name of credentials or of a moment,
-// which the next messages have; `>` and an outcome; or the name of a message.
+// which the next messages have; `>` and an outcome; the name of a message; or `state`.
 use crate::credentials::{NOW, credentials_of, moment_of};
+use crate::stations::station_of;
 use assoc_core::{Association, Outcome, PduKind, State, Step};
 use sle_common::Credentials;
 use station_config::Site;
 use std::alloc::Global;
 use std::test::Fail;
 
-/// The names of all messages; a BIND has its initiator behind `=`.
-pub const MESSAGES: &str = "context heartbeat bind=MOC unbind peer-abort start stop report get \
-    throw transfer other undecoded";
+// All messages; a BIND has its initiator behind `=`.
+const MESSAGES: &str = "context,heartbeat,bind=MOC,unbind,peer-abort,start,stop,report,get,throw,\
+    transfer,other,undecoded";
 
-/// A name of each outcome; of a bound user, here of a forward service, the peer stands behind `-`.
-pub const OUTCOMES: &str = ">context >forward-7 >denied >started >stopped >unbound >kept";
+// Each outcome; of a bound user, here of a forward service, the peer stands behind `-`.
+const OUTCOMES: &str = ">context,>forward-7,>denied,>started,>stopped,>unbound,>kept";
+
+// Unused ones, malformed ones, those of a picosecond past the delay, a wrong digest, the right
+// ones, those at the end of the delay, and those of the other hash function.
+const CREDENTIALS: &str = "unused,malformed,sha1 too-late,wrong,sha1,sha1 late,sha256";
+
+// The words that a name with a star stands for, one after another.
+fn alternatives(name: &str) -> &'static str {
+    match name {
+        "messages" => MESSAGES,
+        "outcomes" => OUTCOMES,
+        "credentials" => CREDENTIALS,
+        _ => "",
+    }
+}
+
+/// What the words behind the name of a station tell; once for each word that a star stands for.
+pub fn course_text(alloc: Global, text: &str) -> Result<String, Fail> {
+    let (name, words) = text.split_once(' ').unwrap_or((text, ""));
+    let site = station_of(alloc, name)?;
+    let (before, star) = words.split_once('*').unwrap_or((words, ""));
+    let (list, behind) = star.split_once(' ').unwrap_or((star, ""));
+    let mut told = String::new(alloc);
+    for word in alternatives(list).split(',') {
+        let words = format!(in alloc; "{before} {word} {behind}")?;
+        let course = Course::of(alloc, &site, words.as_str())?;
+        told.push_str(course.told.as_str())?;
+    }
+    Ok(told)
+}
 
 fn message_of(word: &str) -> Option<PduKind<'_>> {
     let (name, initiator) = word.split_once('=').unwrap_or((word, ""));
@@ -58,32 +88,32 @@ fn outcome_of(word: &str) -> Option<Outcome> {
     }
 }
 
-/// An association on its way, with what became of its messages.
+// An association on its way, with what became of its messages.
 #[derive(Drop)]
-pub struct Course {
+struct Course {
     association: Association,
     credentials: Credentials<'static>,
     now: u128,
-    /// Of each message a word.
-    pub steps: String,
+    // Of each message a word.
+    told: String,
 }
 
 impl Course {
-    /// An association to which these words happen, at a site.
-    pub fn of(alloc: Global, site: &Site, words: &str) -> Result<Course, Fail> {
+    // An association to which these words happen, at a site.
+    fn of(alloc: Global, site: &Site, words: &str) -> Result<Course, Fail> {
         let mut course = Course {
             association: Association::new(),
             credentials: Credentials::Unused,
             now: NOW,
-            steps: String::new(alloc),
+            told: String::new(alloc),
         };
         for word in words.split_whitespace() {
-            course.go_on(site, word)?;
+            course.go_on(alloc, site, word)?;
         }
         Ok(course)
     }
 
-    fn go_on(&mut self, site: &Site, word: &str) -> Result<(), Fail> {
+    fn go_on(&mut self, alloc: Global, site: &Site, word: &str) -> Result<(), Fail> {
         if let Some(credentials) = credentials_of(word) {
             self.credentials = credentials;
         } else if let Some(now) = moment_of(word) {
@@ -96,8 +126,10 @@ impl Course {
                 .association
                 .invoke(site, message, &credentials, self.now);
             let behind = self.behind_step();
-            self.steps.push_str(step_word(step))?;
-            self.steps.push_str(behind)?;
+            self.told.push_str(step_word(step))?;
+            self.told.push_str(behind)?;
+        } else if word == "state" {
+            self.told.push_str(self.state(alloc)?.as_str())?;
         } else {
             return Err(Fail::from("an unknown word"));
         }
@@ -113,8 +145,8 @@ impl Course {
         }
     }
 
-    /// The state, and who is bound.
-    pub fn state(&self, alloc: Global) -> Result<String, Fail> {
+    // The state, and who is bound.
+    fn state(&self, alloc: Global) -> Result<String, Fail> {
         let state = self.association.state();
         let name = match state {
             State::Opening => "opening",

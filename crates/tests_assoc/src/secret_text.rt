@@ -1,7 +1,4 @@
 // What credentials are made and how they are checked, as a text.
-ghost use Rattle.std.specs.Prelude.{◌≤◌};
-
-use crate::credentials::NOW;
 use crate::rows::octets_of;
 use cds_time::MOMENT_END;
 use isp1_auth::{GREATEST_NUMBER, Hash, RandomNumbers, Secret, check, make};
@@ -14,24 +11,6 @@ fn hash_of(word: &str) -> Hash {
         Hash::Sha256
     } else {
         Hash::Sha1
-    }
-}
-
-fn number(word: &str) -> u128 {
-    word.parse().unwrap_or(0)
-}
-
-// A moment in picoseconds: `now`, picoseconds before or behind it, the last one, or a number.
-fn moment_of(word: &str) -> u128 {
-    if word == "last" {
-        return MOMENT_END - 1;
-    }
-    let Some(rest) = word.strip_prefix("now") else {
-        return number(word);
-    };
-    match rest.strip_prefix('-') {
-        Some(before) => NOW.saturating_sub(number(before)),
-        None => NOW.saturating_add(number(rest.strip_prefix('+').unwrap_or("0"))),
     }
 }
 
@@ -48,50 +27,22 @@ fn checked(
     })
 }
 
-// What a sender made, in words of 20 octets. What stood behind it in the 64 octets stands there
-// still, or it is said.
-fn octets_text(alloc: Global, into: &[u8; 64], length: usize) -> Result<String, Fail>
-    requires { length ≤ 64 }
-{
-    let (octets, behind) = into.split_at(length);
-    let mut text = String::new(alloc);
-    for chunk in octets.chunks(20) {
-        text.push_str(hex::encode(alloc, chunk)?.as_str())?;
-        text.push_str(" ")?;
-    }
-    if behind != &[0xaa; 64][length..] {
-        text.push_str("and others ")?;
-    }
-    Ok(text)
-}
-
 // The credentials that a sender makes, and what the check says of them.
-fn made(
-    alloc: Global,
-    secret: &Secret<'_>,
-    now: u128,
-    number: u32,
-    with_octets: bool,
-) -> Result<String, Fail> {
+fn made(alloc: Global, secret: &Secret<'_>, now: u128, number: u32) -> Result<String, Fail> {
     if now >= MOMENT_END || number > GREATEST_NUMBER {
         return Err(Fail::from("no such moment or number"));
     }
-    let mut into = [0xaa; 64];
+    let mut into = [0; 64];
     let length = make(secret, now, number, &mut into);
-    let mut text = if with_octets {
-        octets_text(alloc, &into, length)?
-    } else {
-        String::new(alloc)
-    };
+    let octets = hex::encode(alloc, &into[..length])?;
     let answer = checked(alloc, secret, &Credentials::Used(&into[..length]), now)?;
-    text.push_str(answer.as_str())?;
-    Ok(text)
+    Ok(format!(in alloc; "{octets} {answer}")?)
 }
 
 /// Of a name and a password in hexadecimal digits, a hash function, and what is made or checked:
 /// `make`, a moment and a number; or `check`, a moment, and `unused` or the octets of credentials.
 /// The delay is 60 seconds.
-pub fn secret_text(alloc: Global, words: &str, with_octets: bool) -> Result<String, Fail> {
+pub fn secret_text(alloc: Global, words: &str) -> Result<String, Fail> {
     let mut words = words.split_whitespace();
     let name = octets_of(alloc, words.next().unwrap_or(""))?;
     let pass = octets_of(alloc, words.next().unwrap_or(""))?;
@@ -102,10 +53,10 @@ pub fn secret_text(alloc: Global, words: &str, with_octets: bool) -> Result<Stri
         delay: 60,
     };
     let call = words.next().unwrap_or("");
-    let now = moment_of(words.next().unwrap_or(""));
+    let now = words.next().unwrap_or("").parse()?;
     let first = words.next().unwrap_or("");
     if call == "make" {
-        return made(alloc, &secret, now, first.parse()?, with_octets);
+        return made(alloc, &secret, now, first.parse()?);
     }
     if first == "unused" {
         return checked(alloc, &secret, &Credentials::Unused, now);

@@ -24,15 +24,10 @@ const LEVEL_ALL: &[u8] = b"peer STATION all sha1 60 000000000000";
 
 const LEVEL_ALL_SHA256: &[u8] = b"peer STATION all sha256 60 000000000000";
 
-/// A station of three peers and six instances.
-pub fn station(alloc: Global) -> Result<Site, SiteFault>
+/// The station of a name: one of a single peer at a level, or that of three peers and six instances.
+pub fn station_of(alloc: Global, name: &str) -> Result<Site, SiteFault>
     ensures { IfOk result IsSite }
 {
-    Site::parse(alloc, STATION)
-}
-
-/// The station of a name: one of a single peer at a level, or that of three peers.
-pub fn station_of(alloc: Global, name: &str) -> Result<Site, SiteFault> {
     let text = match name {
         "none" => LEVEL_NONE,
         "bind" => LEVEL_BIND,

@@ -1,18 +1,8 @@
 // The BINDs of a station, and outer tags.
-use crate::kind::Kind;
-use crate::rows::check;
-use std::test::Fail;
-
-#[test]
-fn binds_are_answered_with_the_first_fault(rt: HostRuntime) -> Result<(), Fail> {
-    check(&rt, rt.alloc(), Kind::Bind, BINDS)?;
-    check(&rt, rt.alloc(), Kind::Spelled, SPELLED)?;
-    check(&rt, rt.alloc(), Kind::Peer, PEERS)
-}
 
 // The initiator, the service, the version and the instance. Behind a digit, the diagnostic of the
 // return of BIND, stands the fault. The last rows have each fault before the next.
-const BINDS: &str = "
+pub const BINDS: &str = "
 MOC 0 5 sagr=1.spack=P.rsl-fg=1.raf=onlc1 = instance 1|
 MOC 0 4 sagr=1.spack=P.rsl-fg=1.raf=onlc1 = instance 1|
 MOC 0 5 sagr=1.spack=P.rsl-fg=1.raf=onlc2 = instance 3|
@@ -37,7 +27,7 @@ OTHER 2 5 sagr=1.spack=P.rsl-fg=1.raf=onlc1
     = 5 service instance not accessible to this initiator|";
 
 // sagr=1.spack=P.rsl-fg=1.raf=onlc1 as a BIND spells it, and the same with onlc3.
-const SPELLED: &str = "
+pub const SPELLED: &str = "
 310e300c06072b7004030102341a0131
     310e300c06072b7004030102351a0150
     310e300c06072b7004030102261a0131
@@ -50,7 +40,7 @@ const SPELLED: &str = "
     = 3 no such service instance|";
 
 // By their whole names.
-const PEERS: &str = "
+pub const PEERS: &str = "
 MOC = peer 0|
 OTHER = peer 1|
 SEC = peer 2|
@@ -58,15 +48,10 @@ MO = no peer|
 MOCK = no peer|
 moc = no peer|";
 
-#[test]
-fn the_outer_tag_is_told_by_its_octets(rt: HostRuntime) -> Result<(), Fail> {
-    check(&rt, rt.alloc(), Kind::OuterTag, OUTER_TAGS)
-}
-
 // The same numbers, but constructed where they are primitive and the other way round; UNBIND, its
 // return, the return of BIND, START, another class; octets that end too early; a number below 31,
 // and one with a superfluous octet, which are no tag in several octets.
-const OUTER_TAGS: &str = "
+pub const OUTER_TAGS: &str = "
 bf6400 = Bind|
 bf64 = Bind|
 9f68017f = PeerAbort|
