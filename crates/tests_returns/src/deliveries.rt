@@ -1,9 +1,6 @@
-// Deliveries by rounds. What is expected was worked out by hand from the rules; random rounds are
-// compared with a plain program that counts in the picked list.
-use crate::ground::{Entry, Instance, Round, check, play};
-use crate::plain_delivery::{Plain, entries_of, rounds_of};
+// Deliveries by rounds. What is expected was worked out by hand from the rules.
+use crate::ground::{Entry, Instance, check};
 use return_core::Mode;
-use std::alloc::{AllocError, Global};
 use std::test::Fail;
 
 // Four frames that any START picks, and a stop that is open behind them.
@@ -15,14 +12,7 @@ const FRAMES: Instance = Instance {
     latency: 5,
 };
 
-#[test]
-fn a_complete_delivery_keeps_a_stalled_buffer_and_offers_it_again(
-    rt: HostRuntime,
-) -> Result<(), Fail> {
-    let mode = Mode::Complete;
-    check(&rt, rt.alloc(), &Instance { mode, ..FRAMES }, KEPT)
-}
-
+// A complete delivery keeps a stalled buffer and offers it again.
 const KEPT: &str = "
 start;
 2 0 stall = kept 0(-1) 1(1);
@@ -31,20 +21,7 @@ start;
 3 2 whole = -;
 3 7 whole = sent 2(1);";
 
-#[test]
-fn a_stall_at_each_round_of_a_timely_delivery_is_told_before_the_next_buffer(
-    rt: HostRuntime,
-) -> Result<(), Fail> {
-    let instance = Instance {
-        closes: 4,
-        ..FRAMES
-    };
-    for rows in [UNSTALLED, FIRST_STALLED, SECOND_STALLED, END_STALLED] {
-        check(&rt, rt.alloc(), &instance, rows)?;
-    }
-    Ok(())
-}
-
+// A stall at each round of a timely delivery is told before the next buffer.
 const UNSTALLED: &str = "
 start;
 4 0 whole = sent 0(-1) 1(1);
@@ -77,11 +54,7 @@ start;
 4 0 whole = sent E;
 4 0 whole = -;";
 
-#[test]
-fn two_stalls_in_a_row_are_told_by_one_backlog(rt: HostRuntime) -> Result<(), Fail> {
-    check(&rt, rt.alloc(), &FRAMES, STALLED_TWICE)
-}
-
+// Two stalls in a row are told by one backlog.
 const STALLED_TWICE: &str = "
 start;
 2 0 stall = discarded 0(-1) 1(1);
@@ -89,11 +62,7 @@ start;
 4 0 whole = sent B 3(-1);
 4 9 whole = -;";
 
-#[test]
-fn a_stalled_backlog_alone_is_kept_and_fills_a_buffer_of_one(rt: HostRuntime) -> Result<(), Fail> {
-    check(&rt, rt.alloc(), &Instance { size: 1, ..FRAMES }, BACKLOG)
-}
-
+// A stalled backlog alone is kept, and fills a buffer of one.
 const BACKLOG: &str = "
 start;
 1 0 stall = discarded 0(-1);
@@ -101,13 +70,7 @@ start;
 2 0 whole = sent B;
 2 0 whole = sent 1(-1);";
 
-#[test]
-fn stop_after_a_discard_leaves_it_untold_and_drops_what_is_held(
-    rt: HostRuntime,
-) -> Result<(), Fail> {
-    check(&rt, rt.alloc(), &FRAMES, STOPPED)
-}
-
+// STOP after a discard leaves it untold and drops what is held.
 const STOPPED: &str = "
 state = stopped true, offers false, wants false:;
 start;
@@ -119,41 +82,7 @@ state = stopped true, offers false, wants false:;
 start;
 2 0 whole = sent 0(-1) 1(1);";
 
-#[test]
-fn a_buffer_waits_up_to_its_latency_and_not_while_the_clock_stands_still(
-    rt: HostRuntime,
-) -> Result<(), Fail> {
-    let (complete, offline) = (Mode::Complete, Mode::Offline);
-    let instance = Instance { size: 3, ..FRAMES };
-    check(
-        &rt,
-        rt.alloc(),
-        &Instance {
-            mode: complete,
-            ..instance
-        },
-        LATE,
-    )?;
-    check(
-        &rt,
-        rt.alloc(),
-        &Instance {
-            mode: offline,
-            ..instance
-        },
-        NEVER_LATE,
-    )?;
-    check(
-        &rt,
-        rt.alloc(),
-        &Instance {
-            latency: 0,
-            ..instance
-        },
-        AT_ONCE,
-    )
-}
-
+// A buffer waits up to its latency, and not while the clock stands still.
 const LATE: &str = "
 start;
 1 10 whole = -;
@@ -178,18 +107,7 @@ start;
 2 14 whole = -;
 2 15 whole = -;";
 
-#[test]
-fn a_buffer_is_full_with_524_288_octets(rt: HostRuntime) -> Result<(), Fail> {
-    let instance = Instance {
-        entries: &[Entry::Long; 10],
-        closes: 99,
-        mode: Mode::Complete,
-        size: 100,
-        ..FRAMES
-    };
-    check(&rt, rt.alloc(), &instance, OCTETS)
-}
-
+// A buffer is full with 524,288 octets.
 const OCTETS: &str = "
 start;
 7 0 whole = -;
@@ -204,18 +122,7 @@ const MIXED: [Entry; 5] = [
     Entry::Small,
 ];
 
-#[test]
-fn a_notification_ends_its_buffer_and_is_due_at_once(rt: HostRuntime) -> Result<(), Fail> {
-    let instance = Instance {
-        entries: &MIXED,
-        closes: 5,
-        mode: Mode::Complete,
-        size: 9,
-        ..FRAMES
-    };
-    check(&rt, rt.alloc(), &instance, NOTIFIED)
-}
-
+// A notification ends its buffer and is due at once.
 const NOTIFIED: &str = "
 start;
 5 0 whole = sent 0(-1) L1;
@@ -224,25 +131,7 @@ start;
 5 0 whole = sent E;
 5 0 whole = -;";
 
-#[test]
-fn end_of_data_comes_once_and_only_with_a_closed_stop(rt: HostRuntime) -> Result<(), Fail> {
-    let one = Instance {
-        entries: &[Entry::Small],
-        closes: 1,
-        mode: Mode::Offline,
-        latency: 0,
-        ..FRAMES
-    };
-    check(&rt, rt.alloc(), &one, ONE)?;
-    let none = Instance {
-        entries: &[],
-        closes: 0,
-        latency: 0,
-        ..FRAMES
-    };
-    check(&rt, rt.alloc(), &none, NONE)
-}
-
+// The end of data comes once, and only with a closed stop.
 const ONE: &str = "
 start;
 0 0 whole = -;
@@ -257,36 +146,60 @@ start;
 0 0 whole = sent E;
 0 0 whole = -;";
 
-// Whether a delivery does what the plain program does.
-fn plays_alike(alloc: Global, instance: &Instance, rounds: &[Round]) -> Result<bool, AllocError> {
-    let text = play(alloc, instance, rounds)?;
-    let plain = Plain::new(*instance).run(alloc, rounds)?;
-    Ok(text.as_str() == plain.as_str())
-}
-
-// Whether the two are alike over a run of random rounds.
-fn is_same(alloc: Global, run: usize, random: &mut u64) -> Result<bool, AllocError> {
-    let entries = entries_of(alloc, random)?;
-    let rounds = rounds_of(alloc, random)?;
-    let instance = Instance {
-        entries: &entries,
-        closes: run % 13 + 8,
-        mode: match run % 3 {
-            0 => Mode::Timely,
-            1 => Mode::Complete,
-            _ => Mode::Offline,
-        },
-        size: (run % 5) as u32 + 1,
-        latency: 4,
-    };
-    plays_alike(alloc, &instance, &rounds)
+// An instance of four frames in a mode, whose stop is closed behind so many, with buffers of a size
+// and a latency.
+fn frames(mode: Mode, closes: usize, size: u32, latency: u128) -> Instance<'static> {
+    Instance {
+        mode,
+        closes,
+        size,
+        latency,
+        ..FRAMES
+    }
 }
 
 #[test]
-fn random_rounds_are_those_of_the_plain_program(rt: HostRuntime) -> Result<(), Fail> {
-    let mut random = 1u64;
-    for run in 0..200usize {
-        assert!(rt; is_same(rt.alloc(), run, &mut random)?, "run {run}");
+fn frames_are_handed_over_so(rt: HostRuntime) -> Result<(), Fail> {
+    let table = [
+        (frames(Mode::Complete, 9, 2, 5), KEPT),
+        (frames(Mode::Timely, 4, 2, 5), UNSTALLED),
+        (frames(Mode::Timely, 4, 2, 5), FIRST_STALLED),
+        (frames(Mode::Timely, 4, 2, 5), SECOND_STALLED),
+        (frames(Mode::Timely, 4, 2, 5), END_STALLED),
+        (FRAMES, STALLED_TWICE),
+        (frames(Mode::Timely, 9, 1, 5), BACKLOG),
+        (FRAMES, STOPPED),
+        (frames(Mode::Complete, 9, 3, 5), LATE),
+        (frames(Mode::Offline, 9, 3, 5), NEVER_LATE),
+        (frames(Mode::Timely, 9, 3, 0), AT_ONCE),
+    ];
+    for (instance, rows) in table {
+        check(&rt, rt.alloc(), &instance, rows)?;
+    }
+    Ok(())
+}
+
+// An instance of other entries.
+fn of(entries: &[Entry], mode: Mode, closes: usize, size: u32) -> Instance<'_> {
+    Instance {
+        entries,
+        closes,
+        mode,
+        size,
+        latency: 5,
+    }
+}
+
+#[test]
+fn other_entries_are_handed_over_so(rt: HostRuntime) -> Result<(), Fail> {
+    let table = [
+        (of(&[Entry::Long; 10], Mode::Complete, 99, 100), OCTETS),
+        (of(&MIXED, Mode::Complete, 5, 9), NOTIFIED),
+        (of(&MIXED[..1], Mode::Offline, 1, 2), ONE),
+        (of(&[], Mode::Timely, 0, 2), NONE),
+    ];
+    for (instance, rows) in table {
+        check(&rt, rt.alloc(), &instance, rows)?;
     }
     Ok(())
 }

@@ -21,21 +21,21 @@ pub enum Entry {
     Production,
 }
 
-/// What a round finds on its link.
+// What a round finds on its link.
 #[derive(Clone, Copy, Debug, PartialEq, Eq)]
-pub enum Link {
-    /// No block waits; a buffer that is offered is answered so.
+enum Link {
+    // No block waits; a buffer that is offered is answered so.
     Whole,
     Stall,
     Fail,
-    /// A block of this round waits.
+    // A block of this round waits.
     Waits,
-    /// A block of an earlier round waits.
+    // A block of an earlier round waits.
     Blocked,
 }
 
-/// A round: how many entries there are, the moment and the link.
-pub type Round = (usize, u128, Link);
+// A round: how many entries there are, the moment and the link.
+type Round = (usize, u128, Link);
 
 /// The archive and the delivery of a row: the archive's stop is closed once it has so many entries,
 /// and none behind them is picked.
@@ -62,19 +62,19 @@ const TIME: Cds = Cds {
     rest: Rest::Micros(0),
 };
 
-/// How many places a frame is behind the one before it, or -1.
-pub fn behind(before: Option<u64>, place: u64) -> i32 {
+// How many places a frame is behind the one before it, or -1.
+fn behind(before: Option<u64>, place: u64) -> i32 {
     match before {
         Some(before) => i32::try_from(place.wrapping_sub(before)).unwrap_or(i32::MAX),
         None => -1,
     }
 }
 
-pub fn is_frame(entry: Entry) -> bool {
+fn is_frame(entry: Entry) -> bool {
     matches!(entry, Entry::Small | Entry::Long)
 }
 
-pub fn length(entry: Entry) -> usize {
+fn length(entry: Entry) -> usize {
     match entry {
         Entry::Small => 1,
         Entry::Long => 65_536,
@@ -247,19 +247,6 @@ fn start(delivery: &mut Delivery) {
     if delivery.is_stopped() {
         delivery.start(SELECTION);
     }
-}
-
-/// What each of the rounds from a START on does.
-pub fn play(alloc: Global, instance: &Instance, rounds: &[Round]) -> Result<String, AllocError> {
-    let mut text = String::new(alloc);
-    let mut delivery = delivery_of(alloc, instance)?;
-    start(&mut delivery);
-    for round in rounds {
-        let done = play_round(alloc, &mut delivery, instance, *round)?;
-        text.push_str(done.as_str())?;
-        text.push_str("; ")?;
-    }
-    Ok(text)
 }
 
 fn delivery_of(alloc: Global, instance: &Instance) -> Result<Delivery, AllocError> {

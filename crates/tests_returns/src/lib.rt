@@ -1,6 +1,5 @@
-// Tests of the archive's index and of deliveries: rows of rounds with what they hand over, and
-// random archives and rounds against plain programs. They stand above `archive_index` and
-// `return_core`, and are proved once.
+// Tests of the archive's index and of deliveries: rows of rounds with what they hand over. They stand
+// above `archive_index` and `return_core`, and are proved once.
 #![tactic(auto)]
 
 #[cfg(test)]
@@ -9,9 +8,3 @@ mod deliveries;
 mod ground;
 #[cfg(test)]
 mod index;
-#[cfg(test)]
-mod plain_delivery;
-#[cfg(test)]
-mod plain_index;
-#[cfg(test)]
-mod random;
