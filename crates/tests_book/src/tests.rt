@@ -1,30 +1,24 @@
-// The book by scripts, and against a plain program.
+// The book by scripts.
 //
-// A line of a script is a reading, a door, a call with its numbers, `=` and the answer. Both the
-// book and the plain program have to give these answers.
-use book_desk::BookDesk;
-use call::{Desk, call_of};
+// A line of a script is a reading, a door, a call with its numbers, `=` and the answer.
+ghost use Rattle.std.specs.Prelude.{◌≡◌};
+
+use book_desk::{BookDesk, book_of};
+use call::call_of;
 use octet_core::Memory;
-use plain::Plain;
-use std::alloc::{AllocError, Global};
-use std::process::Abort;
+use station_book::Book;
+use std::alloc::Global;
 use std::test::Fail;
 
 mod book_desk;
 mod call;
-mod plain;
-mod random;
-mod workers;
 
 // The first line of a script that isn't answered so.
-fn wrong_line<'a, D: Desk>(
-    alloc: Global,
-    desk: &mut D,
-    script: &'a str,
-) -> Result<Option<&'a str>, AllocError> {
+fn wrong_line<'a>(alloc: Global, script: &'a str) -> Result<Option<&'a str>, Memory> {
+    let mut desk = BookDesk::new(alloc)?;
     for line in script.lines() {
         let (words, answer) = line.split_once('=').unwrap_or((line, ""));
-        let told = desk.call(&call_of(words)).map_err(AllocError::from)?;
+        let told = desk.call(&call_of(words))?;
         let text = format!(in alloc; "{told:?}")?;
         if text.as_str() != answer {
             return Ok(Some(line));
@@ -33,21 +27,43 @@ fn wrong_line<'a, D: Desk>(
     Ok(None)
 }
 
-// The book answers a script so, and the plain program too.
-fn both_play(rt: &impl Abort, alloc: Global, script: &str) -> Result<(), AllocError> {
-    let mut book = BookDesk::new(alloc).map_err(AllocError::from)?;
-    assert_eq!(rt; wrong_line(alloc, &mut book, script)?, None);
-    let mut plain = Plain::new(alloc);
-    assert_eq!(rt; wrong_line(alloc, &mut plain, script)?, None);
+#[test]
+fn scripts_are_answered_so(rt: HostRuntime) -> Result<(), Fail> {
+    for script in [
+        LOST,
+        LOST_IN_A_RUN,
+        BOUND,
+        UNBOUND,
+        QUIT,
+        NOTICES,
+        MOMENTS,
+        LOOKS,
+        FOREIGN,
+    ] {
+        assert_eq!(rt; wrong_line(rt.alloc(), script)?, None);
+    }
     Ok(())
+}
+
+// Ends the antenna's worker and the only other one, and tells whether all were gone before and
+// behind the last.
+fn end_both(book: &mut Book) -> (bool, bool)
+    requires { book.old.opening.workers ≡ 1 }
+{
+    book.gone(1);
+    let early = book.all_gone();
+    book.gone(0);
+    (early, book.all_gone())
 }
 
 #[test]
-fn an_ask_that_does_not_fit_the_binding_is_lost(rt: HostRuntime) -> Result<(), Fail> {
-    both_play(&rt, rt.alloc(), LOST)?;
+fn all_are_gone_when_each_is(rt: HostRuntime) -> Result<(), Fail> {
+    let mut book = book_of(rt.alloc(), 1)?;
+    assert_eq!(rt; end_both(&mut book), (false, true));
     Ok(())
 }
 
+// An ask that doesn't fit the binding is lost.
 const LOST: &str = "\
 5 1 unbind=Said(Lost)
 5 1 bind 3=Said(Lost)
@@ -70,12 +86,7 @@ const LOST: &str = "\
 5 2 stop=Said(Lost)
 ";
 
-#[test]
-fn a_lost_ask_changes_the_latest_moment_alone(rt: HostRuntime) -> Result<(), Fail> {
-    both_play(&rt, rt.alloc(), LOST_IN_A_RUN)?;
-    Ok(())
-}
-
+// A lost ask changes the latest moment alone.
 const LOST_IN_A_RUN: &str = "\
 5 2 bind 1=Said(Bound)
 5 2 start 7=Said(Started { now: 5 })
@@ -89,12 +100,7 @@ const LOST_IN_A_RUN: &str = "\
 0 2 transfer 8=Said(Taken { room: Room { next: 9, free: 1 } })
 ";
 
-#[test]
-fn an_instance_has_one_door(rt: HostRuntime) -> Result<(), Fail> {
-    both_play(&rt, rt.alloc(), BOUND)?;
-    Ok(())
-}
-
+// An instance has one door.
 const BOUND: &str = "\
 5 1 bind 0=Said(Bound)
 5 2 bind 0=Said(AlreadyBound)
@@ -112,12 +118,7 @@ const BOUND: &str = "\
 5 2 bind 0=Said(AlreadyBound)
 ";
 
-#[test]
-fn unbind_ends_a_run_and_frees_its_instance(rt: HostRuntime) -> Result<(), Fail> {
-    both_play(&rt, rt.alloc(), UNBOUND)?;
-    Ok(())
-}
-
+// UNBIND ends a run and frees its instance.
 const UNBOUND: &str = "\
 5 2 bind 1=Said(Bound)
 5 2 start 7=Said(Started { now: 5 })
@@ -137,12 +138,7 @@ const UNBOUND: &str = "\
 8 0 take=Radiates(2, 3)
 ";
 
-#[test]
-fn the_quit_of_a_door_ends_its_run_alone(rt: HostRuntime) -> Result<(), Fail> {
-    both_play(&rt, rt.alloc(), QUIT)?;
-    Ok(())
-}
-
+// The quit of a door ends its run alone.
 const QUIT: &str = "\
 5 1 bind 0=Said(Bound)
 5 2 bind 1=Said(Bound)
@@ -155,13 +151,7 @@ const QUIT: &str = "\
 5 2 transfer 8=Said(Lost)
 ";
 
-#[test]
-fn a_notice_is_told_to_the_door_with_the_run(rt: HostRuntime) -> Result<(), Fail> {
-    both_play(&rt, rt.alloc(), NOTICES)?;
-    Ok(())
-}
-
-// The notices 0 CLTU radiated, 2 production interrupted, 4 production operational, 5 buffer empty.
+// A notice is told to the door with the run: the notices 0 CLTU radiated, 2 production interrupted, 4 production operational, 5 buffer empty.
 const NOTICES: &str = "\
 5 2 bind 1=Said(Bound)
 5 2 start 7=Said(Started { now: 5 })
@@ -184,12 +174,7 @@ const NOTICES: &str = "\
 9 2 start 1=Said(StartRefused { diagnostic: 0 })
 ";
 
-#[test]
-fn no_reading_sets_the_moment_back(rt: HostRuntime) -> Result<(), Fail> {
-    both_play(&rt, rt.alloc(), MOMENTS)?;
-    Ok(())
-}
-
+// No reading sets the moment back.
 const MOMENTS: &str = "\
 9 0 done 0 0=Fine
 4 0 interrupted 0 0=Fine
@@ -201,12 +186,6 @@ const MOMENTS: &str = "\
 11 1 stop=Said(Stopped)
 5 1 start 0=Said(Started { now: 11 })
 ";
-
-#[test]
-fn a_look_gives_what_is_wanted(rt: HostRuntime) -> Result<(), Fail> {
-    both_play(&rt, rt.alloc(), LOOKS)?;
-    Ok(())
-}
 
 // A look's reading is its stop, and its numbers are the first place and the room. It sees how many
 // entries there are, how many items it gives, the place behind them, whether more remain, and
@@ -229,12 +208,7 @@ const LOOKS: &str = "\
 20 0 look 1 0=Seen(6, 0, 1, true, true)
 ";
 
-#[test]
-fn entries_that_do_not_follow_are_handed_back(rt: HostRuntime) -> Result<(), Fail> {
-    both_play(&rt, rt.alloc(), FOREIGN)?;
-    Ok(())
-}
-
+// Entries that don't follow are handed back.
 const FOREIGN: &str = "\
 0 0 publish 10 20=Fine
 0 0 publish 15 30=Foreign(2)
@@ -244,27 +218,3 @@ const FOREIGN: &str = "\
 0 0 front=Seen(4, 0, 0, false, false)
 40 0 look 0 9=Seen(4, 4, 4, false, false)
 ";
-
-#[test]
-fn all_are_gone_when_each_is(rt: HostRuntime) -> Result<(), Fail> {
-    workers::all_go(&rt, rt.alloc(), 0)?;
-    workers::all_go(&rt, rt.alloc(), 1)?;
-    workers::all_go(&rt, rt.alloc(), 31)?;
-    Ok(())
-}
-
-#[test]
-fn workers_end_in_any_order(rt: HostRuntime) -> Result<(), Fail> {
-    for seed in 0..10 {
-        workers::end_in_random_order(&rt, rt.alloc(), seed)?;
-    }
-    Ok(())
-}
-
-#[test]
-fn a_plain_program_does_the_same(rt: HostRuntime) -> Result<(), Fail> {
-    for seed in 0..100 {
-        random::compare(&rt, rt.alloc(), seed)?;
-    }
-    Ok(())
-}

@@ -1,7 +1,7 @@
 // The book under calls.
 ghost use Rattle.std.specs.Prelude.{◌≡◌, ◌≤◌, IfOk};
 
-use super::call::{Answer, Call, Desk, What};
+use super::call::{Answer, Call, What};
 use cds_time::{Cds, Rest};
 use cltu_queue::{Cltu, Taken};
 use frame_select::{Filter, Glimpse, Selection, Want};
@@ -28,19 +28,6 @@ pub fn book_of(alloc: Global, workers: u32) -> Result<Book, Memory>
         return Err(Memory);
     };
     Book::new(alloc, &site, Entries::new(alloc), workers)
-}
-
-#[derive(Drop)]
-pub struct BookDesk {
-    alloc: Global,
-    book: Book,
-}
-
-impl BookDesk {
-    pub fn new(alloc: Global) -> Result<BookDesk, Memory> {
-        let book = book_of(alloc, 2)?;
-        Ok(BookDesk { alloc, book })
-    }
 }
 
 // 20000/MILLIS/0.
@@ -191,8 +178,20 @@ fn view(book: &Book) -> Answer {
     Answer::Queue(book.peek(0), view.free, view.production)
 }
 
-impl Desk for BookDesk {
-    fn call(&mut self, call: &Call) -> Result<Answer, Memory> {
+#[derive(Drop)]
+pub struct BookDesk {
+    alloc: Global,
+    book: Book,
+}
+
+impl BookDesk {
+    pub fn new(alloc: Global) -> Result<BookDesk, Memory> {
+        let book = book_of(alloc, 2)?;
+        Ok(BookDesk { alloc, book })
+    }
+
+    /// Makes a call.
+    pub fn call(&mut self, call: &Call) -> Result<Answer, Memory> {
         match call.what {
             What::Publish => publish(self.alloc, &mut self.book, call),
             What::Nowhere | What::Front | What::Look => look(&mut self.book, call),

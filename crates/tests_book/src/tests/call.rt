@@ -1,6 +1,5 @@
 // Calls of a book, and what they are answered.
 use cltu_queue::BookReply;
-use octet_core::Memory;
 
 // What is called.
 #[derive(Clone, Copy, Debug)]
@@ -52,11 +51,6 @@ pub enum Answer {
     Radiates(u64, u32),
     // The latest moment, the free octets and the production status.
     Queue(u128, u32, u8),
-}
-
-// Who answers calls.
-pub trait Desk {
-    fn call(&mut self, call: &Call) -> Result<Answer, Memory>;
 }
 
 fn number(word: Option<&str>) -> u32 {
