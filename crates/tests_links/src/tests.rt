@@ -67,29 +67,6 @@ fn ends_at(
 }
 
 #[test]
-fn a_message_is_heard_octet_by_octet(rt: HostRuntime) -> Result<(), Fail> {
-    let mut script = String::new(rt.alloc());
-    script.push_str("open 1\nask 1 context 30 5\n")?;
-    for at in 0..101usize {
-        script.push_str("in 1 ")?;
-        script.push_str(rows::BIND.get(2 * at..2 * at + 2).unwrap_or(""))?;
-        script.push_str("\n")?;
-    }
-    says(&rt, rt.alloc(), script.as_str(), rows::BOUND)?;
-    Ok(())
-}
-
-#[test]
-fn a_message_that_is_cut_ends_with_the_close(rt: HostRuntime) -> Result<(), Fail> {
-    for octets in 1..101usize {
-        let cut = rows::BIND.get(..2 * octets).unwrap_or("");
-        let script = format!(in rt.alloc(); "open 1\nask 1 context 30 5\nin 1 {cut}\nshut 1\n")?;
-        says(&rt, rt.alloc(), script.as_str(), "ended 1 closed\n")?;
-    }
-    Ok(())
-}
-
-#[test]
 fn scripts_say_what_they_say(rt: HostRuntime) -> Result<(), Fail> {
     for (script, said) in rows::ROWS {
         says(&rt, rt.alloc(), script, said)?;

@@ -1,9 +1,7 @@
-// Tests of the queue of CLTUs: scripts of its calls with their answers, and random calls against a
-// plain program. They stand above `cltu_queue`, and are proved once.
+// Tests of the queue of CLTUs: scripts of its calls with their answers. They stand above
+// `cltu_queue`, and are proved once.
 #![tactic(auto)]
 
-#[cfg(test)]
-mod plain;
 #[cfg(test)]
 mod rows;
 #[cfg(test)]

@@ -1,17 +1,41 @@
 // The forward machine by scripts of its calls. What is expected was written by hand from the rules.
-use crate::plain;
 use crate::script::check;
 use cltu_queue::Queue;
-use std::alloc::{AllocError, Global};
 use std::marker::Send;
 use std::test::Fail;
+
+// How many octets a queue has room for, and rows.
+const SCRIPTS: [(u32, &str); 12] = [
+    (1_000, NEW),
+    (1_000, EXPIRED),
+    (1_000, LAST),
+    (1_000, HALTED),
+    (1_000, IN_AIR),
+    (50, DIAGNOSTICS),
+    (1_000, WINDOW),
+    (1_000, RESTS),
+    (1_000, REPLACED),
+    (1_000, APPENDED),
+    (1_000, OTHER_RUN),
+    (200, FULL),
+];
+
+#[test]
+fn scripts_answer_so(rt: HostRuntime) -> Result<(), Fail> {
+    for (room, rows) in SCRIPTS {
+        check(&rt, rt.alloc(), room, rows)?;
+    }
+    Ok(())
+}
 
 fn goes_to_a_thread<T: Send>(_: &T) {}
 
 #[test]
-fn a_new_queue_is_empty_and_may_go_to_a_thread(rt: HostRuntime) -> Result<(), Fail> {
-    goes_to_a_thread(&Queue::new(rt.alloc(), 1_000, 100)?);
-    check(&rt, rt.alloc(), 1_000, NEW)
+fn a_queue_may_go_to_a_thread(rt: HostRuntime) -> Result<(), Fail> {
+    let queue = Queue::new(rt.alloc(), 1_000, 100)?;
+    goes_to_a_thread(&queue);
+    assert_eq!(rt; queue.view().free, 1_000);
+    Ok(())
 }
 
 const NEW: &str = "
@@ -21,11 +45,6 @@ take 0 = idle;
 notice = None;";
 
 // CLTUs 7, 8 and 9, of which 8 has expired when 7 was radiated.
-#[test]
-fn a_cltu_expires_and_the_run_is_blocked(rt: HostRuntime) -> Result<(), Fail> {
-    check(&rt, rt.alloc(), 1_000, EXPIRED)
-}
-
 const EXPIRED: &str = "
 start 7 = ok;
 send 7 none micros/10 0 quiet 3 0 = next 8 free 997;
@@ -41,11 +60,6 @@ send 10 none none 0 quiet 3 10000000 = refused 0 next 10 free 1000;
 take 10000000 = idle;";
 
 // The last identification, and a CLTU of a stopped run whose end comes in the next run.
-#[test]
-fn behind_the_last_identification_there_is_none(rt: HostRuntime) -> Result<(), Fail> {
-    check(&rt, rt.alloc(), 1_000, LAST)
-}
-
 const LAST: &str = "
 start 4294967295 = ok;
 send 4294967295 none none 0 quiet 3 0 = next 4294967295 free 997;
@@ -61,11 +75,6 @@ notice = None;
 take 0 = radiate 2 5 3;";
 
 // Production halted in a run, and its diagnostics of TRANSFER-DATA and START.
-#[test]
-fn halted_production_blocks_the_run_and_refuses_the_next(rt: HostRuntime) -> Result<(), Fail> {
-    check(&rt, rt.alloc(), 1_000, HALTED)
-}
-
 const HALTED: &str = "
 start 1 = ok;
 uplink 3 0;
@@ -80,11 +89,6 @@ start 1 = ok;
 notice = None;";
 
 // A CLTU in the air counts as processed and not as radiated, and its octets are free again.
-#[test]
-fn a_view_has_what_is_in_the_air(rt: HostRuntime) -> Result<(), Fail> {
-    check(&rt, rt.alloc(), 1_000, IN_AIR)
-}
-
 const IN_AIR: &str = "
 start 7 = ok;
 send 7 none none 0 quiet 3 0 = next 8 free 997;
@@ -94,11 +98,6 @@ view = UplinkView { processed: Some { id: 7,
     production: 0, status: 3, received: 1, taken: 1, radiated: 0, free: 1000 };";
 
 // Each CLTU breaks the rule of its line and of all later ones, where one CLTU can.
-#[test]
-fn the_first_diagnostic_is_answered(rt: HostRuntime) -> Result<(), Fail> {
-    check(&rt, rt.alloc(), 50, DIAGNOSTICS)
-}
-
 const DIAGNOSTICS: &str = "
 start 1 = ok;
 send 2 millis/86400000 micros/8 600000001 told 101 9000000 = refused 2 next 1 free 50;
@@ -113,11 +112,6 @@ uplink 2 3;
 send 2 millis/86400000 micros/8 600000001 told 101 9000000 = refused 0 next 1 free 50;";
 
 // A window is closed at both ends, to the picosecond.
-#[test]
-fn a_window_has_both_its_ends(rt: HostRuntime) -> Result<(), Fail> {
-    check(&rt, rt.alloc(), 1_000, WINDOW)
-}
-
 const WINDOW: &str = "
 start 0 = ok;
 send 0 picos/500 picos/500 0 quiet 1 501 = refused 5 next 0 free 1000;
@@ -129,11 +123,6 @@ send 1 none picos/700 0 quiet 1 500 = next 2 free 999;
 take 701 = expired 1;";
 
 // The uplink rests from the end of a radiation on, over STOP and START too.
-#[test]
-fn the_uplink_rests_over_stop_and_start(rt: HostRuntime) -> Result<(), Fail> {
-    check(&rt, rt.alloc(), 1_000, RESTS)
-}
-
 const RESTS: &str = "
 start 0 = ok;
 send 0 none none 100 quiet 1 0 = next 1 free 999;
@@ -147,12 +136,6 @@ take 107000000 = radiate 2 9 1;";
 
 // A notice of production replaces a last one of production, and no other; that of a failed
 // radiation is appended.
-#[test]
-fn notices_of_production_replace_each_other(rt: HostRuntime) -> Result<(), Fail> {
-    check(&rt, rt.alloc(), 1_000, REPLACED)?;
-    check(&rt, rt.alloc(), 1_000, APPENDED)
-}
-
 const REPLACED: &str = "
 start 0 = ok;
 send 0 none none 0 told 1 0 = next 1 free 999;
@@ -182,11 +165,6 @@ start 0 = refused 1;";
 
 // The end of a CLTU that isn't in the air changes nothing, and one of a run that isn't started
 // only clears the air.
-#[test]
-fn an_end_of_another_run_only_clears_the_air(rt: HostRuntime) -> Result<(), Fail> {
-    check(&rt, rt.alloc(), 1_000, OTHER_RUN)
-}
-
 const OTHER_RUN: &str = "
 start 0 = ok;
 send 0 none none 0 quiet 1 0 = next 1 free 999;
@@ -207,11 +185,6 @@ broken 2 1;
 kinds = 2;";
 
 // A queue takes as many octets as it has room for, and not one more.
-#[test]
-fn a_full_queue_takes_no_octet_more(rt: HostRuntime) -> Result<(), Fail> {
-    check(&rt, rt.alloc(), 200, FULL)
-}
-
 const FULL: &str = "
 start 0 = ok;
 send 0 none none 0 quiet 100 0 = next 1 free 100;
@@ -219,52 +192,3 @@ send 1 none none 0 quiet 100 0 = next 2 free 0;
 send 2 none none 0 quiet 1 0 = refused 1 next 2 free 0;
 take 0 = radiate 1 0 100;
 send 2 none none 0 quiet 1 0 = next 3 free 99;";
-
-// Five hundred CLTUs one by one, each of which makes two notices.
-fn thousand_notices(alloc: Global) -> Result<String, AllocError> {
-    let mut rows = String::from_str(alloc, "start 0 = ok;")?;
-    for id in 0..500u32 {
-        let next = id + 1;
-        rows.push_str(&format!(in alloc;
-            "send {id} none none 0 told 1 0 = next {next} free 999;"
-        )?)?;
-        rows.push_str(&format!(in alloc; "take 0 = radiate 1 {id} 1; done 1 {id} 0;")?)?;
-    }
-    rows.push_str(THOUSAND)?;
-    for _ in 0..500 {
-        rows.push_str("5 0 ")?;
-    }
-    rows.push_str("5 2;")?;
-    Ok(rows)
-}
-
-const THOUSAND: &str = "
-send 500 none none 0 told 1 0 = next 501 free 999;
-take 0 = idle;
-notice = Some(Notice { kind: 0, processed: Some { id: 0,
-    start: Some(Cds { days: 20000, millis: 0, rest: Micros(0) }), status: 0 },
-    ok: Some { id: 0, stop: Cds { days: 20000, millis: 0, rest: Micros(0) } }, production: 0,
-    status: 3 });
-take 0 = radiate 1 500 1;
-done 1 500 0;
-uplink 2 0;
-kinds = ";
-
-// With 1,000 notices nothing radiates, and none of them is lost.
-#[test]
-fn a_thousand_notices_hold_up_the_uplink(rt: HostRuntime) -> Result<(), Fail> {
-    let rows = thousand_notices(rt.alloc())?;
-    check(&rt, rt.alloc(), 1_000, &rows)
-}
-
-// A plain program that goes by the rules' own words does what the queue does, over 3,000 events
-// of twenty lists in which each kind of notice is made.
-#[test]
-fn a_plain_program_does_the_same(rt: HostRuntime) -> Result<(), Fail> {
-    let mut made = [false; 6];
-    for seed in 0..20 {
-        plain::compare(&rt, rt.alloc(), seed, &mut made)?;
-    }
-    assert_eq!(rt; made, [true; 6]);
-    Ok(())
-}

@@ -10,9 +10,9 @@ use std::process::Abort;
 use std::str::SplitWhitespace;
 use std::test::Fail;
 
-/// 20000/0/0 as a moment: 1,728,000,000 seconds, in picoseconds. Moments of scripts are picoseconds
-/// since then.
-pub const DAY: u128 = 1_728_000_000_000_000_000_000;
+// 20000/0/0 as a moment: 1,728,000,000 seconds, in picoseconds. Moments of scripts are picoseconds
+// since then.
+const DAY: u128 = 1_728_000_000_000_000_000_000;
 
 const OCTETS: [u8; 101] = [0x55; 101];
 
@@ -90,8 +90,8 @@ fn told_taken(alloc: Global, answer: Taken) -> Result<String, AllocError> {
 // The kinds of all notices that wait, in order.
 fn kinds(alloc: Global, queue: &mut Queue) -> Result<String, AllocError> {
     let mut text = String::new(alloc);
-    // No more than these wait.
-    for _ in 0..1_002 {
+    // No more than these wait in any script.
+    for _ in 0..10 {
         if let Some(notice) = queue.notice() {
             text.push_str(format!(in alloc; "{} ", notice.kind)?.as_str())?;
         }

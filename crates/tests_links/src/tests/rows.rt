@@ -1,15 +1,17 @@
 // Scripts of connections' lines, and what they say.
 
-// A BIND of MOC to onlc1, version 5, in hexadecimal digits.
-pub const BIND: &str =
-    "010000000000005dbf645a80001a034d4f431a05504f5254310201000201053044310e300c06072b7004030102341a\
-    0131310e300c06072b7004030102351a0150310e300c06072b7004030102261a01313112301006072b700403010216\
-    1a056f6e6c6331";
-
-// It is bound.
-pub const BOUND: &str = "sent 1 0100000000000011bf650e80001a0753544154494f4e800105\n";
-
-pub const ROWS: [(&str, &str); 21] = [
+pub const ROWS: [(&str, &str); 22] = [
+    // A BIND of MOC to onlc1, version 5, in two pieces.
+    (
+        "\
+         open 1\n\
+         ask 1 context 30 5\n\
+         in 1 010000000000005dbf645a80001a034d4f431a05504f525431020100020105304431\n\
+         in 1 0e300c06072b7004030102341a0131310e300c06072b7004030102351a0150310e300c06072b700403\
+         0102261a01313112301006072b7004030102161a056f6e6c6331\n\
+         ",
+        "sent 1 0100000000000011bf650e80001a0753544154494f4e800105\n",
+    ),
     // A BIND by its words is the vector's: it is bound, and unbinds.
     (
         "\
