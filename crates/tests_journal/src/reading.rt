@@ -93,11 +93,11 @@ fn files_are_recovered_so(rt: HostRuntime) -> Result<(), Fail> {
 // How many entries a reading lends.
 fn count(batches: &Batches) -> usize {
     let mut batch = batches.batch();
-    let mut count = 0;
+    let mut count = 0usize;
     // (a batch has 256 entries at most)
     for _ in 0..256 {
         if batch.next().is_some() {
-            count += 1;
+            count = count.saturating_add(1);
         }
     }
     count
