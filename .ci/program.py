@@ -9,13 +9,17 @@ passed.
 import fcntl
 import os
 import resource
+import signal
+import socket
 import subprocess
 import sys
 import tempfile
 
 sys.dont_write_bytecode = True
 import associations
+import launching
 import rehearsals
+import starts
 
 PROGRAM, LAUNCHER = sys.argv[1:3]
 MOST_OCTETS = 16_777_216
@@ -60,18 +64,20 @@ def told(words, script, output):
 
 # ---- words: `drill` alone, `init` and `list` with a path, `rehearse` with a number
 
+OUTSIDE = [
+    [], [b""], [b"drill", b""], [b"", b"drill"], [b"drill", b"drill"], [b"drill", b"x"],
+    [b"drills"], [b"dril"], [b"Drill"], [b"DRILL"], [b" drill"], [b"drill "], [b"drill\n"],
+    [b"-drill"], [b"--", b"drill"], [b"help"], [b"--help"], [b"-h"], [b"run"],
+    [b"init"], [b"list"], [b"init", b"x", b"y"], [b"list", b"x", b""], [b"x", b"init"],
+    [b"Init", b"x"], [b"inits", b"x"], [b"list ", b"x"], [b"-list", b"x"], [b"list\n", b"x"],
+    # words that aren't UTF-8
+    [b"\xff"], [b"drill\xff"], [b"drill", b"\xff"], [b"\xff", b"drill"], [b"\xc3\x28"],
+]
+
+
 def words():
     check("drill, an empty script", run([b"drill"]), (0, b"", b""))
-    outside = [
-        [], [b""], [b"drill", b""], [b"", b"drill"], [b"drill", b"drill"], [b"drill", b"x"],
-        [b"drills"], [b"dril"], [b"Drill"], [b"DRILL"], [b" drill"], [b"drill "], [b"drill\n"],
-        [b"-drill"], [b"--", b"drill"], [b"help"], [b"--help"], [b"-h"], [b"run"],
-        [b"init"], [b"list"], [b"init", b"x", b"y"], [b"list", b"x", b""], [b"x", b"init"],
-        [b"Init", b"x"], [b"inits", b"x"], [b"list ", b"x"], [b"-list", b"x"], [b"list\n", b"x"],
-        # words that aren't UTF-8
-        [b"\xff"], [b"drill\xff"], [b"drill", b"\xff"], [b"\xff", b"drill"], [b"\xc3\x28"],
-    ]
-    for line in outside:
+    for line in OUTSIDE:
         with tempfile.TemporaryFile() as script:
             script.write(FRAMES + SEAL + START)
             script.seek(0)
@@ -125,6 +131,25 @@ def statuses():
         ("bad line, behind a head", b"site\nend\nend\n", 3, b"bad line 3\n"),
         ("bad line, an event that isn't built", b"take\n", 3, b"bad line 1\n"),
         ("bad line 5, after a START", FRAMES + START + b"fly\n" + FRAMES, 3, TWO + b"bad line 5\n"),
+        ("bad line 4, behind what is refused",
+         FRAMES[33:66] + FRAMES[:33] + b"start 20000/2/0 20000/1/0 0\nfly\n", 3,
+         b"backward\nrefused 3\nbad line 4\n"),
+        ("bad line 7, behind lines that say nothing",
+         b"# a pass\n\nloss 20000/0/0 0 1 2\nproduction 2\nclock 20000/0/7p\nmark 0/0/0\nsite\n",
+         3, b"bad line 7\n"),
+        ("bad line 8, behind a head with a comment",
+         b"site\n# the least\ncapacity 64\n\nend\n" + FRAMES[:66] + b"fly\n", 3,
+         b"full 31 24\nbad line 8\n"),
+        ("bad site, a further word", b"site\ncapacity 64 64\nend", 4, b"bad site 2 2\n"),
+        ("bad line, a head that isn't ended nor its last line", b"site\ncapacity 64", 3,
+         b"bad line 3\n"),
+        ("done, a continuity over a frame of another quality",
+         FRAMES[:33] + b"frame 20000/2000/0 1 41 3 0010a2\nframe 20000/3000/0 0 41 4 0010a3\n"
+         + SEAL + START, 0, TWO[:88] + b"a01c800080084e2000000bb8000081014102010702010080000403"
+         b"0010a3\n" + END),
+        ("done, timers anew behind a power failure",
+         b"open 1\nask 1 context 30 5\nstall 1 9\ncrash 0 old\nopen 1\nask 1 context 5 5\n"
+         b"clock 0/5000/0\nround 1 1\n", 0, b"crash\narchive 0\nsent 1 0300000000000000\n"),
         ("bad line, a carriage return", FRAMES[:32] + b"\r\n", 3, b"bad line 1\n"),
         ("bad line, octets that aren't UTF-8", b"\xff\xfe\n", 3, b"bad line 1\n"),
     ]
@@ -156,6 +181,7 @@ def faults():
         for name, words, script, status in [
             ("write fault", [b"drill"], FRAMES + SEAL + START, 7),
             ("write fault of a bad line", [b"drill"], b"fly\n", 7),
+            ("write fault of a bad site", [b"drill"], b"site\nfly\nend\n", 7),
             ("write fault of usage", [], b"", 7),
             ("write fault of a rehearsal", [b"rehearse", b"7"], b"", 7),
             ("nothing to write", [b"drill"], FRAMES, 0),
@@ -167,6 +193,16 @@ def faults():
         check("a long input that can't be told",
               told([b"drill"], b"x" * (MOST_OCTETS + 1), full), (11, b""))
     os.close(folder)
+    check("read fault behind a good read", run([b"drill"], stdin=failing_input()),
+          (6, b"read fault\n", b""))
+    for script, whole, left in [(FRAMES + SEAL + START, TWO + ONE + END, [0, 1, 100, 148, 275]),
+                                (b"fly\n", b"bad line 1\n", [0, 4, 10])]:
+        for most in left:
+            check(f"an output of {most} octets", cut_short([b"drill"], most, input=script),
+                  (7, whole[:most]))
+    for most in [0, 5]:
+        check(f"read fault, an output of {most} octets",
+              cut_short([b"drill"], most, stdin=failing_input()), (6, b"read fault\n"[:most]))
     # a reader of the output that is gone
     read, write = os.pipe()
     os.close(read)
@@ -175,6 +211,28 @@ def faults():
     # no room for a script
     limit = lambda: resource.setrlimit(resource.RLIMIT_AS, (16 << 20, 16 << 20))
     check("want of memory", run([b"drill"], FRAMES, preexec_fn=limit), (70, b"", b""))
+
+
+def failing_input():
+    """An input that gives a script once, and then fails: its peer left octets unread."""
+    ours, theirs = socket.socketpair()
+    ours.send(b"unread")
+    theirs.send(FRAMES + SEAL + START)
+    theirs.close()
+    return ours
+
+
+def cut_short(words, most, **more):
+    """The exit code of a run whose output fails behind so many octets, and that output."""
+    def limit():
+        signal.signal(signal.SIGXFSZ, signal.SIG_IGN)
+        resource.setrlimit(resource.RLIMIT_FSIZE, (most, most))
+
+    with tempfile.TemporaryFile() as output:
+        done = subprocess.run([PROGRAM, *words], stdout=output, stderr=subprocess.DEVNULL,
+                              preexec_fn=limit, timeout=60, **more)
+        output.seek(0)
+        return done.returncode, output.read()
 
 
 # ---- archive files
@@ -264,6 +322,26 @@ def files():
               (0, FIRST + END, b""))
 
 
+def large_files():
+    """Batches that are longer than what is read at once."""
+    head = bytes.fromhex("01 00 4e20 00000000 0000 00 01 41 00000000 00010000")
+    entries = 9 * (head + b"\x55" * 65_536)
+    batch = b"\xa5" + len(entries).to_bytes(4, "big") + b"\0\x09" + entries
+    line = b"frame 20000/0/0 0 41 0 " + b"55" * 65_536 + b"\n"
+    with tempfile.TemporaryDirectory() as folder:
+        path = os.path.join(folder, "archive")
+        for octets, status, output in [
+            (HEADER + 2 * batch + b"\0", 0, 18 * line),
+            # the kind of the second batch's first entry
+            (HEADER + batch + batch[:7] + b"\xfe" + batch[8:] + b"\0", 5,
+             b"archive refused 590035\n"),
+        ]:
+            with open(path, "wb") as file:
+                file.write(octets)
+            check(f"list of {len(octets)} octets", run([b"list", path.encode()]),
+                  (status, output, b""))
+
+
 # ---- examples with their transcripts
 
 def examples():
@@ -278,24 +356,16 @@ def examples():
             check(f"example {name}", run([b"drill"], script.read()), (status, output, b""))
 
 
-# ---- the launcher
-
-def launcher():
-    for word in ["-h", "--help", "help"]:
-        done = subprocess.run([LAUNCHER, word], stdin=subprocess.DEVNULL, capture_output=True,
-                              timeout=60)
-        says = done.stdout.startswith(b"usage: bin/provider ")
-        check(f"launcher {word}", (done.returncode, says, done.stderr), (0, True, b""))
-
-
 words()
 rehearsals.drive(run, check)
 associations.drive(run, check)
+starts.drive(run, check)
 statuses()
 lengths()
 faults()
 files()
+large_files()
 examples()
-launcher()
+launching.drive(LAUNCHER, run, check, OUTSIDE + rehearsals.OUTSIDE)
 print(f"{passed} passed, {failed} failed")
 sys.exit(failed > 0)
