@@ -145,8 +145,9 @@ def statuses():
          b"bad line 3\n"),
         ("done, a continuity over a frame of another quality",
          FRAMES[:33] + b"frame 20000/2000/0 1 41 3 0010a2\nframe 20000/3000/0 0 41 4 0010a3\n"
-         + SEAL + START, 0, TWO[:88] + b"a01c800080084e2000000bb8000081014102010702010080000403"
-         b"0010a3\n" + END),
+         + SEAL + START, 0,
+         b"sent 0 010000000000003ea83ca01c800080084e20000003e800008101410201ff02010080000403"
+         b"0010a1a01c800080084e2000000bb80000810141020107020100800004030010a3\n" + END),
         ("done, timers anew behind a power failure",
          b"open 1\nask 1 context 30 5\nstall 1 9\ncrash 0 old\nopen 1\nask 1 context 5 5\n"
          b"clock 0/5000/0\nround 1 1\n", 0, b"crash\narchive 0\nsent 1 0300000000000000\n"),
