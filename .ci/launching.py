@@ -55,8 +55,9 @@ class Copy:
     temporary files."""
 
     def __init__(self, folder):
-        self.top, self.notes = Path(folder, "top"), Path(folder, "notes")
-        self.tools, self.scratch = Path(folder, "tools"), Path(folder, "scratch")
+        folder = Path(folder).resolve()
+        self.top, self.notes = folder / "top", folder / "notes"
+        self.tools, self.scratch = folder / "tools", folder / "scratch"
         for each in self.top, self.notes, self.tools, self.scratch:
             each.mkdir()
         for name in "bin", "crates", "examples":
