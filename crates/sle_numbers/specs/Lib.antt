@@ -1,0 +1,14 @@
+pub mod Numbered
+pub mod BindDiagnostic
+pub mod CommonDiagnostic
+pub mod FrameQuality
+pub mod GetParameterDiagnostic
+pub mod LockStatus
+pub mod PeerAbortDiagnostic
+pub mod RequestedFrameQuality
+pub mod ReturnDeliveryMode
+pub mod ReturnProductionStatus
+pub mod ReturnStartDiagnostic
+pub mod ScheduleDiagnostic
+pub mod ServiceType
+pub mod UnbindReason
