@@ -129,7 +129,8 @@ impl Course {
             self.told.push_str(step_word(step))?;
             self.told.push_str(behind)?;
         } else if word == "state" {
-            self.told.push_str(self.state(alloc)?.as_str())?;
+            let state = self.state(alloc)?;
+            self.told.push_str(state.as_str())?;
         } else {
             return Err(Fail::from("an unknown word"));
         }
