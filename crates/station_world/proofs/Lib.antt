@@ -1,0 +1,10 @@
+pub mod Lists
+pub mod Results
+pub mod Files
+pub mod Lives
+pub mod Worlds
+pub mod Headlines
+pub mod Staying
+pub mod Calls
+pub mod Archives
+pub mod Longer

@@ -1,0 +1,9 @@
+pub mod File
+pub mod Life
+pub mod World
+pub mod Comes
+pub mod Headline
+pub mod Stays
+pub mod Laws
+pub mod Calls
+pub mod Archives
