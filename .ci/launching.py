@@ -282,6 +282,7 @@ def changed(file, text, keeps_time=False):
     """A file with another text at its end for a while, maybe with the time it had."""
     before = file.read_bytes() if file.exists() else None
     time_before = file.stat().st_mtime_ns if before is not None else 0
+    file.parent.mkdir(exist_ok=True)
     file.write_bytes((before or b"") + text)
     if keeps_time:
         os.utime(file, ns=(time_before, time_before))
