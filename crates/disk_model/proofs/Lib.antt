@@ -3,3 +3,4 @@ pub mod Replay
 pub mod Calls
 pub mod Runs
 pub mod Writes
+mod Piecewise

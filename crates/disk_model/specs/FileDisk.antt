@@ -1,28 +1,47 @@
 -- A disk over a file: all that it tells.
-use Rattle.std.specs.Prelude.{ℕ, ◌+◌, ◌≡◌, max, Bool, true, false, length}
+use Rattle.std.specs.Prelude.{ℕ, ◌+◌, ◌≡◌, max, Bool, true, false, length, Option, None, Some}
+use Rattle.std.specs.Prelude.{IfSome, refl}
 use Rattle.octet_core.specs.Fault.{count_up}
+use Rattle.disk_model.specs.Images.{Pending}
 use Rattle.disk_model.specs.declared.call.Call.{Call}
 use Rattle.disk_model.specs.declared.call.Call.TheVariants.{Write, Cut, Sync}
 
--- how many octets it holds as far as it knows, its faults, and whether a sync of it has failed
-pub record FileState : Type 0 where
+-- the file, how many octets it holds as far as the disk knows, the disk's faults, and whether a
+-- sync of it has failed
+pub record FileState (F : Type 0) : Type 0 where
+  pub file : F
   pub size : ℕ
   pub faults : ℕ
   pub sync_failed : Bool
 
--- the file with one fault more
-abbrev pub with_fault : FileState → FileState
-with_fault file = record file { faults = count_up file.faults }
+-- how many octets the disk holds: a file that tells says it
+abbrev pub extent_of : Option Pending → ℕ → ℕ
+extent_of None size = size
+extent_of (Some told) size = length told.content
 
--- What a call leaves that succeeded. No sync succeeds after one that failed.
-abbrev pub IsMadeCall : FileState → Call → FileState → Type 0
-IsMadeCall old (Write place octets) new = new
-    ≡ record old { size = max old.size (place + length octets) }
-IsMadeCall old (Cut size) new = new ≡ record old { size = size }
-IsMadeCall old Sync new = (old.sync_failed ≡ false) × (new ≡ old)
+module _ {F : Type 0} where
+  -- the disk with one fault more
+  abbrev pub with_fault : FileState F → FileState F
+  with_fault disk = record disk { faults = count_up disk.faults }
 
--- what a call leaves that failed: a failed sync is kept
-abbrev pub IsFailedCall : FileState → Call → FileState → Type 0
-IsFailedCall old (Write place octets) new = new ≡ with_fault old
-IsFailedCall old (Cut size) new = new ≡ with_fault old
-IsFailedCall old Sync new = new ≡ record (with_fault old) { sync_failed = true }
+  -- What a call leaves that succeeded. No sync succeeds after one that failed.
+  abbrev pub IsMadeCall : FileState F → Call → FileState F → Type 0
+  IsMadeCall old (Write place octets) new = new
+      ≡ record old { file = new.file; size = max old.size (place + length octets) }
+  IsMadeCall old (Cut size) new = new ≡ record old { file = new.file; size = size }
+  IsMadeCall old Sync new = (old.sync_failed ≡ false) × (new ≡ record old { file = new.file })
+
+  -- What a call leaves that failed: a failed sync is kept, and a failed write may have grown the
+  -- size.
+  abbrev pub IsFailedCall : FileState F → Call → FileState F → Type 0
+  IsFailedCall old (Write place octets) new = new
+      ≡ record (with_fault old) { file = new.file; size = new.size }
+  IsFailedCall old (Cut size) new = new ≡ record (with_fault old) { file = new.file }
+  IsFailedCall old Sync new = new
+      ≡ record (with_fault old) { file = new.file; sync_failed = true }
+
+-- where the file tells, the disk's size is the length of what a read gives
+pub size_read : (pending : Option Pending) (size : ℕ)
+    → IfSome pending (λ told. extent_of pending size ≡ length told.content)
+size_read None size = tt
+size_read (Some told) size = refl

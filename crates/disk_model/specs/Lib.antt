@@ -5,5 +5,6 @@ pub mod Telling
 pub mod Calls
 pub mod MemoryDisk
 pub mod MemoryDiskLaws
+pub mod RawFile
 pub mod FileDisk
 pub mod Facts

@@ -1,74 +1,83 @@
 // A disk over a file.
-ghost use Rattle.std.specs.Prelude.{◌≡◌, false, IfOk};
+ghost use Rattle.std.specs.Prelude.{◌≡◌, true, false, IfOk};
+ghost use Rattle.disk_model.specs.RawFile.{HasFile};
 
-use crate::Disk;
+use crate::pieces::{read_whole, write_whole};
+use crate::{Disk, RawFile, SystemFile};
 use octet_core::{Failed, Faults};
-use std::fs::{File, OpenFile, OpenOptions};
 use std::io;
 use std::marker::Model;
-use std::os::unix::fs::FileExt;
-use std::path::Path;
 
-/// A disk over a file, which no other `FileDisk` has meanwhile. It tells none of its octets.
+/// A disk over a file, which no other has meanwhile. It tells its octets where the file tells them.
 ///
-/// It is an adapter: what the file holds, and what a crash leaves of it, is claimed nowhere. Each
-/// call costs one call of the system, or more where that one moves only a part of the octets.
+/// Each call costs one call of the file, or more where that one moves only a part of the octets or
+/// is interrupted. An error of the file is a fault, whatever its kind.
 #[derive(Drop)]
-pub struct FileDisk {
-    file: File,
+pub struct DiskOver<F: RawFile> {
+    file: F,
     size: u64,
     faults: Faults,
     sync_failed: bool,
 }
 
-impl Model for FileDisk {
-    ghost use Rattle.disk_model.specs.FileDisk.{FileState};
+/// A disk over a file of the system. It tells none of its octets.
+pub type FileDisk = DiskOver<SystemFile>;
 
-    ghost Value = { FileState };
+impl<F: RawFile> Model for DiskOver<F> {
+    ghost use Rattle.disk_model.specs.FileDisk.{FileState};
+    ghost use Rattle.disk_model.specs.RawFile.{IsSizeOf};
+
+    ghost Value = { FileState F };
 
     ghost view = { λ disk. record {
+      file = disk.file;
       size = disk.size;
       faults = disk.faults;
       sync_failed = disk.sync_failed;
     } };
+
+    ghost invariant = { λ disk. IsSizeOf (F.pending disk.file) disk.size };
 }
 
-impl FileDisk {
+impl<F: RawFile> DiskOver<F> {
     /// A disk over the file at this path, which is made where there is none, and whose octets are
     /// kept where there is one. The file's name is on its folder's disk then. It is an error of the
-    /// kind `WouldBlock` where another `FileDisk`, here or in another process, has the file.
-    pub fn create(files: &HostRuntime, path: &str) -> io::Result<FileDisk>
+    /// kind `WouldBlock` where another disk, here or in another process, has the file, and one of
+    /// the kind `OutOfMemory` where memory is wanted.
+    pub fn create(files: &HostRuntime, path: &str) -> io::Result<DiskOver<F>>
         ensures faults { IfOk result (λ disk. disk.faults ≡ 0) }
         ensures syncs { IfOk result (λ disk. disk.sync_failed ≡ false) }
+        ensures file { IfOk result (λ disk. HasFile path.now true (F.asked disk.file)
+            (F.pending disk.file)) }
     {
-        let file = OpenOptions::new()
-            .read(true)
-            .write(true)
-            .create(true)
-            .open(files, path)?;
-        let disk = FileDisk::lock(file)?;
-        File::open(files, folder_of(path))?.sync_all()?;
-        Ok(disk)
+        let mut file = F::make(files, path)?;
+        file.lock()?;
+        file.sync_name(files)?;
+        DiskOver::over(file)
     }
 
     /// A disk over the file at this path. It is an error where there is none, and one of the kind
-    /// `WouldBlock` where another `FileDisk`, here or in another process, has the file.
-    pub fn open(files: &HostRuntime, path: &str) -> io::Result<FileDisk>
+    /// `WouldBlock` where another disk, here or in another process, has the file, and one of the
+    /// kind `OutOfMemory` where memory is wanted.
+    pub fn open(files: &HostRuntime, path: &str) -> io::Result<DiskOver<F>>
         ensures faults { IfOk result (λ disk. disk.faults ≡ 0) }
         ensures syncs { IfOk result (λ disk. disk.sync_failed ≡ false) }
+        ensures file { IfOk result (λ disk. HasFile path.now false (F.asked disk.file)
+            (F.pending disk.file)) }
     {
-        let file = OpenOptions::new().read(true).write(true).open(files, path)?;
-        FileDisk::lock(file)
+        let mut file = F::open(files, path)?;
+        file.lock()?;
+        DiskOver::over(file)
     }
 
-    // Locks a file that is open for reading and writing. The lock goes with the file.
-    fn lock(file: File) -> io::Result<FileDisk>
+    // A disk over a file that it has, with no fault yet.
+    fn over(file: F) -> io::Result<DiskOver<F>>
         ensures faults { IfOk result (λ disk. disk.faults ≡ 0) }
         ensures syncs { IfOk result (λ disk. disk.sync_failed ≡ false) }
+        ensures file { IfOk result (λ disk. disk.file ≡ file) }
     {
-        file.try_lock()?;
-        let size = file.metadata()?.len();
-        Ok(FileDisk {
+        let size = file.length()?;
+        Ok(DiskOver {
             file,
             size,
             faults: Faults::new(),
@@ -84,25 +93,17 @@ impl FileDisk {
     }
 }
 
-// The folder that a path's last name stands in.
-fn folder_of(path: &str) -> &str {
-    match Path::new(path).parent() {
-        Some(folder) if folder.as_str() != "" => folder.as_str(),
-        _ => ".",
-    }
-}
+impl<F: RawFile + Send> Disk for DiskOver<F> {
+    ghost use Rattle.disk_model.specs.FileDisk.{IsMadeCall, IsFailedCall, with_fault, extent_of};
+    ghost use Rattle.disk_model.specs.FileDisk.{size_read};
 
-impl Disk for FileDisk {
-    ghost use Rattle.std.specs.Prelude.{None};
-    ghost use Rattle.disk_model.specs.FileDisk.{IsMadeCall, IsFailedCall, with_fault};
+    ghost pending = { λ disk. F.pending disk.file };
 
-    ghost pending = { λ _. None };
+    ghost extent = { λ disk. extent_of (F.pending disk.file) disk.size };
 
-    ghost extent = { λ disk. disk.size };
+    ghost moment = { λ disk. F.moment disk.file };
 
-    ghost moment = { λ _. 0 };
-
-    ghost images_since = { λ _ _ _. ⊥ };
+    ghost images_since = { λ disk. F.images_since disk.file };
 
     ghost faults = { λ disk. disk.faults };
 
@@ -119,7 +120,7 @@ impl Disk for FileDisk {
 
     /// Reads until all octets are there. A file that ends before them is at fault.
     fn read_at(&mut self, place: u64, into: &mut [u8]) -> Result<(), Failed> {
-        match self.file.read_exact_at(into, place) {
+        match read_whole(&self.file, place, into) {
             Ok(()) => Ok(()),
             Err(_) => self.faults.fail(),
         }
@@ -127,20 +128,17 @@ impl Disk for FileDisk {
 
     /// Writes until all octets are taken. A file that takes none of a piece is at fault.
     fn write_at(&mut self, place: u64, octets: &[u8]) -> Result<(), Failed> {
-        let Some(end) = place.checked_add(octets.len() as u64) else {
+        if place.checked_add(octets.len() as u64).is_none() {
             return self.faults.fail();
-        };
-        match self.file.write_all_at(octets, place) {
-            Ok(()) => {
-                self.size = self.size.max(end);
-                Ok(())
-            }
+        }
+        match write_whole(&mut self.file, &mut self.size, place, octets) {
+            Ok(()) => Ok(()),
             Err(_) => self.faults.fail(),
         }
     }
 
     fn cut(&mut self, size: u64) -> Result<(), Failed> {
-        match self.file.set_len(size) {
+        match self.file.cut(size) {
             Ok(()) => {
                 self.size = size;
                 Ok(())
@@ -152,18 +150,19 @@ impl Disk for FileDisk {
     /// Syncs the octets and the length. After a sync that failed each later one fails, since the
     /// system may have dropped what it couldn't write, and tells that once.
     fn sync(&mut self) -> Result<(), Failed> {
-        if !self.sync_failed && self.file.sync_all().is_ok() {
+        if !self.sync_failed && self.file.sync().is_ok() {
             return Ok(());
         }
         self.sync_failed = true;
         self.faults.fail()
     }
 
-    ghost read_is_image = { λ disk. tt };
+    ghost read_is_image = { λ disk. F.read_is_image disk.file };
 
-    ghost size_is_read = { λ disk. tt };
+    ghost size_is_read = { λ disk. size_read (F.pending disk.file) disk.size };
 
-    ghost counts_now = { λ disk since image earlier is. is };
+    ghost counts_now = { λ disk since image earlier is. F.counts_now disk.file since image earlier
+        is };
 
-    ghost only_now = { λ disk image since. since };
+    ghost only_now = { λ disk image since. F.only_now disk.file image since };
 }

@@ -10,7 +10,8 @@
 // cuts and syncs, logs those that took effect, fails and stops as its owner steers it, and leaves
 // what a pick says. A call costs as much as the octets that it moves. A restart costs as much as
 // the disk holds and as was written since the one before; all that was ever written is kept in
-// memory. `FileDisk` is an adapter over a file, and tells nothing of its octets.
+// memory. `DiskOver` is a disk over any `RawFile`, and tells its octets where the file does.
+// `FileDisk` is the one over a file of the system, which tells none.
 #![tactic(auto)]
 
 mod call;
@@ -21,13 +22,18 @@ pub mod laws;
 mod memory;
 mod memory_disk;
 mod orders;
+mod pieces;
+mod raw_file;
 mod synced;
+mod system_file;
 
 pub use call::Call;
 pub use disk::Disk;
 pub use event::Event;
-pub use file_disk::FileDisk;
+pub use file_disk::{DiskOver, FileDisk};
 pub use memory::Memory;
 pub use memory_disk::MemoryDisk;
 pub use orders::{Orders, Pick, Stop};
+pub use raw_file::RawFile;
 pub use synced::write_synced;
+pub use system_file::SystemFile;

@@ -4,6 +4,7 @@ use Rattle.std.specs.Prelude.{◌++◌, [], codes}
 use Rattle.std.specs.declared.io.ErrorKind.{ErrorKind}
 use Rattle.std.specs.declared.io.ErrorKind.TheVariants.{OutOfMemory}
 use Rattle.disk_model.specs.FileDisk.{FileState}
+use Rattle.disk_model.specs.RawFile.{Asked}
 use Rattle.disk_model.specs.Images.{Pending}
 use Rattle.provider_cli.specs.declared.plan.Plan.{Plan}
 use Rattle.provider_cli.specs.declared.plan.Plan.TheVariants as plans
@@ -44,8 +45,8 @@ pub record IsNoDisk (kind : ErrorKind) (before after : Option (List ℕ))
 
 -- It does what is promised on some file, which tells none of its octets.
 pub record IsOnFile (plan : Option Plan) (before after : Outside) (exit : ℕ) : Type 0 where
-  pub old : Option FileState
-  pub new : Option FileState
+  pub old : Option (FileState Asked)
+  pub new : Option (FileState Asked)
   pub has : NeedsDisk plan → IsSome old
   pub provided : IsProvided (λ _. None) (λ disk. disk.size) (λ _. 0) (λ _ _ _. ⊥)
       (λ disk. disk.faults) plan old new before after exit
