@@ -7,3 +7,4 @@ pub mod Feedings
 pub mod Longer
 pub mod Standing
 pub mod Parts
+pub mod Unreads

@@ -21,7 +21,7 @@ pub whole_bound : (x : List ℕ) (s : ℕ) → whole_size x ≡ Some s → (8 �
 whole_bound (k ∷ z1 ∷ z2 ∷ z3 ∷ a ∷ b ∷ c ∷ d ∷ y) s e = omega (arith, sized)
 whole_bound x s e = absurd cc
 
-same_by : (f g : ℕ → Reading) (x : List ℕ) (F : Option TmlFault) (W : Option ℕ)
+pub same_by : (f g : ℕ → Reading) (x : List ℕ) (F : Option TmlFault) (W : Option ℕ)
     → ((s : ℕ) → W ≡ Some s → f s ≡ g s) → reading_by f x F W ≡ reading_by g x F W
 same_by f g x (Some fault) W h = refl
 same_by f g x None None h = refl

@@ -20,3 +20,12 @@ IsDue p now = (p.interval ≢ 0) × (picos p.interval ≤ now - p.sent)
 -- timer
 abbrev pub IsDead : Pulse → ℕ → Type 0
 IsDead p now = (p.interval ≢ 0) × (picos (p.interval * p.factor) ≤ now - p.heard)
+
+-- a beat that sent and heard its last octets at this moment
+abbrev pub beat_at : ℕ → ℕ → ℕ → Pulse
+beat_at interval factor now = record {
+  interval = interval;
+  factor = factor;
+  sent = now;
+  heard = now;
+}

@@ -6,3 +6,4 @@ pub mod Reading
 pub mod OctetQueue
 pub mod Feeding
 pub mod Beat
+pub mod Unread

@@ -1,6 +1,6 @@
 -- The messages of a list of octets, worked out from left to right.
-use Rattle.std.specs.Prelude.{◌≡◌, ℕ, zero, suc, ◌+◌, List, [], ◌∷◌, length, take, drop, Option}
-use Rattle.std.specs.Prelude.{Some, None, ◌==◌, if◌then◌else◌}
+use Rattle.std.specs.Prelude.{◌≡◌, ℕ, zero, suc, ◌+◌, List, [], ◌∷◌, ◌++◌, length, take, drop}
+use Rattle.std.specs.Prelude.{Option, Some, None, ◌==◌, if◌then◌else◌}
 use Rattle.std.specs.Int.{w16, from_be_bytes}
 use Rattle.isp1_tml.specs.declared.tml_fault.TmlFault.{TmlFault}
 use Rattle.isp1_tml.specs.Message.{Content, pdu, context, heartbeat, spelling, IsMessage}
@@ -51,3 +51,9 @@ reading place octets = reading_within (length octets) place octets
 -- the octets are a stream, which is read so
 abbrev pub IsRead : ℕ → List ℕ → Reading → Type 0
 IsRead place octets r = IsStream place octets r.messages r.rest r.fault
+
+-- messages, and then those of another reading, which ends as that one does
+pub record GoesOnFrom (messages : List Content) (later whole : Reading) : Type 0 where
+  pub all : whole.messages ≡ messages ++ later.messages
+  pub rest : whole.rest ≡ later.rest
+  pub fault : whole.fault ≡ later.fault

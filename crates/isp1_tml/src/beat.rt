@@ -1,6 +1,6 @@
 // When a heartbeat is due, and when a peer is taken for dead.
 ghost use Rattle.std.specs.Prelude.{◌≡◌, ◌↔◌, IsTrue};
-ghost use Rattle.isp1_tml.specs.Beat.{IsDue, IsDead};
+ghost use Rattle.isp1_tml.specs.Beat.{beat_at, IsDue, IsDead};
 
 use std::marker::Model;
 
@@ -41,12 +41,7 @@ impl Model for Beat {
 impl Beat {
     /// A beat whose connection sent and heard its last octets at `now`. The interval is in seconds.
     pub fn new(interval: u16, factor: u16, now: u128) -> Beat
-        ensures { result ≡ record {
-          interval = interval;
-          factor = factor;
-          sent = now;
-          heard = now;
-        } }
+        ensures { result ≡ beat_at interval factor now }
     {
         Beat {
             interval,

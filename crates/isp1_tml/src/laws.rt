@@ -1,15 +1,17 @@
 // What the definitions say of every stream. A law's function does nothing: its contract is the law.
-ghost use Rattle.std.specs.Prelude.{◌≡◌, ℕ, ◌+◌, ◌<◌, ◌≤◌, List, [], ◌∷◌, ◌++◌, length};
-ghost use Rattle.std.specs.Prelude.{slice_index, Option, None, Some, Ok};
+ghost use Rattle.std.specs.Prelude.{◌≡◌, ℕ, ◌+◌, ◌-◌, ◌*◌, ◌^◌, ◌<◌, ◌≤◌, List, [], ◌∷◌, ◌++◌};
+ghost use Rattle.std.specs.Prelude.{length, slice_index, Option, None, Some, Ok};
 ghost use Rattle.std.specs.List.{AllByRecursion};
 ghost use Rattle.isp1_tml.specs.declared.tml_fault.TmlFault.{TmlFault};
+ghost use Rattle.isp1_tml.specs.declared.tml_fault.TmlFault.TheVariants.{TooLong};
 ghost use Rattle.isp1_tml.specs.declared.message.TheConstants.{LONGEST_PDU};
-ghost use Rattle.isp1_tml.specs.Message.{Content, pdu, heartbeat, header, spelling, spellings};
-ghost use Rattle.isp1_tml.specs.Message.{IsMessage};
+ghost use Rattle.isp1_tml.specs.Message.{Content, pdu, context, heartbeat, header, spelling};
+ghost use Rattle.isp1_tml.specs.Message.{spellings, IsMessage};
 ghost use Rattle.isp1_tml.specs.Fault.{fault_of};
 ghost use Rattle.isp1_tml.specs.Stream.{IsStream, BeginsHeader, BeginsMessage, whole_size};
-ghost use Rattle.isp1_tml.specs.Reading.{reading, IsRead};
-ghost use Rattle.isp1_tml.specs.Feeding.{Feeding, fresh, StandsFor, next_of, after_next};
+ghost use Rattle.isp1_tml.specs.Reading.{reading, IsRead, GoesOnFrom};
+ghost use Rattle.isp1_tml.specs.Feeding.{Feeding, fresh, room_of, StandsFor, next_of, after_next};
+ghost use Rattle.isp1_tml.specs.Beat.{IsDue, IsDead, beat_at};
 
 /// A stream has at most one reading.
 pub fn one_reading()
@@ -40,6 +42,14 @@ pub fn longer_stream()
         IsStream place octets messages rest fault →
         IsStream place (octets ++ more) others other another →
         (added : List Content) × (others ≡ messages ++ added) }
+{}
+
+/// Messages stay as they were read, and what comes later is read behind them, from the rest on.
+pub fn goes_on()
+    ensures { (place : ℕ) (octets more : List ℕ) (messages : List Content) (rest : List ℕ) →
+        IsStream place octets messages rest None →
+        GoesOnFrom messages (reading (place + length (spellings messages)) (rest ++ more))
+        (reading place (octets ++ more)) }
 {}
 
 /// A refused stream stays refused, with the same messages before and the same refusal, whatever
@@ -79,6 +89,24 @@ pub fn a_rest_goes_on()
     ensures message { (place : ℕ) (octets : List ℕ) → ((i : ℕ) → slice_index octets i < 256) →
         fault_of place octets ≡ None → whole_size octets ≡ None → 8 ≤ length octets →
         BeginsMessage octets }
+{}
+
+/// The definitions' numbers, written out: with interval 30 and factor 5 a heartbeat is due 30
+/// seconds after the last octets sent, and a peer dead 150 seconds after the last ones heard, and
+/// neither a picosecond before; a context's spelling; the longest PDU, with one that is an octet
+/// longer; and the octets of its message, which are the most that a feeder holds.
+pub fn examples()
+    ensures due { IsDue (beat_at 30 5 0) (30 * 10 ^ 12) }
+    ensures not_due { IsDue (beat_at 30 5 0) (30 * 10 ^ 12 - 1) → ⊥ }
+    ensures dead { IsDead (beat_at 30 5 0) (150 * 10 ^ 12) }
+    ensures not_dead { IsDead (beat_at 30 5 0) (150 * 10 ^ 12 - 1) → ⊥ }
+    ensures context { spelling (context 30 5) ≡ 2 ∷ 0 ∷ 0 ∷ 0 ∷ 0 ∷ 0 ∷ 0 ∷ 12
+        ∷ 73 ∷ 83 ∷ 80 ∷ 49 ∷ 0 ∷ 0 ∷ 0 ∷ 1 ∷ 0 ∷ 30 ∷ 0 ∷ 5 ∷ [] }
+    ensures longest { (place : ℕ) (body : List ℕ) → length body ≡ 1048576 →
+        IsStream place (1 ∷ 0 ∷ 0 ∷ 0 ∷ 0 ∷ 16 ∷ 0 ∷ 0 ∷ body) (pdu body ∷ []) [] None }
+    ensures too_long { (place : ℕ) (body : List ℕ) →
+        fault_of place (1 ∷ 0 ∷ 0 ∷ 0 ∷ 0 ∷ 16 ∷ 0 ∷ 1 ∷ body) ≡ Some (TooLong 1048577) }
+    ensures capacity { room_of fresh ≡ 1048584 }
 {}
 
 /// What begins a message is never refused, and is never taken for a whole one.

@@ -2,9 +2,9 @@
 // pieces are made into whole messages, or refused at the first octet that shows a fault.
 //
 // A `Feeder` holds at most the octets of one longest message and lends each message's body; only
-// `Feeder::new` takes memory. `head` gives the eight octets before a body. A `Beat` keeps the
-// moments that heartbeats and the dead timer are judged by. The module `laws` has what is proved of
-// every stream.
+// `Feeder::new` takes memory. `Messages` lends the messages of octets that came whole, and takes
+// none. `head` gives the eight octets before a body. A `Beat` keeps the moments that heartbeats and
+// the dead timer are judged by. The module `laws` has what is proved of every stream.
 #![tactic(auto)]
 
 mod beat;
@@ -12,6 +12,7 @@ mod feeder;
 pub mod laws;
 mod memory;
 mod message;
+mod messages;
 mod octet_queue;
 mod tml_fault;
 
@@ -19,5 +20,6 @@ pub use beat::Beat;
 pub use feeder::Feeder;
 pub use memory::Memory;
 pub use message::{CONTEXT_BODY, HEADER, LONGEST_PDU, Message, head};
+pub use messages::Messages;
 pub use octet_queue::CAPACITY;
 pub use tml_fault::TmlFault;
