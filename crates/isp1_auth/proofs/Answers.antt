@@ -129,7 +129,7 @@ module _ (octets : List ℕ) (secret : Secret) (now : ℕ) where
         same_so claim protected,
       ) refl
 
-  too_old : (claim : Claim) (moment : ℕ) → Says octets claim moment
+  pub too_old : (claim : Claim) (moment : ℕ) → Says octets claim moment
       → allowed secret < abs_diff now moment → auth secret (Some octets) now
       ≡ Err (TooOld (abs_diff now moment))
   too_old claim moment says late = said claim moment says

@@ -1,5 +1,6 @@
 // What holds of all credentials. A law's function does nothing: its contract is the law.
 ghost use Rattle.isp1_auth.specs.Laws.{OneAnswer, AcceptedWhileNear, SignedIsAccepted};
+ghost use Rattle.isp1_auth.specs.Laws.{AcceptedForAMinute, RefusedBeyondAMinute};
 
 /// Octets that are used as credentials have one answer by what they spell, the one that `check`
 /// gives.
@@ -17,4 +18,12 @@ pub fn accepted_while_near()
 /// delay is at least a second.
 pub fn signed_is_accepted()
     ensures { SignedIsAccepted }
+{}
+
+/// The rule's numbers, written out: with a delay of 60, credentials with the right digest are
+/// accepted at 60 x 10^12 picoseconds from the time that they say, before it or behind it, and
+/// refused a picosecond further.
+pub fn examples()
+    ensures accepted { AcceptedForAMinute }
+    ensures refused { RefusedBeyondAMinute }
 {}
