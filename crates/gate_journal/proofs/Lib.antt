@@ -12,3 +12,4 @@ pub mod Following
 pub mod Again
 pub mod Stopping
 pub mod Standing
+pub mod Verdicts

@@ -12,7 +12,7 @@ use Rattle.record_form.specs.Reading.{entry_from, ert_from}
 use Rattle.gate_journal.specs.declared.fault.JournalFault.{JournalFault}
 use Rattle.gate_journal.specs.declared.fault.JournalFault.TheVariants.{NotJournal, Damaged, Full}
 use Rattle.gate_journal.specs.declared.fault.JournalFault.TheVariants.{DiskFault, Stale, Memory}
-use Rattle.gate_journal.specs.File.{header, gated, Leads}
+use Rattle.gate_journal.specs.File.{header, gated, Leads, StandsFor}
 
 infixl 10 ◌>>=◌
 abbrev pub ◌>>=◌ : {A B : Type 0} → Result A JournalFault → (A → Result B JournalFault)
@@ -116,6 +116,18 @@ pub record IsDamagedAt (place : ℕ) (file : List ℕ) : Type 0 where
   pub entries : List Entry
   pub led : LedTo gate entries file
   pub fault : gate_at entries file gate ≡ Err (Damaged place)
+
+-- what the octets of a file are found to be: the spelling of entries, or no journal or damaged at a
+-- place
+pub data Verdict : Type 0 where
+  stands : List Entry → Verdict
+  no_journal : ℕ → Verdict
+  damaged : ℕ → Verdict
+
+abbrev pub IsFound : Verdict → List ℕ → Type 0
+IsFound (stands entries) file = StandsFor entries file
+IsFound (no_journal place) file = IsNoJournal place file
+IsFound (damaged place) file = IsDamagedAt place file
 
 -- why the octets of a file are refused
 abbrev pub Refuses : JournalFault → List ℕ → Type 0

@@ -14,7 +14,7 @@ ghost use Rattle.disk_model.specs.declared.orders.Orders.{Orders};
 ghost use Rattle.disk_model.specs.declared.orders.Stop.{Stop};
 ghost use Rattle.gate_journal.specs.File.{IsBatch, StandsFor, StandsAt};
 ghost use Rattle.record_form.specs.Reading.{AreOctets};
-ghost use Rattle.gate_journal.specs.Reading.{IsDamagedAt, IsNoJournal, LedTo};
+ghost use Rattle.gate_journal.specs.Reading.{IsDamagedAt, IsNoJournal, LedTo, Verdict, IsFound};
 ghost use Rattle.gate_journal.specs.JournalState.{Keeps, IsAtRest, IsToStop, StopsIn};
 ghost use Rattle.gate_journal.specs.JournalState.{KeepsOnRestart};
 ghost use Rattle.gate_journal.specs.JournalState.{appending, entries_left, leaves_batch, HasBatch};
@@ -60,6 +60,19 @@ pub fn a_refused_file_stands_for_nothing()
     archive_terms::laws::archive_grows();
     record_form::laws::read_where_spelled();
     record_form::laws::read_back();
+}
+
+/// Each list of octets stands for entries, or is no journal, or is damaged, and is one of the three
+/// alone: of one list of entries, or at one place.
+pub fn each_file_has_one_verdict()
+    ensures some { (file : List ℕ) → AreOctets file → (verdict : Verdict) × IsFound verdict file }
+    ensures one { (one other : Verdict) (file : List ℕ) → AreOctets file → IsFound one file
+        → IsFound other file → one ≡ other }
+{
+    archive_terms::laws::archive_grows();
+    record_form::laws::read_where_spelled();
+    a_file_stands_for_one_list();
+    a_refused_file_stands_for_nothing();
 }
 
 /// Entries that were read of a file are a front of those that it stands for.

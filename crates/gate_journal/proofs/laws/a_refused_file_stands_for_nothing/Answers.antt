@@ -1,8 +1,8 @@
-use Rattle.std.proofs.Common.{◌++◌, ◌∷◌, [], ap, length, sym, ◌∙◌, arith}
-use Rattle.std.proofs.lemmas.List.{get_or_append_left, length-append}
+use Rattle.std.proofs.Common.{◌++◌, ◌∷◌, [], sym, ◌∙◌, arith}
 use Rattle.gate_journal.specs.File.{gated, header}
 use Rattle.gate_journal.proofs.Again.{behind_led, entries_behind, read_there, one_damage}
 use Rattle.gate_journal.proofs.Unique.{same_rest}
+use Rattle.gate_journal.proofs.Verdicts.{header_leads}
 use Rattle.gate_journal.proofs.laws.a_refused_file_stands_for_nothing.Goals as goal
 
 -- a damaged file stands for nothing
@@ -18,10 +18,7 @@ returns-clause-damaged c place there entries file all damaged stands =
 -- and so does one that is no journal
 pub returns-clause-no_journal : goal.returns-clause-no_journal
 returns-clause-no_journal c place there entries file other stands =
-    let behind = gated stands.batches ++ stands.gate ∷ stands.rest in
-    other.differs
-    (omega (arith, other.inside, ap length stands.is, length-append header behind))
-    (rw stands.is (get_or_append_left header behind 0 place other.inside))
+    header_leads place (gated stands.batches ++ stands.gate ∷ stands.rest) file stands.is other
 
 pub returns-clause-place : goal.returns-clause-place
 returns-clause-place c p q file all first second =
