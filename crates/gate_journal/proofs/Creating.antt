@@ -1,13 +1,14 @@
 -- A new journal on an empty disk.
 use Rattle.std.proofs.Common.{◌≡◌, ℕ, ◌≤◌, List, [], ◌∷◌, ◌++◌, length, Option, Some, None}
 use Rattle.std.proofs.Common.{IfSome, option_map, Result, Ok, Err, OnOk, is_err, false, refl, sym}
-use Rattle.std.proofs.Common.{◌∙◌, arith}
-use Rattle.std.proofs.lemmas.List.{nil_from_length}
+use Rattle.std.proofs.Common.{ap, ◌∙◌, arith}
+use Rattle.std.proofs.lemmas.List.{nil_from_length, length-append}
 use Rattle.disk_model.specs.Images.{Pending, with_range}
 use Rattle.disk_model.specs.Images.{written_and_synced}
 use Rattle.disk_model.specs.Moments.{IsImageOf}
-use Rattle.gate_journal.specs.File.{header, StandsAt}
-use Rattle.gate_journal.specs.JournalState.{Keeps, IsAtRest, IsShort}
+use Rattle.archive_terms.specs.Archive.{Entry}
+use Rattle.gate_journal.specs.File.{header, gated, joined, StandsAt}
+use Rattle.gate_journal.specs.JournalState.{Keeps, IsAtRest, IsBegun}
 
 abbrev pub new_octets : List ℕ
 new_octets = header ++ 0 ∷ []
@@ -22,15 +23,32 @@ new_stands = record {
   is = refl;
 }
 
-pub short_now : (pending : Option Pending) → IfSome pending (λ told. told.greatest ≤ 9)
-    → (image : List ℕ) → IsImageOf pending image → IsShort image
-short_now (Some told) short image is = omega (arith, is.no_longer, short)
-short_now None short image is = absurd is
+no_batches : (batches : List (List Entry)) → length (gated batches) ≡ 0 → joined batches ≡ []
+no_batches [] none = refl
+no_batches (batch ∷ batches) none = absurd (omega (arith, none))
 
-pub short_during : (pending : Option Pending) → IfSome pending (λ told. told.greatest ≤ 9)
-    → (image : List ℕ) → IsImageOf (option_map (with_range 0 9 []) pending) image → IsShort image
-short_during (Some told) short image is = omega (arith, is.no_longer, short)
-short_during None short image is = absurd is
+-- a file that is no longer than a new journal has no room for a batch
+begun : (image : List ℕ) → length image ≤ 9 → IsBegun image
+begun image short = record {
+  no_longer = short;
+  no_entries = λ entries is. let stands = is.1 in stands.leads.entries_are
+      ∙ no_batches stands.batches (omega (
+        arith,
+        short,
+        ap length stands.is,
+        length-append (gated stands.batches) (stands.gate ∷ stands.rest),
+      ));
+}
+
+pub begun_now : (pending : Option Pending) → IfSome pending (λ told. told.greatest ≤ 9)
+    → (image : List ℕ) → IsImageOf pending image → IsBegun image
+begun_now (Some told) short image is = begun image (omega (arith, is.no_longer, short))
+begun_now None short image is = absurd is
+
+pub begun_during : (pending : Option Pending) → IfSome pending (λ told. told.greatest ≤ 9)
+    → (image : List ℕ) → IsImageOf (option_map (with_range 0 9 []) pending) image → IsBegun image
+begun_during (Some told) short image is = begun image (omega (arith, is.no_longer, short))
+begun_during None short image is = absurd is
 
 -- what is written to an empty disk is kept, and rests
 pub new_there : (old new : Option Pending) (extent : ℕ)

@@ -7,7 +7,7 @@ use Rattle.disk_model.specs.Images.{Pending, all_synced}
 use Rattle.disk_model.specs.Moments.{Elapses}
 use Rattle.disk_model.specs.declared.call.Call.{Call}
 use Rattle.disk_model.specs.declared.call.Call.TheVariants.{Write, Sync}
-use Rattle.disk_model.specs.Calls.{FailedAtOne}
+use Rattle.disk_model.specs.Calls.{AllMade, FailedAtOne}
 use Rattle.disk_model.specs.MemoryDisk.{DiskState, IsMadeCall, IsFailedCall, pending_of, restarted}
 use Rattle.disk_model.specs.declared.orders.Pick.{Pick}
 use Rattle.disk_model.specs.declared.orders.Pick.TheVariants.{Old, New, Torn}
@@ -80,9 +80,21 @@ IsUnread fault = (fault ≡ DiskFault) ⊎ (fault ≡ Memory)
 abbrev pub creating : List Call
 creating = Write 0 (header ++ 0 ∷ []) ∷ Sync ∷ []
 
--- at most as long as a new journal
-abbrev pub IsShort : List ℕ → Type 0
-IsShort image = length image ≤ 9
+-- What a crash leaves of a journal that is being made: it is at most as long as a new one, and
+-- where it stands for entries, for none.
+pub record IsBegun (image : List ℕ) : Type 0 where
+  pub no_longer : length image ≤ 9
+  pub no_entries : (entries : List Entry) → StandsFor entries image → entries ≡ []
+
+-- the counted call of a recovery
+abbrev pub recovering : List Call
+recovering = Sync ∷ []
+
+-- the disk failed in a recovery: at the sync, or at the read behind it
+module _ {D : Type 0} (makes fails : D → Call → D → Type 0) (fails_to_read : D → D → Type 0) where
+  abbrev pub FailsToRecover : D → D → Type 0
+  FailsToRecover old new = FailedAtOne makes fails old recovering new
+      ⊎ ((mid : D) × AllMade makes old recovering mid × fails_to_read mid new)
 
 -- a disk in memory that runs, fails at no call, and is to stop there
 pub record IsToStop (disk : DiskState) (stop : Stop) : Type 0 where

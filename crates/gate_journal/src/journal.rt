@@ -12,10 +12,10 @@ ghost use Rattle.disk_model.specs.Calls.{AllMade, FailedAtOne, RunsCalls};
 ghost use Rattle.disk_model.specs.MemoryDisk.{steered, restarted, pending_of, content_of};
 ghost use Rattle.disk_model.specs.declared.call.Call.TheVariants.{Write, Sync};
 ghost use Rattle.gate_journal.specs.File.{StandsFor, StandsAt, entries_octets};
-ghost use Rattle.gate_journal.specs.JournalState.{Keeps, IsAtRest, IsOldOrNew, IsReady, IsShort};
+ghost use Rattle.gate_journal.specs.JournalState.{Keeps, IsAtRest, IsOldOrNew, IsReady, IsBegun};
 ghost use Rattle.gate_journal.specs.JournalState.{OnlyReads};
 ghost use Rattle.gate_journal.specs.JournalState.{RefusesDisk, appending, appending_octets};
-ghost use Rattle.gate_journal.specs.JournalState.{creating};
+ghost use Rattle.gate_journal.specs.JournalState.{creating, recovering, FailsToRecover};
 ghost use Rattle.gate_journal.specs.JournalState.{IsUnread};
 ghost use Rattle.gate_journal.specs.declared.fault.JournalFault.TheVariants as JournalFault;
 
@@ -72,10 +72,10 @@ impl<D: Disk> Journal<D> {
         ensures kept { IfOk result (λ journal. D.faults journal.disk ≡ D.faults disk) }
         ensures any_moment { IfOk result (λ journal. IfSome (D.pending disk)
             (λ told. told.greatest ≤ 9) → HoldsThroughout D.moment D.images_since disk journal.disk
-            IsShort) }
+            IsBegun) }
         ensures any_moment_refused { IfErr result (λ fault. IfSome (D.pending disk)
             (λ told. told.greatest ≤ 9) → HoldsThroughout D.moment D.images_since disk fault.1
-            IsShort) }
+            IsBegun) }
         ensures calls { IfOk result (λ journal. AllMade D.makes disk creating journal.disk) }
         ensures failed { IfErr result (λ fault. D.extent disk ≡ 0 → FailedAtOne D.makes D.fails disk
             creating fault.1) }
@@ -115,7 +115,11 @@ impl<D: Disk> Journal<D> {
             disk fault.1 (IsImageOf (D.pending disk))) }
         ensures tells { IfOk result (λ read. is_some (D.pending read.0.disk)
             ≡ is_some (D.pending disk)) }
-        ensures calls { IfOk result (λ read. AllMade D.makes disk (Sync ∷ []) read.0.disk) }
+        ensures calls { IfOk result (λ read. AllMade D.makes disk recovering read.0.disk) }
+        ensures refused_calls { IfErr result (λ fault. (fault.0 ≡ JournalFault.DiskFault)
+            ⊎ AllMade D.makes disk recovering fault.1) }
+        ensures failed_calls { IfErr result (λ fault. fault.0 ≡ JournalFault.DiskFault
+            → FailsToRecover D.makes D.fails D.fails_to_read disk fault.1) }
         ensures refused { IfErr result (λ fault.
             RefusesDisk fault.0 (D.pending disk) (D.faults disk)
             (D.faults fault.1)) }
@@ -152,7 +156,11 @@ impl<D: Disk> Journal<D> {
         ensures any_moment { HoldsThroughout D.moment D.images_since self.old.disk self.new.disk
             (IsImageOf (D.pending self.old.disk)) }
         ensures tells { is_some (D.pending self.new.disk) ≡ is_some (D.pending self.old.disk) }
-        ensures calls { OnOk result (AllMade D.makes self.old.disk (Sync ∷ []) self.new.disk) }
+        ensures calls { OnOk result (AllMade D.makes self.old.disk recovering self.new.disk) }
+        ensures refused_calls { OnErr result (IsErrOf result JournalFault.DiskFault
+            ⊎ AllMade D.makes self.old.disk recovering self.new.disk) }
+        ensures failed_calls { IsErrOf result JournalFault.DiskFault → FailsToRecover D.makes
+            D.fails D.fails_to_read self.old.disk self.new.disk }
         ensures refused { IfErr result (λ fault. RefusesDisk fault (D.pending self.old.disk)
             (D.faults self.old.disk) (D.faults self.new.disk)) }
         ensures standing { IfErr result (λ fault. (entries : List Entry) → IsSomeAnd
@@ -345,7 +353,11 @@ fn load_synced<D: Disk>(alloc: Global, disk: &mut D) -> Result<(Entries, u64), J
     ensures any_moment { HoldsThroughout D.moment D.images_since disk.old disk.new
         (IsImageOf (D.pending disk.old)) }
     ensures tells { is_some (D.pending disk.new) ≡ is_some (D.pending disk.old) }
-    ensures calls { OnOk result (AllMade D.makes disk.old (Sync ∷ []) disk.new) }
+    ensures calls { OnOk result (AllMade D.makes disk.old recovering disk.new) }
+    ensures refused_calls { OnErr result (IsErrOf result JournalFault.DiskFault
+        ⊎ AllMade D.makes disk.old recovering disk.new) }
+    ensures failed_calls { IsErrOf result JournalFault.DiskFault → FailsToRecover D.makes D.fails
+        D.fails_to_read disk.old disk.new }
     ensures refused { IfErr result (λ fault. RefusesDisk fault (D.pending disk.old)
         (D.faults disk.old) (D.faults disk.new)) }
     ensures standing { IfErr result (λ fault. (entries : List Entry) → IsSomeAnd
@@ -365,7 +377,8 @@ fn read_all<D: Disk>(alloc: Global, disk: &mut D) -> Result<(Entries, u64), Jour
     ensures archive { IfOk result (λ read. IsArchive read.0) }
     ensures within { IfOk result (λ read. read.1 < D.extent disk.old) }
     ensures fits { IfOk result (λ read. read.1 + 1 < 2 ^ 64) }
-    ensures same { OnOk result (disk.new ≡ disk.old) }
+    ensures same { IsErrOf result JournalFault.DiskFault ⊎ (disk.new ≡ disk.old) }
+    ensures failed { IsErrOf result JournalFault.DiskFault → D.fails_to_read disk.old disk.new }
     ensures reads { OnlyReads D.pending D.moment D.images_since disk.old disk.new }
     ensures refused { IfErr result (λ fault. RefusesDisk fault (D.pending disk.old)
         (D.faults disk.old) (D.faults disk.new)) }
@@ -385,7 +398,8 @@ fn read_file<D: Disk>(alloc: Global, disk: &mut D) -> Result<Vec<u8>, JournalFau
     ensures content { IfOk result (λ file. IfSome (D.pending disk.old)
         (λ told. file.items ≡ told.content)) }
     ensures size { IfOk result (λ file. length file.items ≡ D.extent disk.old) }
-    ensures same { OnOk result (disk.new ≡ disk.old) }
+    ensures same { IsErrOf result JournalFault.DiskFault ⊎ (disk.new ≡ disk.old) }
+    ensures failed { IsErrOf result JournalFault.DiskFault → D.fails_to_read disk.old disk.new }
     ensures reads { OnlyReads D.pending D.moment D.images_since disk.old disk.new }
     ensures refused { IfErr result (λ fault. RefusesDisk fault (D.pending disk.old)
         (D.faults disk.old) (D.faults disk.new)) }
