@@ -10,10 +10,10 @@ ghost use Rattle.disk_model.specs.Moments.{IsImageOf, HoldsThroughout};
 ghost use Rattle.disk_model.specs.Calls.{AllMade, FailedAtOne};
 ghost use Rattle.disk_model.specs.Images.{IsImage};
 ghost use Rattle.disk_model.specs.MemoryDisk.{steered, restarted, pending_of, content_of};
-ghost use Rattle.disk_model.specs.declared.call.Call.TheVariants.{Sync};
 ghost use Rattle.record_form.specs.Entry.{entry_of};
 ghost use Rattle.gate_journal.specs.File.{StandsFor};
-ghost use Rattle.gate_journal.specs.JournalState.{IsOldOrNew, IsAtRest, appending};
+ghost use Rattle.gate_journal.specs.JournalState.{IsOldOrNew, IsAtRest, appending, recovering};
+ghost use Rattle.gate_journal.specs.JournalState.{FailsToRecover};
 ghost use Rattle.frame_archive.specs.State.{times_of, at_rest, failed_batch, need, free, refusal};
 ghost use Rattle.frame_archive.specs.State.{with_waiting, with_stored, with_failed};
 ghost use Rattle.frame_archive.specs.Acknowledges.{Acknowledges, Uses};
@@ -117,7 +117,11 @@ pub fn open_archive<D: Disk>(
         opened.0.disk (IsImageOf (D.pending disk))) }
     ensures any_moment_refused { IfErr result (λ refused. HoldsThroughout D.moment D.images_since
         disk refused.1 (IsImageOf (D.pending disk))) }
-    ensures calls { IfOk result (λ opened. AllMade D.makes disk (Sync ∷ []) opened.0.disk) }
+    ensures calls { IfOk result (λ opened. AllMade D.makes disk recovering opened.0.disk) }
+    ensures refused_calls { IfErr result (λ refused. (refused.0 ≡ ArchiveFault.DiskFault)
+        ⊎ AllMade D.makes disk recovering refused.1) }
+    ensures failed_calls { IfErr result (λ refused. refused.0 ≡ ArchiveFault.DiskFault
+        → FailsToRecover D.makes D.fails D.fails_to_read disk refused.1) }
     ensures refused { IfErr result (λ refused. RefusesDisk refused.0 (D.pending disk)
         (D.faults disk) (D.faults refused.1)) }
     ensures standing { IfErr result (λ refused. (entries : List terms.Entry)
@@ -316,7 +320,11 @@ impl<D: Disk> FrameArchive<D> {
             entries → Acknowledges D.pending self.new entries) }
         ensures any_moment { HoldsThroughout D.moment D.images_since self.old.disk self.new.disk
             (IsImageOf (D.pending self.old.disk)) }
-        ensures calls { OnOk result (AllMade D.makes self.old.disk (Sync ∷ []) self.new.disk) }
+        ensures calls { OnOk result (AllMade D.makes self.old.disk recovering self.new.disk) }
+        ensures refused_calls { OnErr result (IsErrOf result ArchiveFault.DiskFault
+            ⊎ AllMade D.makes self.old.disk recovering self.new.disk) }
+        ensures failed_calls { IsErrOf result ArchiveFault.DiskFault → FailsToRecover D.makes
+            D.fails D.fails_to_read self.old.disk self.new.disk }
         ensures cause { IfErr result (λ fault. RefusesReopen fault self.old.count self.old.failed
             (D.pending self.old.disk) (D.faults self.old.disk) (D.faults self.new.disk)) }
         ensures honest { IfErr result (λ fault. (entries : List terms.Entry)
@@ -359,7 +367,11 @@ impl<D: Disk> FrameArchive<D> {
         }) }
         ensures any_moment { HoldsThroughout D.moment D.images_since self.old.disk self.new.disk
             (IsImageOf (D.pending self.old.disk)) }
-        ensures calls { OnOk result (AllMade D.makes self.old.disk (Sync ∷ []) self.new.disk) }
+        ensures calls { OnOk result (AllMade D.makes self.old.disk recovering self.new.disk) }
+        ensures refused_calls { OnErr result (IsErrOf result ArchiveFault.DiskFault
+            ⊎ AllMade D.makes self.old.disk recovering self.new.disk) }
+        ensures failed_calls { IsErrOf result ArchiveFault.DiskFault → FailsToRecover D.makes
+            D.fails D.fails_to_read self.old.disk self.new.disk }
         ensures cause { IfErr result (λ fault. RefusesDisk fault (D.pending self.old.disk)
             (D.faults self.old.disk) (D.faults self.new.disk)) }
         ensures standing { IfErr result (λ fault. (entries : List terms.Entry)
