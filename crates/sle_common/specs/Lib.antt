@@ -4,6 +4,7 @@ pub mod Identifier
 pub mod IdentifierText
 pub mod TextParts
 pub mod Natural
+pub mod InTable
 pub mod Numbers
 pub mod Credentials
 pub mod Time
