@@ -11,7 +11,7 @@ pub struct Bind<'a> {
     pub initiator: &'a [u8],
     /// The responder's port: 1 to 128 characters from 20 to 7E.
     pub port: &'a [u8],
-    /// The number of the service's type.
+    /// The number of a `ServiceType` of `sle_numbers`, or one that it doesn't have.
     pub service: u16,
     /// The version of the service, from 1.
     pub version: u16,

@@ -9,7 +9,8 @@ pub struct BindReturn<'a> {
     pub credentials: Credentials<'a>,
     /// The responder's name: 3 to 16 characters from 20 to 7E.
     pub responder: &'a [u8],
-    /// The version that the association has, or why there is none: numbers of at most 64 bits.
+    /// The version that the association has, or why there is none: the number of a `BindDiagnostic`
+    /// of `sle_numbers`, or one that it doesn't have. Each has at most 64 bits.
     pub result: Result<i128, i128>,
 }
 

@@ -9,6 +9,7 @@
 mod authority_identifier;
 mod bind;
 mod bind_return;
+pub mod laws;
 mod peer_abort;
 mod unbind;
 mod unbind_return;

@@ -11,7 +11,8 @@ use ber_shape::Element;
 /// PEER-ABORT (CCSDS 911.1-B, annex A), which ends an association at once: one primitive element.
 #[derive(Clone, Copy, Debug, PartialEq, Eq)]
 pub struct PeerAbort {
-    /// Why, from 0 to 127: 3 protocol error, 4 communications failure, 5 encoding error, 127 other.
+    /// Why, from 0 to 127: the number of a `PeerAbortDiagnostic` of `sle_numbers`, or one that it
+    /// doesn't have.
     pub diagnostic: u8,
 }
 

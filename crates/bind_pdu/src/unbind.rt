@@ -6,7 +6,8 @@ use sle_common::Credentials;
 #[derive(Clone, Copy, Debug, PartialEq, Eq)]
 pub struct Unbind<'a> {
     pub credentials: Credentials<'a>,
-    /// Why, from 0 to 127: 0 end, 1 suspend, 2 version not supported, 127 other.
+    /// Why, from 0 to 127: the number of an `UnbindReason` of `sle_numbers`, or one that it doesn't
+    /// have.
     pub reason: u8,
 }
 
