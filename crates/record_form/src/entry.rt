@@ -7,6 +7,7 @@ use crate::kind::LONGEST_ANTENNA;
 use archive_terms::{GREATEST_LOST, LONGEST_FRAME};
 use cds_time::Cds;
 use octet_core::Octets;
+use sle_numbers::{FrameQuality, LockStatus, ReturnProductionStatus};
 
 /// An entry of the archive. A clone shares the octets.
 #[derive(Clone, Debug, Drop, PartialEq, Eq)]
@@ -15,8 +16,8 @@ pub enum Entry {
     Frame {
         /// Earth receive time.
         ert: Cds,
-        /// 0 good, 1 erred, 2 undetermined.
-        quality: u8,
+        /// How it was received.
+        quality: FrameQuality,
         /// The antenna's identifier, 1 to 16 octets.
         antenna: Octets,
         /// How many frames were lost between the frame before and this one, at most 16,777,215.
@@ -24,22 +25,21 @@ pub enum Entry {
         /// The frame, 1 to 65,536 octets.
         octets: Octets,
     },
-    /// Frame synchronisation was lost (CCSDS 911.1-B, RAF-SYNC-NOTIFY). Each lock status is from 0
-    /// to 3.
+    /// Frame synchronisation was lost (CCSDS 911.1-B, RAF-SYNC-NOTIFY).
     LossOfSync {
         /// When.
         at: Cds,
         /// The carrier's lock status.
-        carrier: u8,
+        carrier: LockStatus,
         /// The subcarrier's lock status.
-        subcarrier: u8,
+        subcarrier: LockStatus,
         /// The symbol synchroniser's lock status.
-        symbol: u8,
+        symbol: LockStatus,
     },
     /// The production status changed.
     Production {
-        /// 0 running, 1 interrupted, 2 halted.
-        status: u8,
+        /// The status from now on.
+        status: ReturnProductionStatus,
     },
     /// The archive is sealed up to a time: each later frame has a later one.
     Seal {
@@ -57,25 +57,19 @@ impl Entry {
         match self {
             Entry::Frame {
                 ert,
-                quality,
                 antenna,
                 lost,
                 octets,
+                ..
             } => {
                 names_moment(ert)
-                    && *quality <= 2
                     && !antenna.is_empty()
                     && antenna.len() <= LONGEST_ANTENNA as usize
                     && *lost <= GREATEST_LOST
                     && !octets.is_empty()
             }
-            Entry::LossOfSync {
-                at,
-                carrier,
-                subcarrier,
-                symbol,
-            } => names_moment(at) && *carrier <= 3 && *subcarrier <= 3 && *symbol <= 3,
-            Entry::Production { status } => *status <= 2,
+            Entry::LossOfSync { at, .. } => names_moment(at),
+            Entry::Production { .. } => true,
             Entry::Seal { at } => names_moment(at),
         }
     }

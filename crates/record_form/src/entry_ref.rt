@@ -6,6 +6,7 @@ ghost use Rattle.record_form.specs.Lent.{lent_entry};
 use crate::{Entry, Memory};
 use cds_time::Cds;
 use octet_core::Octets;
+use sle_numbers::{FrameQuality, LockStatus, ReturnProductionStatus};
 use std::alloc::Global;
 
 /// An entry of the archive that keeps no octets: an antenna's and a frame's are lent by what it was
@@ -16,8 +17,8 @@ pub enum EntryRef<'a> {
     Frame {
         /// Earth receive time.
         ert: Cds,
-        /// 0 good, 1 erred, 2 undetermined.
-        quality: u8,
+        /// How it was received.
+        quality: FrameQuality,
         /// The antenna's identifier.
         antenna: &'a [u8],
         /// How many frames were lost between the frame before and this one.
@@ -30,16 +31,16 @@ pub enum EntryRef<'a> {
         /// When.
         at: Cds,
         /// The carrier's lock status.
-        carrier: u8,
+        carrier: LockStatus,
         /// The subcarrier's lock status.
-        subcarrier: u8,
+        subcarrier: LockStatus,
         /// The symbol synchroniser's lock status.
-        symbol: u8,
+        symbol: LockStatus,
     },
     /// The production status changed.
     Production {
-        /// 0 running, 1 interrupted, 2 halted.
-        status: u8,
+        /// The status from now on.
+        status: ReturnProductionStatus,
     },
     /// The archive is sealed up to a time.
     Seal {

@@ -1,5 +1,8 @@
 // The fields of an entry, read one after another.
 ghost use Rattle.std.specs.Prelude.{◌≡◌, ◌≤◌, ◌<◌, IfOk, length};
+ghost use Rattle.sle_numbers.specs.FrameQuality.{number_of as quality_number};
+ghost use Rattle.sle_numbers.specs.LockStatus.{number_of as lock_number};
+ghost use Rattle.sle_numbers.specs.ReturnProductionStatus.{number_of as production_number};
 ghost use Rattle.record_form.specs.Left.{from};
 ghost use Rattle.record_form.specs.Reading.{Reads, octets_at, octet_at, number_at, time_at};
 ghost use Rattle.record_form.specs.Reading.{antenna_at, content_at};
@@ -8,6 +11,7 @@ use crate::EntryFault;
 use crate::kind::{LONGEST_ANTENNA, MICROS, PICOS};
 use archive_terms::LONGEST_FRAME;
 use cds_time::Cds;
+use sle_numbers::{FrameQuality, LockStatus, Numbered, ReturnProductionStatus};
 use std::marker::Model;
 
 /// Reads the fields of an entry from its octets, which it lends. It takes no memory.
@@ -76,6 +80,39 @@ impl<'a> Fields<'a> {
             return Err(EntryFault::BadField { place });
         }
         Ok(octet)
+    }
+
+    /// How a frame was received.
+    pub fn quality(&mut self) -> Result<FrameQuality, EntryFault>
+        ensures { Reads quality_number self.new result (octet_at 0 2 self.old) }
+    {
+        let number = self.octet(0, 2)?;
+        let Some(value) = FrameQuality::from_number(number) else {
+            unreachable!()
+        };
+        Ok(value)
+    }
+
+    /// A lock status.
+    pub fn lock_status(&mut self) -> Result<LockStatus, EntryFault>
+        ensures { Reads lock_number self.new result (octet_at 0 3 self.old) }
+    {
+        let number = self.octet(0, 3)?;
+        let Some(value) = LockStatus::from_number(number) else {
+            unreachable!()
+        };
+        Ok(value)
+    }
+
+    /// A production status.
+    pub fn production_status(&mut self) -> Result<ReturnProductionStatus, EntryFault>
+        ensures { Reads production_number self.new result (octet_at 0 2 self.old) }
+    {
+        let number = self.octet(0, 2)?;
+        let Some(value) = ReturnProductionStatus::from_number(number) else {
+            unreachable!()
+        };
+        Ok(value)
     }
 
     /// A number of four octets in this range.

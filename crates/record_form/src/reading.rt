@@ -111,7 +111,7 @@ fn frame<'a>(fields: &mut Fields<'a>) -> Result<EntryRef<'a>, EntryFault>
 {
     Ok(EntryRef::Frame {
         ert: fields.time()?,
-        quality: fields.octet(0, 2)?,
+        quality: fields.quality()?,
         antenna: fields.antenna()?,
         lost: fields.number(0, GREATEST_LOST)?,
         octets: fields.content()?,
@@ -124,9 +124,9 @@ fn loss_of_sync<'a>(fields: &mut Fields<'a>) -> Result<EntryRef<'a>, EntryFault>
 {
     Ok(EntryRef::LossOfSync {
         at: fields.time()?,
-        carrier: fields.octet(0, 3)?,
-        subcarrier: fields.octet(0, 3)?,
-        symbol: fields.octet(0, 3)?,
+        carrier: fields.lock_status()?,
+        subcarrier: fields.lock_status()?,
+        symbol: fields.lock_status()?,
     })
 }
 
@@ -135,7 +135,7 @@ fn production<'a>(fields: &mut Fields<'a>) -> Result<EntryRef<'a>, EntryFault>
     ensures { Reads lent_entry fields.new result (production_at fields.old) }
 {
     Ok(EntryRef::Production {
-        status: fields.octet(0, 2)?,
+        status: fields.production_status()?,
     })
 }
 

@@ -14,6 +14,7 @@ use crate::{Entry, Memory};
 use archive_terms::LONGEST_FRAME;
 use cds_time::{Cds, Rest};
 use octet_core::Octets;
+use sle_numbers::Numbered;
 
 /// The most octets that an entry has in a file: a frame's, with the longest antenna's identifier
 /// and picoseconds in its time.
@@ -65,7 +66,7 @@ pub fn write_entry(entry: &Entry, into: &mut Octets) -> Result<(), Memory>
         } => {
             into.append(&[FRAME])?;
             write_time(ert, into)?;
-            into.append(&[*quality])?;
+            into.append(&[quality.number()])?;
             write_antenna(antenna, into)?;
             into.append(&lost.to_be_bytes())?;
             write_content(octets, into)?;
@@ -78,9 +79,9 @@ pub fn write_entry(entry: &Entry, into: &mut Octets) -> Result<(), Memory>
         } => {
             into.append(&[LOSS_OF_SYNC])?;
             write_time(at, into)?;
-            into.append(&[*carrier, *subcarrier, *symbol])?;
+            into.append(&[carrier.number(), subcarrier.number(), symbol.number()])?;
         }
-        Entry::Production { status } => into.append(&[PRODUCTION, *status])?,
+        Entry::Production { status } => into.append(&[PRODUCTION, status.number()])?,
         Entry::Seal { at } => {
             into.append(&[SEAL])?;
             write_time(at, into)?;
