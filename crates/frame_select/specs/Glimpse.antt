@@ -1,17 +1,18 @@
 -- What a look gives, as the archive's definitions have it.
-use Rattle.std.specs.Prelude.{ℕ, List, map, slice_index}
-use Rattle.archive_terms.specs.Glimpse.{Locks}
+use Rattle.std.specs.Prelude.{map}
 use Rattle.archive_terms.specs.Glimpse as terms
+use Rattle.sle_numbers.specs.LockStatus.{number_of as lock_number}
+use Rattle.sle_numbers.specs.ReturnProductionStatus.{number_of as production_number}
 use Rattle.frame_select.specs.Item.{said_of}
 use Rattle.frame_select.specs.declared.glimpse.Glimpse.{Glimpse}
+use Rattle.frame_select.specs.declared.locks.Locks.{Locks}
 
--- the lock statuses in the order of a status report
-abbrev pub locks_of : List ℕ → Locks
-locks_of lock = record {
-  frame_sync = slice_index lock 0;
-  symbol = slice_index lock 1;
-  subcarrier = slice_index lock 2;
-  carrier = slice_index lock 3;
+abbrev pub locks_of : Locks → terms.Locks
+locks_of l = record {
+  frame_sync = lock_number l.frame_sync;
+  symbol = lock_number l.symbol;
+  subcarrier = lock_number l.subcarrier;
+  carrier = lock_number l.carrier;
 }
 
 abbrev pub glimpse_of : Glimpse → terms.Glimpse
@@ -21,8 +22,8 @@ glimpse_of g = record {
   next = g.next;
   more = g.more;
   closed = g.closed;
-  locks = locks_of g.lock;
-  production = g.production;
+  locks = locks_of g.locks;
+  production = production_number g.production;
 }
 
 -- a glimpse as its items say it

@@ -4,6 +4,9 @@ use Rattle.archive_terms.specs.Archive.{frame, loss_of_sync, production}
 use Rattle.archive_terms.specs.Archive as archive
 use Rattle.archive_terms.specs.Delivery.{archived, backlog, end_of_data}
 use Rattle.archive_terms.specs.Placed.{ToldItem}
+use Rattle.sle_numbers.specs.FrameQuality.{number_of as quality_number}
+use Rattle.sle_numbers.specs.LockStatus.{number_of as lock_number}
+use Rattle.sle_numbers.specs.ReturnProductionStatus.{number_of as production_number}
 use Rattle.frame_select.specs.declared.item.Item.{Item}
 use Rattle.frame_select.specs.declared.item.Item.TheVariants.{Frame, Loss, Production, Backlog}
 use Rattle.frame_select.specs.declared.item.Item.TheVariants.{EndOfData}
@@ -13,7 +16,7 @@ abbrev pub item_of : Item → ToldItem
 item_of (Frame place ert quality antenna continuity octets) = (
   archived place (frame (record {
     ert = ert;
-    quality = quality;
+    quality = quality_number quality;
     antenna = antenna;
     lost = 0;
     octets = octets;
@@ -23,13 +26,13 @@ item_of (Frame place ert quality antenna continuity octets) = (
 item_of (Loss place at carrier subcarrier symbol) = (
   archived place (loss_of_sync (record {
     at = at;
-    carrier = carrier;
-    subcarrier = subcarrier;
-    symbol = symbol;
+    carrier = lock_number carrier;
+    subcarrier = lock_number subcarrier;
+    symbol = lock_number symbol;
   })),
   None,
 )
-item_of (Production place status) = (archived place (production status), None)
+item_of (Production place status) = (archived place (production (production_number status)), None)
 item_of Backlog = (backlog, None)
 item_of EndOfData = (end_of_data, None)
 

@@ -1,6 +1,8 @@
 // What a look gives.
 
 use crate::items::Items;
+use crate::locks::Locks;
+use sle_numbers::ReturnProductionStatus;
 
 /// What a look at the archive gives.
 #[derive(Debug, Drop)]
@@ -15,9 +17,8 @@ pub struct Glimpse {
     pub more: bool,
     /// Whether the stop is known and closed: nothing more will be picked.
     pub closed: bool,
-    /// The lock statuses of a status report, each 0 to 3: frame synchronisation, symbol,
-    /// subcarrier, carrier.
-    pub lock: [u8; 4],
-    /// The production status: 0 running, 1 interrupted, 2 halted.
-    pub production: u8,
+    /// The lock statuses of a status report.
+    pub locks: Locks,
+    /// The production status.
+    pub production: ReturnProductionStatus,
 }

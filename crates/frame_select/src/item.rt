@@ -2,6 +2,7 @@
 
 use cds_time::Cds;
 use octet_core::Octets;
+use sle_numbers::{FrameQuality, LockStatus, ReturnProductionStatus};
 
 /// An item of a transfer buffer (CCSDS 911.1-B, RAF-TRANSFER-BUFFER). A clone shares the octets.
 #[derive(Clone, Debug, Drop, PartialEq, Eq)]
@@ -12,8 +13,8 @@ pub enum Item {
         place: u64,
         /// Earth receive time.
         ert: Cds,
-        /// 0 good, 1 erred, 2 undetermined.
-        quality: u8,
+        /// How it was received.
+        quality: FrameQuality,
         /// The antenna's identifier, 1 to 16 octets.
         antenna: Octets,
         /// Frames lost since the last one that was handed over, or -1 where none was.
@@ -27,19 +28,19 @@ pub enum Item {
         place: u64,
         /// When.
         at: Cds,
-        /// The carrier's lock status, 0 to 3.
-        carrier: u8,
-        /// The subcarrier's lock status, 0 to 3.
-        subcarrier: u8,
-        /// The symbol synchroniser's lock status, 0 to 3.
-        symbol: u8,
+        /// The carrier's lock status.
+        carrier: LockStatus,
+        /// The subcarrier's lock status.
+        subcarrier: LockStatus,
+        /// The symbol synchroniser's lock status.
+        symbol: LockStatus,
     },
     /// The production status changed.
     Production {
         /// Its place in the archive.
         place: u64,
-        /// 0 running, 1 interrupted, 2 halted.
-        status: u8,
+        /// The status from then on.
+        status: ReturnProductionStatus,
     },
     /// Data was discarded due to excessive backlog.
     Backlog,

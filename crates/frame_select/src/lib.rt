@@ -13,6 +13,7 @@ mod filter;
 mod glimpse;
 mod item;
 mod items;
+mod locks;
 mod selection;
 mod want;
 
@@ -21,5 +22,6 @@ pub use filter::Filter;
 pub use glimpse::Glimpse;
 pub use item::Item;
 pub use items::Items;
+pub use locks::Locks;
 pub use selection::{Selection, admits};
 pub use want::Want;

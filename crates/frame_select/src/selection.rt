@@ -3,6 +3,7 @@ ghost use Rattle.std.specs.Prelude.{◌≡◌, ◌&&◌, option_map};
 ghost use Rattle.cds_time.specs.Moment.{moment_of};
 ghost use Rattle.archive_terms.specs.Archive.{Frame, frame};
 ghost use Rattle.archive_terms.specs.Selection.{channel_of, is_not_before, is_not_after, admits};
+ghost use Rattle.sle_numbers.specs.FrameQuality.{number_of as quality_number};
 ghost use Rattle.record_form.specs.Entry.{entry_of};
 ghost use Rattle.frame_select.specs.Selection.{id_of, selection_of};
 
@@ -10,6 +11,7 @@ use crate::channel::channel_of;
 use crate::filter::Filter;
 use record_form::Entry;
 use sle_common::Gvcid;
+use sle_numbers::FrameQuality;
 
 /// A START's selection of the archive.
 #[derive(Clone, Copy, Debug, PartialEq, Eq)]
@@ -31,10 +33,10 @@ impl Selection {
         &self,
         place: u64,
         moment: Option<u128>,
-        quality: u8,
+        quality: FrameQuality,
         channel: Option<Gvcid>,
     ) -> bool
-        ensures { (f : Frame) → moment_of f.ert ≡ moment → f.quality ≡ quality
+        ensures { (f : Frame) → moment_of f.ert ≡ moment → f.quality ≡ quality_number quality
             → channel_of f.octets ≡ option_map id_of channel
             → result ≡ admits (selection_of self.now) place (frame f) }
     {
