@@ -7,9 +7,8 @@ use Rattle.archive_terms.specs.Archive.{Entry, frame_time, seal_time, closes}
 use Rattle.archive_terms.specs.Archive.{keeps_order}
 use Rattle.archive_terms.specs.Selection.{Selection, is_frame_from, is_started, is_stop_closed}
 use Rattle.archive_terms.specs.Selection.{is_picked}
-use Rattle.archive_index.specs.declared.totals.Totals.{Totals}
 use Rattle.archive_index.specs.IndexState.{end_with, totals_of, has_started, has_closed}
-use Rattle.archive_index.specs.IndexState.{is_in_order, Mark, mark_of, of_notice, tells}
+use Rattle.archive_index.specs.IndexState.{Totals, is_in_order, Mark, mark_of, of_notice, tells}
 
 -- ---- behind entries with these first moments above their times
 

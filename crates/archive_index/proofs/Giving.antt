@@ -12,12 +12,15 @@ use Rattle.archive_terms.specs.Delivery.{archived, archived_items, frame_octets}
 use Rattle.archive_terms.specs.Continuity.{continuity_of, told_items}
 use Rattle.archive_terms.specs.Placed.{ToldItem}
 use Rattle.archive_terms.specs.Glimpse.{Wanted, given, lengths_of, picked_from, given_of}
-use Rattle.archive_terms.specs.Glimpse.{place_behind}
+use Rattle.archive_terms.specs.Glimpse.{place_behind, Glimpse, glimpse, wants_items}
+use Rattle.frame_select.specs.Glimpse.{as_said}
 use Rattle.frame_select.specs.Item.{said_of}
 use Rattle.archive_index.specs.declared.cursor.Cursor.{Cursor}
 use Rattle.archive_index.specs.declared.look.Given.{Given}
 use Rattle.archive_index.specs.Next.{next_picked}
+use Rattle.archive_index.specs.IndexState.{Totals, totals_of, has_closed}
 use Rattle.archive_index.specs.Look.{wanted_of, is_full, behind, Gives}
+use Rattle.archive_index.proofs.Ends.{closed}
 
 -- ---- how many are given, one by one
 
@@ -103,3 +106,24 @@ gives_all entries s whole now items found all next stop =
       next = sym (ap (λ (g : Given). g.next) whole);
       more = sym (ap (λ (g : Given). g.more) whole);
     }
+
+-- a look told by what is given and by the totals of all entries
+pub glimpse_told : (entries : List Entry) (w : Wanted) (g : Given) (t : Totals) (front : ℕ)
+    → front ≡ length entries → t ≡ totals_of entries → Gives entries w g
+    → ◌≡◌ {A = Glimpse} (record {
+      front = front;
+      items = g.items;
+      next = g.next;
+      more = g.more;
+      closed = has_closed t w.selection.stop;
+      locks = t.locks;
+      production = t.production;
+    }) (as_said (glimpse entries (wants_items w)))
+glimpse_told entries w g t front all told given = rw (
+  all,
+  told,
+  given.items,
+  given.next,
+  given.more,
+  ← closed w.selection entries,
+) refl

@@ -12,9 +12,8 @@ use Rattle.archive_terms.specs.Archive.{Entry, is_valid}
 use Rattle.archive_terms.specs.Continuity.{lost_between, lost_up_to, gap, lost_of}
 use Rattle.archive_terms.specs.declared.limits.TheConstants.{GREATEST_LOST}
 use Rattle.archive_index.specs.declared.mark.Mark as code
-use Rattle.archive_index.specs.declared.totals.Totals.{Totals}
-use Rattle.archive_index.specs.IndexState.{IndexState, Indexes, mark_of, mark_seen}
-use Rattle.archive_index.specs.IndexState.{kind_of, totals_of, totals_with}
+use Rattle.archive_index.specs.IndexState.{IndexState, Indexes, Totals, mark_of, mark_seen}
+use Rattle.archive_index.specs.IndexState.{kind_of, totals_of, totals_seen, totals_with}
 use Rattle.archive_index.proofs.Marks.{marks-push, marks-take, length-marks, mark_there, lost_small}
 use Rattle.archive_index.proofs.Marks.{totals-push, lost_bound}
 
@@ -82,7 +81,7 @@ indexes_cut marks t entries n ix = record {
 pub totals_within : (marks : List code.Mark) (t : Totals) (entries : List Entry) (place : ℕ)
     (m : code.Mark)
     → Indexes (seen marks t) entries → place < length marks → m ≡ get_or marks place m
-    → m.before ≡ totals_of (take place entries)
+    → totals_seen m.before ≡ totals_of (take place entries)
 totals_within marks t entries place m ix below read =
     ap (λ m. m.before) (mark_stands marks t entries ix place m below read).2
 

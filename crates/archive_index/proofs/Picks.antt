@@ -16,8 +16,7 @@ use Rattle.record_form.specs.Entry.{entry_of, entries_of}
 use Rattle.archive_index.specs.Look.{is_told_of}
 use Rattle.archive_index.specs.Next.{next_picked}
 use Rattle.archive_index.specs.declared.mark.Mark as code
-use Rattle.archive_index.specs.declared.totals.Totals.{Totals}
-use Rattle.archive_index.specs.IndexState.{Indexes, mark_seen, mark_of}
+use Rattle.archive_index.specs.IndexState.{Indexes, Totals, mark_seen, mark_of}
 use Rattle.archive_index.proofs.Indexed.{seen, mark_stands}
 
 -- what stands from a place on

@@ -10,12 +10,14 @@ use Rattle.archive_terms.specs.Selection.{ChannelId, channel_of, Selection}
 use Rattle.archive_terms.specs.Continuity.{lost_of}
 use Rattle.archive_terms.specs.Glimpse.{Locks, locks_after, locks, production_after}
 use Rattle.archive_terms.specs.Glimpse.{production_status}
+use Rattle.sle_numbers.specs.FrameQuality.{number_of as quality_number}
+use Rattle.sle_numbers.specs.ReturnProductionStatus.{number_of as production_number}
 use Rattle.frame_select.specs.Selection.{id_of}
 use Rattle.frame_select.specs.Glimpse.{locks_of}
 use Rattle.archive_index.specs.declared.mark.Mark as code
 use Rattle.archive_index.specs.declared.mark.Kind as kinds
 use Rattle.archive_index.specs.declared.mark.Kind.TheVariants as kind
-use Rattle.archive_index.specs.declared.totals.Totals.{Totals}
+use Rattle.archive_index.specs.declared.totals.Totals as totals
 
 -- a frame with its moment, quality and channel; a loss of synchronisation or a change of the
 -- production status; a seal
@@ -37,17 +39,21 @@ end_with time_of end entry = option_map_or (λ t. max end (t + 1)) (time_of entr
 abbrev pub end_of : (Entry → Option ℕ) → List Entry → ℕ
 end_of time_of entries = fold (end_with time_of) 0 entries
 
--- lock statuses in the order of a status report
-abbrev pub lock_list : Locks → List ℕ
-lock_list l = l.frame_sync ∷ l.symbol ∷ l.subcarrier ∷ l.carrier ∷ []
+-- what is told of entries together: the first moments above the times of all frames and of all
+-- seals, how many frames were lost, and the statuses of a report
+pub record Totals : Type 0 where
+  pub frames_end : ℕ
+  pub seals_end : ℕ
+  pub lost : ℕ
+  pub locks : Locks
+  pub production : ℕ
 
--- what is told of entries together
 abbrev pub totals_of : List Entry → Totals
 totals_of entries = record {
   frames_end = end_of frame_time entries;
   seals_end = end_of seal_time entries;
   lost = sum_by lost_of entries;
-  lock = lock_list (locks entries);
+  locks = locks entries;
   production = production_status entries;
 }
 
@@ -62,7 +68,7 @@ totals_with t entry = record {
   frames_end = end_with frame_time t.frames_end entry;
   seals_end = end_with seal_time t.seals_end entry;
   lost = lost_with t.lost entry;
-  lock = lock_list (locks_after (locks_of t.lock) entry);
+  locks = locks_after t.locks entry;
   production = production_after t.production entry;
 }
 
@@ -115,10 +121,20 @@ is_in_order t (production _) = true
 
 -- ---- the program's marks
 
+abbrev pub totals_seen : totals.Totals → Totals
+totals_seen t = record {
+  frames_end = t.frames_end;
+  seals_end = t.seals_end;
+  lost = t.lost;
+  locks = locks_of t.locks;
+  production = production_number t.production;
+}
+
 abbrev pub kind_seen : kinds.Kind → Kind
-kind_seen (kind.Frame moment quality channel) = of_frame moment quality (option_map id_of channel)
+kind_seen (kind.Frame moment quality channel) =
+    of_frame moment (quality_number quality) (option_map id_of channel)
 kind_seen kind.Notice = of_notice
 kind_seen kind.Seal = of_seal
 
 abbrev pub mark_seen : code.Mark → Mark
-mark_seen m = record { kind = kind_seen m.kind; before = m.before }
+mark_seen m = record { kind = kind_seen m.kind; before = totals_seen m.before }

@@ -9,7 +9,7 @@ ghost use Rattle.archive_terms.specs.Continuity.{gap};
 ghost use Rattle.record_form.specs.Entry.{entry_of};
 ghost use Rattle.frame_select.specs.Selection.{selection_of};
 ghost use Rattle.archive_index.specs.Next.{next_picked};
-ghost use Rattle.archive_index.specs.IndexState.{Indexes, totals_of};
+ghost use Rattle.archive_index.specs.IndexState.{Indexes, totals_of, totals_seen};
 
 use crate::mark::{Kind, Mark};
 use crate::totals::{NONE, Totals};
@@ -32,13 +32,13 @@ pub struct Index {
 
 impl Model for Index {
     ghost use Rattle.std.specs.Prelude.{map, vec_items};
-    ghost use Rattle.archive_index.specs.IndexState.{IndexState, mark_seen};
+    ghost use Rattle.archive_index.specs.IndexState.{IndexState, mark_seen, totals_seen};
 
     ghost Value = { IndexState };
 
     ghost view = { λ index. record {
       marks = map mark_seen (vec_items index.marks);
-      totals = index.totals;
+      totals = totals_seen index.totals;
     } };
 }
 
@@ -125,7 +125,7 @@ impl Index {
     // What all entries tell together.
     pub(crate) fn totals(&self) -> &Totals
         ensures { (entries : List archive.Entry) → Indexes self.now entries
-            → result.now ≡ totals_of entries }
+            → totals_seen result.now ≡ totals_of entries }
     {
         &self.totals
     }
@@ -133,7 +133,7 @@ impl Index {
     // What the entries before a place tell together.
     fn totals_before(&self, place: u64) -> &Totals
         ensures { (entries : List archive.Entry) → Indexes self.now entries
-            → result.now ≡ totals_of (take place entries) }
+            → totals_seen result.now ≡ totals_of (take place entries) }
     {
         if place < self.marks.len() as u64 {
             &self.marks[place as usize].before
@@ -145,7 +145,7 @@ impl Index {
     // What the entries up to and including the one at a place tell together.
     fn totals_through(&self, place: u64) -> &Totals
         ensures { (entries : List archive.Entry) → Indexes self.now entries
-            → result.now ≡ totals_of (take (place + 1) entries) }
+            → totals_seen result.now ≡ totals_of (take (place + 1) entries) }
     {
         if place < self.marks.len() as u64 {
             self.totals_before(place + 1)

@@ -51,7 +51,7 @@ impl Index {
                 next: 0,
                 more: false,
                 closed: false,
-                lock: totals.lock,
+                locks: totals.locks,
                 production: totals.production,
             });
         };
@@ -68,7 +68,7 @@ impl Index {
             next: given.next,
             more: given.more,
             closed: totals.has_closed(selection.stop),
-            lock: totals.lock,
+            locks: totals.locks,
             production: totals.production,
         })
     }

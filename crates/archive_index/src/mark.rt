@@ -9,6 +9,7 @@ use crate::totals::Totals;
 use frame_select::{Selection, channel_of};
 use record_form::Entry;
 use sle_common::Gvcid;
+use sle_numbers::FrameQuality;
 
 // What an entry is.
 #[derive(Clone, Copy, Debug)]
@@ -16,7 +17,7 @@ pub(crate) enum Kind {
     // A frame with what selections ask of it.
     Frame {
         moment: Option<u128>,
-        quality: u8,
+        quality: FrameQuality,
         channel: Option<Gvcid>,
     },
     // A loss of synchronisation or a change of the production status.
@@ -57,6 +58,7 @@ pub(crate) struct Mark {
 
 impl Mark {
     ghost use Rattle.archive_index.specs.IndexState.{mark_of, mark_seen, tells};
+    ghost use Rattle.archive_index.specs.IndexState.{totals_seen};
 
     // Whether a selection picks the entry, which stands at this place.
     pub(crate) fn is_picked(&self, selection: &Selection, place: u64) -> bool
@@ -77,7 +79,7 @@ impl Mark {
 
     // Whether a loss or a production change at this place is told.
     fn is_told(&self, selection: &Selection, place: u64) -> bool
-        ensures { result ≡ tells self.now.before (selection_of selection.now) place }
+        ensures { result ≡ tells (totals_seen self.now.before) (selection_of selection.now) place }
     {
         selection.notices
             && selection.first <= place

@@ -10,6 +10,7 @@ pub mod Last
 pub mod Then
 pub mod Separated
 pub mod Number
+pub mod Numbers
 pub mod HexOctets
 pub mod Plain
 pub mod Names
