@@ -69,7 +69,7 @@ aloft m (uplink production status) a is other =
     record {
       stays =
           uplink_by (λ (n : Machine). n.in_air ≡ Some a) m production status
-          (changed_by (λ (n : Machine). n.in_air ≡ Some a) (with_uplink production status m) is is
+          (changed_by (λ (n : Machine). n.in_air ≡ Some a) production (with_uplink production status m) is is
           is is) is;
       radiates_none = refl;
     }

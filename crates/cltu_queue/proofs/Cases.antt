@@ -3,6 +3,13 @@ use Rattle.std.proofs.Common.{◌≡◌, ℕ, Bool, true, false, not, ◌&&◌, 
 use Rattle.std.proofs.Common.{if◌then◌else◌, Option, Some, None, Result, Ok, Err, List, [], ◌∷◌}
 use Rattle.std.proofs.Common.{refl, sym, subst}
 use Rattle.std.proofs.lemmas.Bool.{not-false}
+use Rattle.fcltu_numbers.specs.declared.cltu_production_status.CltuProductionStatus.{CltuProductionStatus}
+use Rattle.fcltu_numbers.specs.declared.cltu_production_status.CltuProductionStatus.TheVariants.{Operational, Configured, Interrupted, Halted}
+use Rattle.fcltu_numbers.specs.declared.uplink_status.UplinkStatus.{UplinkStatus}
+use Rattle.fcltu_numbers.specs.declared.cltu_start_diagnostic.CltuStartDiagnostic.{CltuStartDiagnostic}
+use Rattle.fcltu_numbers.specs.declared.cltu_start_diagnostic.CltuStartDiagnostic.TheVariants.{OutOfService, UnableToComply}
+use Rattle.fcltu_numbers.specs.declared.cltu_transfer_data_diagnostic.CltuTransferDataDiagnostic.{CltuTransferDataDiagnostic}
+use Rattle.fcltu_numbers.specs.declared.cltu_notification_type.CltuNotificationType.TheVariants as kind
 use Rattle.cltu_queue.specs.declared.cltu.Cltu.{Cltu}
 use Rattle.cltu_queue.specs.declared.in_air.InAir.{InAir}
 use Rattle.cltu_queue.specs.declared.room.Room.{Room}
@@ -11,16 +18,15 @@ use Rattle.cltu_queue.specs.declared.cltu_fault.CltuFault.TheVariants.{Refused}
 use Rattle.cltu_queue.specs.declared.taken.Taken.{Taken}
 use Rattle.cltu_queue.specs.declared.taken.Taken.TheVariants.{Idle, Waits, Expired, Radiate}
 use Rattle.cltu_queue.specs.declared.notice.Notice.{Notice}
-use Rattle.cltu_queue.specs.Numbers.{operational, interrupted as broken, halted, out_of_service}
-use Rattle.cltu_queue.specs.Numbers.{unable_to_comply, production_operational}
-use Rattle.cltu_queue.specs.Numbers.{production_interrupted, production_halted, last_run}
+use Rattle.cltu_queue.specs.Limits.{last_run}
 use Rattle.cltu_queue.specs.Times.{latest_of, is_above}
 use Rattle.cltu_queue.specs.Machine.{Machine, new_run, on_start, room_of, refusal, queued}
 use Rattle.cltu_queue.specs.Machine.{queued_unless, on_transfer, is_idle, begins_at, expired}
 use Rattle.cltu_queue.specs.Machine.{radiating, on_radiation, on_radiation_of, on_take, on_take_of}
 use Rattle.cltu_queue.specs.Machine.{is_this, is_of_run, landed, ended, on_done, on_done_of}
 use Rattle.cltu_queue.specs.Machine.{broken_off, on_interrupted, on_interrupted_of, discarded}
-use Rattle.cltu_queue.specs.Machine.{with_production_notice, production_changed, on_uplink}
+use Rattle.cltu_queue.specs.Machine.{is_halted, is_interrupted, is_same}
+use Rattle.cltu_queue.specs.Machine.{with_production_notice, changed_to, on_uplink}
 use Rattle.cltu_queue.specs.Machine.{on_notice_of}
 use Rattle.cltu_queue.specs.Forward.{start, transfer, notice, Reply, unfit, started, transferred}
 use Rattle.cltu_queue.specs.Forward.{notified, forward}
@@ -32,13 +38,13 @@ pub choose : {X : Type 0} (P : X → Type 0) (b : Bool) (x y : X) → (b ≡ tru
 choose P true x y p q = p refl
 choose P false x y p q = q refl
 
-abbrev Starts : (Machine × Reply → Type 0) → Machine × Result (Unit {0}) ℕ → Type 0
+abbrev Starts : (Machine × Reply → Type 0) → Machine × Result (Unit {0}) CltuStartDiagnostic → Type 0
 Starts P r = P (r.0, started r.1)
 
 -- a START doesn't fit, is refused, or begins a run
 pub start_by : (P : Machine × Reply → Type 0) (m : Machine) (first : ℕ)
     → P (m, unfit)
-    → ((diagnostic : ℕ) → P (m, started (Err diagnostic)))
+    → ((diagnostic : CltuStartDiagnostic) → P (m, started (Err diagnostic)))
     → P (new_run first m, started (Ok tt))
     → P (forward m (start first))
 start_by P m first misfits refuses begins =
@@ -46,19 +52,20 @@ start_by P m first misfits refuses begins =
       (on_start m first).0,
       started (on_start m first).1,
     ) (λ _. misfits)
-    (λ _. choose (Starts P) (m.production == halted) (m, Err out_of_service)
-    (if m.production == broken || m.run == last_run then (m, Err unable_to_comply)
+    (λ _. choose (Starts P) (is_halted m.production) (m, Err OutOfService)
+    (if is_interrupted m.production || m.run == last_run then (m, Err UnableToComply)
     else (new_run first m, Ok tt))
-    (λ _. refuses out_of_service)
-    (λ _. choose (Starts P) (m.production == broken || m.run == last_run) (m, Err unable_to_comply)
-    (new_run first m, Ok tt) (λ _. refuses unable_to_comply) (λ _. begins)))
+    (λ _. refuses OutOfService)
+    (λ _. choose (Starts P) (is_interrupted m.production || m.run == last_run) (m, Err UnableToComply)
+    (new_run first m, Ok tt) (λ _. refuses UnableToComply) (λ _. begins)))
 
 abbrev Transfers : (Machine × Reply → Type 0) → Machine × Result Room CltuFault → Type 0
 Transfers P r = P (r.0, transferred r.1)
 
-transfer_of : (P : Machine × Reply → Type 0) (m : Machine) (cltu : Cltu) (now : ℕ) (r : Option ℕ)
+transfer_of : (P : Machine × Reply → Type 0) (m : Machine) (cltu : Cltu) (now : ℕ)
+    (r : Option CltuTransferDataDiagnostic)
     → refusal m cltu now ≡ r
-    → ((diagnostic : ℕ) → P (m, transferred (Err (Refused diagnostic (room_of m)))))
+    → ((diagnostic : CltuTransferDataDiagnostic) → P (m, transferred (Err (Refused diagnostic (room_of m)))))
     → (refusal m cltu now ≡ None → P (queued m cltu, transferred (Ok (room_of (queued m cltu)))))
     → Transfers P (queued_unless r m cltu)
 transfer_of P m cltu now None is refuses accepts = accepts is
@@ -67,7 +74,7 @@ transfer_of P m cltu now (Some diagnostic) is refuses accepts = refuses diagnost
 -- a TRANSFER-DATA doesn't fit, is refused, or is accepted
 pub transfer_by : (P : Machine × Reply → Type 0) (m : Machine) (cltu : Cltu) (now : ℕ)
     → P (m, unfit)
-    → ((diagnostic : ℕ) → P (m, transferred (Err (Refused diagnostic (room_of m)))))
+    → ((diagnostic : CltuTransferDataDiagnostic) → P (m, transferred (Err (Refused diagnostic (room_of m)))))
     → (m.started ≡ true → refusal m cltu now ≡ None
     → P (queued m cltu, transferred (Ok (room_of (queued m cltu)))))
     → P (forward m (transfer cltu now))
@@ -168,37 +175,30 @@ pub interrupted_by : (Q : Machine → Type 0) (m : Machine) (run id : ℕ)
 interrupted_by Q m run id = interrupted_of Q m run id m.in_air refl
 
 -- a change of production is notified, discards what waits or not, or does nothing
-pub changed_by : (Q : Machine → Type 0) (m : Machine)
-    → Q (with_production_notice production_operational m)
-    → Q (with_production_notice production_interrupted (discarded m))
-    → Q (with_production_notice production_halted (discarded m))
+pub changed_by : (Q : Machine → Type 0) (production : CltuProductionStatus) (m : Machine)
+    → Q (with_production_notice kind.ProductionOperational m)
+    → Q (with_production_notice kind.ProductionInterrupted (discarded m))
+    → Q (with_production_notice kind.ProductionHalted (discarded m))
     → Q m
-    → Q (production_changed m)
-changed_by Q m resumes breaks halts stays =
-    choose Q (m.production == operational) (with_production_notice production_operational m)
-    (if m.production == broken then with_production_notice production_interrupted (discarded m)
-    else (if m.production == halted then with_production_notice production_halted (discarded m)
-    else m)) (λ _. resumes)
-    (λ _. choose Q (m.production == broken) (with_production_notice production_interrupted
-    (discarded m))
-    (if m.production == halted then with_production_notice production_halted (discarded m) else m)
-    (λ _. breaks)
-    (λ _. choose Q (m.production == halted) (with_production_notice production_halted (discarded m))
-    m (λ _. halts)
-    (λ _. stays)))
+    → Q (changed_to production m)
+changed_by Q Operational m resumes breaks halts stays = resumes
+changed_by Q Configured m resumes breaks halts stays = stays
+changed_by Q Interrupted m resumes breaks halts stays = breaks
+changed_by Q Halted m resumes breaks halts stays = halts
 
 -- with production and uplink set
-abbrev pub with_uplink : ℕ → ℕ → Machine → Machine
+abbrev pub with_uplink : CltuProductionStatus → UplinkStatus → Machine → Machine
 with_uplink production status m = record m { production = production; status = status }
 
 -- production and uplink are set, which is a change of production in a run or not
-pub uplink_by : (Q : Machine → Type 0) (m : Machine) (production status : ℕ)
-    → Q (production_changed (with_uplink production status m))
+pub uplink_by : (Q : Machine → Type 0) (m : Machine) (production : CltuProductionStatus)
+    (status : UplinkStatus)
+    → Q (changed_to production (with_uplink production status m))
     → Q (with_uplink production status m)
     → Q (on_uplink m production status)
 uplink_by Q m production status changes stays =
-    choose Q (m.started && not (m.production == production))
-    (production_changed (with_uplink production status m))
+    choose Q (m.started && not (is_same m.production production))
+    (changed_to production (with_uplink production status m))
     (with_uplink production status m) (λ _. changes) (λ _. stays)
 
 notice_of : (P : Machine × Option Notice → Type 0) (m : Machine) (ns : List Notice) → m.notices ≡ ns

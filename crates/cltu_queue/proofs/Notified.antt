@@ -1,21 +1,27 @@
 -- What is discarded is notified, and octets come back.
-use Rattle.std.proofs.Common.{◌≡◌, ℕ, ◌+◌, ◌-◌, ◌≢◌, ◌⊎◌, inl, inr, Bool, true, false, not, ◌&&◌}
-use Rattle.std.proofs.Common.{◌==◌, Some, List, [], ◌∷◌, ◌++◌, length, refl, sym, ◌∙◌, ap, subst}
+use Rattle.std.proofs.Common.{◌≡◌, ℕ, ◌+◌, ◌-◌, ◌≢◌, Bool, true, false, not, ◌&&◌}
+use Rattle.std.proofs.Common.{Some, List, [], ◌∷◌, ◌++◌, length, refl, sym, ◌∙◌, ap, subst}
 use Rattle.std.proofs.Common.{arith, length-append}
 use Rattle.std.proofs.lemmas.Bool.{true≢false, ne_eqb}
 use Rattle.std.proofs.lemmas.List.Sums.{sum_by-cons}
 use Rattle.std.specs.Prelude.{slice_get}
+use Rattle.sle_numbers.specs.Numbered.{of_number}
+use Rattle.fcltu_numbers.specs.CltuProductionStatus.{number_of, all, each}
+use Rattle.fcltu_numbers.specs.declared.cltu_production_status.CltuProductionStatus.{CltuProductionStatus}
+use Rattle.fcltu_numbers.specs.declared.cltu_production_status.CltuProductionStatus.TheVariants.{Interrupted, Halted}
+use Rattle.fcltu_numbers.specs.declared.uplink_status.UplinkStatus.{UplinkStatus}
+use Rattle.fcltu_numbers.specs.declared.cltu_notification_type.CltuNotificationType.TheVariants as kind
 use Rattle.cltu_queue.specs.declared.notice.Notice.{Notice}
 use Rattle.cltu_queue.specs.declared.cltu.Cltu.{Cltu}
 use Rattle.cltu_queue.specs.declared.in_air.InAir.{InAir}
 use Rattle.cltu_queue.specs.declared.taken.Taken.{Taken}
 use Rattle.cltu_queue.specs.declared.taken.Taken.TheVariants.{Expired, Radiate}
 use Rattle.cltu_queue.specs.Machine.{Machine, octets_of, expired, on_take, is_this, is_of_run}
-use Rattle.cltu_queue.specs.Machine.{without_last_of_production, production_changed, on_interrupted}
-use Rattle.cltu_queue.specs.Machine.{on_interrupted_of, on_uplink}
+use Rattle.cltu_queue.specs.Machine.{without_last_of_production, changed_to, is_same}
+use Rattle.cltu_queue.specs.Machine.{on_interrupted, on_interrupted_of, on_uplink}
 use Rattle.cltu_queue.specs.Run.{DiscardsWithNotice, expiry_notice, interruption_notice}
 use Rattle.cltu_queue.specs.Run.{StopsProduction, TakesOff}
-use Rattle.cltu_queue.proofs.Cases.{choose, take_by}
+use Rattle.cltu_queue.proofs.Cases.{choose, take_by, with_uplink}
 use Rattle.cltu_queue.proofs.Turns.{ready_of}
 use Rattle.cltu_queue.proofs.Sound.{last_get}
 
@@ -79,28 +85,42 @@ last_is ns n =
     let place : length (ns ++ n ∷ []) - 1 ≡ length ns = omega (arith, length-append ns (n ∷ [])) in
     ap (λ k. slice_get (ns ++ n ∷ []) k) place ∙ last_get ns n
 
-stops_by : (m : Machine) → (m.production ≡ 2) ⊎ (m.production ≡ 3)
-    → StopsProduction (production_changed m)
-stops_by m (inl is) = rw is (record {
-  empty = refl;
-  free = omega arith;
-  blocked = refl;
-  notified = last_is (without_last_of_production m.notices) _;
-})
-stops_by m (inr is) = rw is (record {
-  empty = refl;
-  free = omega arith;
-  blocked = refl;
-  notified = last_is (without_last_of_production m.notices) _;
-})
+same_number : (a b : CltuProductionStatus) → number_of a ≡ number_of b → a ≡ b
+same_number a b e = cc (sym (each a).found ∙ ap (of_number number_of all) e ∙ (each b).found)
 
-pub stop_of_production : (m : Machine) (production status : ℕ) → m.started ≡ true
-    → m.production ≢ production
-    → (production ≡ 2) ⊎ (production ≡ 3) → StopsProduction (on_uplink m production status)
-stop_of_production m production status going other stops =
-    let set : Machine = record m { production = production; status = status } in
-    choose StopsProduction (m.started && not (m.production == production)) (production_changed set)
-    set
-    (λ _. stops_by set stops)
-    (λ h. absurd (true≢false (sym (let f : (m.started && not (m.production == production)) ≡ true =
-    rw (going, ne_eqb m.production production other) refl in f) ∙ h)))
+other_of : (a b : CltuProductionStatus) → a ≢ b → is_same a b ≡ false
+other_of a b other = ne_eqb (number_of a) (number_of b) (λ e. other (same_number a b e))
+
+-- a change of production in a run
+changes : (P : Machine → Type 0) (m : Machine) (production : CltuProductionStatus)
+    (status : UplinkStatus) → m.started ≡ true → m.production ≢ production
+    → P (changed_to production (with_uplink production status m))
+    → P (on_uplink m production status)
+changes P m production status going other so =
+    choose P (m.started && not (is_same m.production production))
+    (changed_to production (with_uplink production status m)) (with_uplink production status m)
+    (λ _. so)
+    (λ h. absurd (true≢false (sym
+    (let f : (m.started && not (is_same m.production production)) ≡ true =
+    rw (going, other_of m.production production other) refl in f) ∙ h)))
+
+pub stop_by_interruption : (m : Machine) (status : UplinkStatus) → m.started ≡ true
+    → m.production ≢ Interrupted
+    → StopsProduction kind.ProductionInterrupted (on_uplink m Interrupted status)
+stop_by_interruption m status going other =
+    changes (StopsProduction kind.ProductionInterrupted) m Interrupted status going other (record {
+      empty = refl;
+      free = omega arith;
+      blocked = refl;
+      notified = last_is (without_last_of_production m.notices) _;
+    })
+
+pub stop_by_halt : (m : Machine) (status : UplinkStatus) → m.started ≡ true
+    → m.production ≢ Halted → StopsProduction kind.ProductionHalted (on_uplink m Halted status)
+stop_by_halt m status going other =
+    changes (StopsProduction kind.ProductionHalted) m Halted status going other (record {
+      empty = refl;
+      free = omega arith;
+      blocked = refl;
+      notified = last_is (without_last_of_production m.notices) _;
+    })

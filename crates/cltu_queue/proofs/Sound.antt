@@ -7,23 +7,24 @@ use Rattle.std.proofs.lemmas.List.Sums.{sum_by_push, sum_by-cons}
 use Rattle.std.proofs.lemmas.List.{length-take}
 use Rattle.std.specs.Prelude.{is_some, slice_get}
 use Rattle.std.specs.Option.{option_map_or}
+use Rattle.fcltu_numbers.specs.declared.cltu_production_status.CltuProductionStatus.{CltuProductionStatus}
+use Rattle.fcltu_numbers.specs.declared.cltu_production_status.CltuProductionStatus.TheVariants as production_is
+use Rattle.fcltu_numbers.specs.declared.uplink_status.UplinkStatus.{UplinkStatus}
+use Rattle.fcltu_numbers.specs.declared.cltu_transfer_data_diagnostic.CltuTransferDataDiagnostic.TheVariants as refused
+use Rattle.fcltu_numbers.specs.declared.cltu_notification_type.CltuNotificationType.{CltuNotificationType}
+use Rattle.fcltu_numbers.specs.declared.cltu_notification_type.CltuNotificationType.TheVariants as kind
+use Rattle.fcltu_numbers.specs.declared.cltu_status.CltuStatus.TheVariants as status
 use Rattle.cltu_queue.specs.declared.cltu.Cltu.{Cltu}
 use Rattle.cltu_queue.specs.declared.in_air.InAir.{InAir}
 use Rattle.cltu_queue.specs.declared.taken.Taken.{Taken}
 use Rattle.cltu_queue.specs.declared.notice.Notice.{Notice}
 use Rattle.cltu_queue.specs.declared.processed.Processed.TheVariants as processed
-use Rattle.cltu_queue.specs.Numbers.{interrupted as broken, unable_to_process, unable_to_store}
-use Rattle.cltu_queue.specs.Numbers.{out_of_sequence, inconsistent_time_range, invalid_time}
-use Rattle.cltu_queue.specs.Numbers.{late_sldu, invalid_delay_time, cltu_error, status_expired}
-use Rattle.cltu_queue.specs.Numbers.{status_interrupted, cltu_radiated, sldu_expired}
-use Rattle.cltu_queue.specs.Numbers.{production_interrupted, production_halted}
-use Rattle.cltu_queue.specs.Numbers.{production_operational, buffer_empty}
 use Rattle.cltu_queue.specs.Parts.{notices_before_take}
 use Rattle.cltu_queue.specs.Machine.{Machine, new_machine, free_octets, octets_of, one_more}
-use Rattle.cltu_queue.specs.Machine.{notice_of, is_of_production, ends_with_production, refusal}
+use Rattle.cltu_queue.specs.Machine.{notice_of, is_of_production, tells_production, ends_with_production, refusal}
 use Rattle.cltu_queue.specs.Machine.{is_idle, expired, radiating, on_stop, landed, radiated_at}
 use Rattle.cltu_queue.specs.Machine.{with_radiation_notice, with_empty_notice, with_notice}
-use Rattle.cltu_queue.specs.Machine.{with_production_notice, discarded, production_changed}
+use Rattle.cltu_queue.specs.Machine.{with_production_notice, discarded, changed_to}
 use Rattle.cltu_queue.specs.Machine.{broken_off, on_uplink}
 use Rattle.cltu_queue.specs.Forward.{Event, start, transfer, stop, take, done, interrupted, uplink}
 use Rattle.cltu_queue.specs.Forward.{notice, Reply, forward}
@@ -37,11 +38,11 @@ last_get [] n = refl
 last_get (x ∷ ns) n = last_get ns n
 
 -- a notice behind others is the last
-last_of : (ns : List Notice) (n : Notice) → ends_with_production (ns ++ n ∷ []) ≡ is_of_production n
+pub last_of : (ns : List Notice) (n : Notice) → ends_with_production (ns ++ n ∷ []) ≡ tells_production n
 last_of ns n =
     let place : length (ns ++ n ∷ []) - 1 ≡ length ns = omega (arith, length-append ns (n ∷ [])) in
-    ap (λ k. option_map_or is_of_production (slice_get (ns ++ n ∷ []) k) false) place
-    ∙ ap (λ o. option_map_or is_of_production o false) (last_get ns n)
+    ap (λ k. option_map_or tells_production (slice_get (ns ++ n ∷ []) k) false) place
+    ∙ ap (λ o. option_map_or tells_production o false) (last_get ns n)
 
 some_of : (ns : List Notice) → ends_with_production ns ≡ true → 0 < length ns
 some_of [] h = cc
@@ -56,7 +57,7 @@ most_of : (m : Machine) → notices_before_take m
     ≤ length m.notices + (if is_some m.in_air then 3 else 0) + 1
 most_of m = grind arith
 
-after_notice : (m : Machine) (kind : ℕ) → notices_before_take (with_notice kind m)
+after_notice : (m : Machine) (kind : CltuNotificationType) → notices_before_take (with_notice kind m)
     ≤ length m.notices + (if is_some m.in_air then 3 else 0) + 2
 after_notice m kind = omega (
   arith,
@@ -69,7 +70,7 @@ stop_few m = choose (λ (k : ℕ). 0 + k + 1 ≤ 4) (is_some m.in_air) 3 0 (λ _
     (λ _. omega arith)
 
 -- a notice of production doesn't make more come
-after_production : (m : Machine) (kind : ℕ) → is_of_production (notice_of kind m) ≡ true
+after_production : (m : Machine) (kind : CltuNotificationType) → is_of_production kind ≡ true
     → notices_before_take (with_production_notice kind m) ≤ notices_before_take m
 after_production m kind is =
     let n : Notice = notice_of kind m in
@@ -89,14 +90,14 @@ after_production m kind is =
 fits_of : (m : Machine) (cltu : Cltu) (now : ℕ) → refusal m cltu now ≡ None
     → length cltu.octets ≤ free_octets m
 fits_of m cltu now h =
-    let a = passes m.blocked unable_to_process _ h in
-    let b = passes _ out_of_sequence _ a.1 in
-    let c = passes _ invalid_time _ b.1 in
-    let d = passes _ inconsistent_time_range _ c.1 in
-    let e = passes _ late_sldu _ d.1 in
-    let f = passes _ invalid_delay_time _ e.1 in
-    let g = passes _ cltu_error _ f.1 in
-    ltb-false (free_octets m) (length cltu.octets) (passes _ unable_to_store None g.1).0
+    let a = passes m.blocked refused.UnableToProcess _ h in
+    let b = passes _ refused.OutOfSequence _ a.1 in
+    let c = passes _ refused.InvalidTime _ b.1 in
+    let d = passes _ refused.InconsistentTimeRange _ c.1 in
+    let e = passes _ refused.LateSldu _ d.1 in
+    let f = passes _ refused.InvalidDelayTime _ e.1 in
+    let g = passes _ refused.CltuError _ f.1 in
+    ltb-false (free_octets m) (length cltu.octets) (passes _ refused.UnableToStore None g.1).0
 
 -- how many notices are to come of what is in the air
 abbrev aloft_notices : Machine → ℕ
@@ -109,7 +110,7 @@ one_aloft : (m : Machine) (a : InAir) → m.in_air ≡ Some a → aloft_notices 
 one_aloft m a is = rw is refl
 
 -- with nothing in the air, a notice more
-bound_of : (n : Machine) (kind k : ℕ) → n.in_air ≡ None → length n.notices ≤ k
+bound_of : (n : Machine) (kind : CltuNotificationType) (k : ℕ) → n.in_air ≡ None → length n.notices ≤ k
     → notices_before_take (with_notice kind n) ≤ k + 2
 bound_of n kind k air few =
     omega (arith, after_notice n kind, none_aloft n air)
@@ -123,18 +124,18 @@ record IsLanded (k : ℕ) (m : Machine) : Type 0 where
 radiated_landed : (m : Machine) (wanted : Bool) → IsLanded 1000 m
     → IsLanded 1001 (with_radiation_notice wanted m)
 radiated_landed m wanted s =
-    choose (IsLanded 1001) wanted (with_notice cltu_radiated m) m
+    choose (IsLanded 1001) wanted (with_notice kind.CltuRadiated m) m
     (λ _. record {
       air = s.air;
-      few = omega (arith, s.few, length-append m.notices (notice_of cltu_radiated m ∷ []));
+      few = omega (arith, s.few, length-append m.notices (notice_of kind.CltuRadiated m ∷ []));
       octets = s.octets;
     })
     (λ _. record { air = s.air; few = omega (arith, s.few); octets = s.octets })
 
 empty_landed : (m : Machine) → IsLanded 1001 m → IsSound (with_empty_notice m)
 empty_landed m s =
-    choose IsSound (length m.waiting == 0) (with_notice buffer_empty m) m
-    (λ _. record { octets = s.octets; notices = bound_of m buffer_empty 1001 s.air s.few })
+    choose IsSound (length m.waiting == 0) (with_notice kind.BufferEmpty m) m
+    (λ _. record { octets = s.octets; notices = bound_of m kind.BufferEmpty 1001 s.air s.few })
     (λ _. record {
       octets = s.octets;
       notices =
@@ -159,7 +160,7 @@ same_end : (first second : Notice) (others : List Notice)
 same_end first second others =
     let place : length (first ∷ second ∷ others) - 1 ≡ suc (length (second ∷ others) - 1) =
     omega arith in
-    ap (λ k. option_map_or is_of_production (slice_get (first ∷ second ∷ others) k) false) place
+    ap (λ k. option_map_or tells_production (slice_get (first ∷ second ∷ others) k) false) place
 
 -- the first notice is told
 notice_few : (m : Machine) (first : Notice) (others : List Notice) → m.notices ≡ first ∷ others
@@ -182,7 +183,7 @@ expired_sound : (m : Machine) (head : Cltu) → is_idle m ≡ false → IsSound 
 expired_sound m head ready =
     let gone : Machine =
     record (discarded m) {
-      processed = processed.Some head.id None status_expired;
+      processed = processed.Some head.id None status.Expired;
       taken = one_more m.taken;
     } in
     let is = ready_of m ready in
@@ -190,7 +191,7 @@ expired_sound m head ready =
       octets = omega arith;
       notices = omega (
         arith,
-        bound_of gone sldu_expired 999 is.none_aloft (omega (arith, is.few)),
+        bound_of gone kind.SlduExpired 999 is.none_aloft (omega (arith, is.few)),
       );
     }
 
@@ -209,26 +210,28 @@ broken_sound : (m : Machine) (a : InAir) → m.in_air ≡ Some a → IsSound m �
 broken_sound m a is s =
     let gone : Machine =
     record (discarded (landed m)) {
-      processed = processed.Some a.id (Some a.began) status_interrupted;
-      production = broken;
+      processed = processed.Some a.id (Some a.began) status.Interrupted;
+      production = production_is.Interrupted;
     } in
     record {
       octets = omega arith;
       notices = omega (
         arith,
-        bound_of gone production_interrupted 1000 refl (few_aloft m a is s),
+        bound_of gone kind.ProductionInterrupted 1000 refl (few_aloft m a is s),
       );
     }
 
-changed_sound : (m : Machine) → IsSound m → IsSound (production_changed m)
-changed_sound m s =
-    changed_by IsSound m
+changed_sound : (production : CltuProductionStatus) (m : Machine) → IsSound m
+    → IsSound (changed_to production m)
+unfolding is_of_production
+changed_sound production m s =
+    changed_by IsSound production m
     (record {
       octets = s.octets;
       notices = omega (
         arith,
         s.notices,
-        after_production m production_operational refl,
+        after_production m kind.ProductionOperational refl,
       );
     })
     (record {
@@ -236,20 +239,20 @@ changed_sound m s =
       notices = omega (
         arith,
         s.notices,
-        after_production (discarded m) production_interrupted refl,
+        after_production (discarded m) kind.ProductionInterrupted refl,
       );
     })
     (record {
       octets = omega arith;
-      notices = omega (arith, s.notices, after_production (discarded m) production_halted refl);
+      notices = omega (arith, s.notices, after_production (discarded m) kind.ProductionHalted refl);
     }) s
 
-uplink_sound : (m : Machine) (production status : ℕ) → IsSound m
+uplink_sound : (m : Machine) (production : CltuProductionStatus) (status : UplinkStatus) → IsSound m
     → IsSound (on_uplink m production status)
 uplink_sound m production status s =
     let set : IsSound (with_uplink production status m) =
     record { octets = s.octets; notices = s.notices } in
-    uplink_by IsSound m production status (changed_sound (with_uplink production status m) set) set
+    uplink_by IsSound m production status (changed_sound production (with_uplink production status m) set) set
 
 sound : (m : Machine) (event : Event) → IsSound m → IsSound (forward m event).0
 sound m (start first) s =

@@ -5,17 +5,21 @@ use Rattle.std.proofs.Common.{if◌then◌else◌, Option, Some, None, Err, List
 use Rattle.std.proofs.Common.{refl, ◌∙◌, ap, arith}
 use Rattle.std.proofs.lemmas.Bool.{eqb-true, ltb-false, leb-false, not-false}
 use Rattle.std.specs.Prelude.{is_some, max, unwrap_or, IfSome}
+use Rattle.fcltu_numbers.specs.declared.cltu_production_status.CltuProductionStatus.{CltuProductionStatus}
+use Rattle.fcltu_numbers.specs.declared.uplink_status.UplinkStatus.{UplinkStatus}
+use Rattle.fcltu_numbers.specs.declared.cltu_transfer_data_diagnostic.CltuTransferDataDiagnostic.{CltuTransferDataDiagnostic}
+use Rattle.fcltu_numbers.specs.declared.cltu_transfer_data_diagnostic.CltuTransferDataDiagnostic.TheVariants as refused
+use Rattle.fcltu_numbers.specs.declared.cltu_notification_type.CltuNotificationType.{CltuNotificationType}
+use Rattle.fcltu_numbers.specs.declared.cltu_notification_type.CltuNotificationType.TheVariants as kind
 use Rattle.cltu_queue.specs.declared.cltu.Cltu.{Cltu}
 use Rattle.cltu_queue.specs.declared.in_air.InAir.{InAir}
 use Rattle.cltu_queue.specs.declared.taken.Taken.{Taken}
-use Rattle.cltu_queue.specs.Numbers.{operational, unable_to_process, out_of_sequence, cltu_radiated}
-use Rattle.cltu_queue.specs.Numbers.{buffer_empty, production_operational, production_interrupted}
-use Rattle.cltu_queue.specs.Numbers.{production_halted, many_notices}
+use Rattle.cltu_queue.specs.Limits.{many_notices}
 use Rattle.cltu_queue.specs.Times.{earliest_of, latest_of, is_above}
 use Rattle.cltu_queue.specs.Machine.{Machine, behind, is_next, refusal, queued, is_idle, expired}
 use Rattle.cltu_queue.specs.Machine.{radiating, landed, radiated_at, with_radiation_notice, ended}
 use Rattle.cltu_queue.specs.Machine.{with_notice, with_production_notice, discarded, broken_off}
-use Rattle.cltu_queue.specs.Machine.{on_uplink}
+use Rattle.cltu_queue.specs.Machine.{is_operational, on_uplink}
 use Rattle.cltu_queue.specs.Forward.{Event, start, transfer, stop, take, done}
 use Rattle.cltu_queue.specs.Forward.{interrupted as interruption, uplink, notice, Reply, nothing}
 use Rattle.cltu_queue.specs.Forward.{unfit, started, took, forward}
@@ -109,7 +113,8 @@ likewise m n k s run going shut next waits =
     }
 
 -- a test that refuses didn't
-pub passes : (b : Bool) (d : ℕ) (x : Option ℕ) → (if b then Some d else x) ≡ None
+pub passes : (b : Bool) (d : CltuTransferDataDiagnostic)
+    (x : Option CltuTransferDataDiagnostic) → (if b then Some d else x) ≡ None
     → (b ≡ false) × (x ≡ None)
 passes true d x h = cc
 passes false d x h = (refl, h)
@@ -122,9 +127,9 @@ next_of (Some n) id h = ap Some (eqb-true n id (not-false (n == id) h))
 accepted_next : (m : Machine) (cltu : Cltu) (now : ℕ) → refusal m cltu now ≡ None
     → (m.blocked ≡ false) × (m.next ≡ Some cltu.id)
 accepted_next m cltu now fits =
-    let unblocked = passes m.blocked unable_to_process _ fits in (
+    let unblocked = passes m.blocked refused.UnableToProcess _ fits in (
       unblocked.0,
-      next_of m.next cltu.id (passes (not (is_next m.next cltu.id)) out_of_sequence _
+      next_of m.next cltu.id (passes (not (is_next m.next cltu.id)) refused.OutOfSequence _
           unblocked.1).0,
     )
 
@@ -170,7 +175,7 @@ pub record IsReady (m : Machine) : Type 0 where
 
 pub ready_of : (m : Machine) → is_idle m ≡ false → IsReady m
 ready_of m h =
-    let three = or_false (m.blocked || is_some m.in_air || not (m.production == operational)) _ h in
+    let three = or_false (m.blocked || is_some m.in_air || not (is_operational m.production)) _ h in
     let two = or_false (m.blocked || is_some m.in_air) _ three.0 in
     let one = or_false m.blocked _ two.0 in
     record {
@@ -202,7 +207,7 @@ takes_off m now head others may =
       unblocked = (ready_of m may.ready).unblocked;
     }
 
-same_notified : (m n : Machine) (b : Bool) (kind : ℕ) → IsSameRun m n
+same_notified : (m n : Machine) (b : Bool) (kind : CltuNotificationType) → IsSameRun m n
     → IsSameRun m (if b then with_notice kind n else n)
 same_notified m n b kind s =
     choose (IsSameRun m) b (with_notice kind n) n
@@ -210,8 +215,8 @@ same_notified m n b kind s =
 
 same_ended : (m : Machine) (a : InAir) (now : ℕ) → IsSameRun m (ended a now m)
 same_ended m a now =
-    same_notified m (with_radiation_notice a.wanted (radiated_at a now m)) _ buffer_empty
-    (same_notified m (radiated_at a now m) a.wanted cltu_radiated
+    same_notified m (with_radiation_notice a.wanted (radiated_at a now m)) _ kind.BufferEmpty
+    (same_notified m (radiated_at a now m) a.wanted kind.CltuRadiated
     (likewise m m (radiated_at a now m) (same m) refl refl refl refl refl))
 
 -- what waited is gone, and the run is blocked
@@ -226,21 +231,21 @@ or_true : (b : Bool) → (b || true) ≡ true
 or_true true = refl
 or_true false = refl
 
-uplink_turn : (m : Machine) (production status : ℕ)
+uplink_turn : (m : Machine) (production : CltuProductionStatus) (status : UplinkStatus)
     → Turn m (uplink production status) (on_uplink m production status) nothing
 uplink_turn m production status =
     let n : Machine = with_uplink production status m in
     let quiet : IsQuiet (uplink production status) nothing =
     record { accepts_none = refl; radiates_none = refl } in
-    let broken : Machine = with_production_notice production_interrupted (discarded n) in
-    let stopped : Machine = with_production_notice production_halted (discarded n) in
+    let broken : Machine = with_production_notice kind.ProductionInterrupted (discarded n) in
+    let stopped : Machine = with_production_notice kind.ProductionHalted (discarded n) in
     let over = gone m broken refl refl refl refl in
     let halts = gone m stopped refl refl refl refl in
     let kept : Turn m (uplink production status) n nothing =
     keeps (likewise m m n (same m) refl refl refl refl refl) quiet in
     uplink_by (λ (k : Machine). Turn m (uplink production status) k nothing) m production status
-    (changed_by (λ (k : Machine). Turn m (uplink production status) k nothing) n
-    (keeps (likewise m m (with_production_notice production_operational n) (same m) refl refl refl
+    (changed_by (λ (k : Machine). Turn m (uplink production status) k nothing) production n
+    (keeps (likewise m m (with_production_notice kind.ProductionOperational n) (same m) refl refl refl
     refl refl) quiet)
     (ends over.0 over.1 quiet) (ends halts.0 halts.1 quiet) kept)
     kept

@@ -1,5 +1,8 @@
 -- The forward machine's events, and what it does on each.
 use Rattle.std.specs.Prelude.{ℕ, if◌then◌else◌, Option, Result}
+use Rattle.fcltu_numbers.specs.declared.cltu_production_status.CltuProductionStatus.{CltuProductionStatus}
+use Rattle.fcltu_numbers.specs.declared.uplink_status.UplinkStatus.{UplinkStatus}
+use Rattle.fcltu_numbers.specs.declared.cltu_start_diagnostic.CltuStartDiagnostic.{CltuStartDiagnostic}
 use Rattle.cltu_queue.specs.declared.cltu.Cltu.{Cltu}
 use Rattle.cltu_queue.specs.declared.room.Room.{Room}
 use Rattle.cltu_queue.specs.declared.cltu_fault.CltuFault.{CltuFault}
@@ -18,14 +21,14 @@ pub data Event : Type 0 where
   take : ℕ → Event
   done : ℕ → ℕ → ℕ → Event
   interrupted : ℕ → ℕ → Event
-  uplink : ℕ → ℕ → Event
+  uplink : CltuProductionStatus → UplinkStatus → Event
   notice : Event
 
 -- what an event is answered; `unfit` where it doesn't fit the machine's state
 pub data Reply : Type 0 where
   nothing : Reply
   unfit : Reply
-  started : Result (Unit {0}) ℕ → Reply
+  started : Result (Unit {0}) CltuStartDiagnostic → Reply
   transferred : Result Room CltuFault → Reply
   took : Taken → Reply
   notified : Option Notice → Reply

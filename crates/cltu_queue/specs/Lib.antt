@@ -1,4 +1,4 @@
-pub mod Numbers
+pub mod Limits
 pub mod Times
 pub mod Machine
 pub mod Forward

@@ -8,6 +8,18 @@ use Rattle.std.specs.List.{sum_by}
 use Rattle.std.specs.Option.{option_map_or}
 use Rattle.cds_time.specs.Moment.{in_micros}
 use Rattle.cds_time.specs.declared.cds.TheConstants.{PICOS_A_MICRO}
+use Rattle.fcltu_numbers.specs.CltuProductionStatus.{number_of}
+use Rattle.fcltu_numbers.specs.declared.cltu_production_status.CltuProductionStatus.{CltuProductionStatus}
+use Rattle.fcltu_numbers.specs.declared.cltu_production_status.CltuProductionStatus.TheVariants.{Operational, Configured, Interrupted, Halted}
+use Rattle.fcltu_numbers.specs.declared.uplink_status.UplinkStatus.{UplinkStatus}
+use Rattle.fcltu_numbers.specs.declared.uplink_status.UplinkStatus.TheVariants.{Nominal}
+use Rattle.fcltu_numbers.specs.declared.cltu_start_diagnostic.CltuStartDiagnostic.{CltuStartDiagnostic}
+use Rattle.fcltu_numbers.specs.declared.cltu_start_diagnostic.CltuStartDiagnostic.TheVariants.{OutOfService, UnableToComply}
+use Rattle.fcltu_numbers.specs.declared.cltu_transfer_data_diagnostic.CltuTransferDataDiagnostic.{CltuTransferDataDiagnostic}
+use Rattle.fcltu_numbers.specs.declared.cltu_transfer_data_diagnostic.CltuTransferDataDiagnostic.TheVariants as refused
+use Rattle.fcltu_numbers.specs.declared.cltu_notification_type.CltuNotificationType.{CltuNotificationType}
+use Rattle.fcltu_numbers.specs.declared.cltu_notification_type.CltuNotificationType.TheVariants as kind
+use Rattle.fcltu_numbers.specs.declared.cltu_status.CltuStatus.TheVariants as status
 use Rattle.cltu_queue.specs.declared.cltu.Cltu.{Cltu}
 use Rattle.cltu_queue.specs.declared.in_air.InAir.{InAir}
 use Rattle.cltu_queue.specs.declared.room.Room.{Room}
@@ -21,14 +33,7 @@ use Rattle.cltu_queue.specs.declared.processed.Processed.TheVariants as processe
 use Rattle.cltu_queue.specs.declared.last_ok.LastOk.{LastOk}
 use Rattle.cltu_queue.specs.declared.last_ok.LastOk.TheVariants as ok
 use Rattle.cltu_queue.specs.declared.uplink_view.UplinkView.{UplinkView}
-use Rattle.cltu_queue.specs.Numbers.{operational, interrupted, halted, out_of_service}
-use Rattle.cltu_queue.specs.Numbers.{unable_to_comply, unable_to_process, unable_to_store}
-use Rattle.cltu_queue.specs.Numbers.{out_of_sequence, inconsistent_time_range, invalid_time}
-use Rattle.cltu_queue.specs.Numbers.{late_sldu, invalid_delay_time, cltu_error, status_radiated}
-use Rattle.cltu_queue.specs.Numbers.{status_expired, status_interrupted, status_started}
-use Rattle.cltu_queue.specs.Numbers.{cltu_radiated, sldu_expired, production_interrupted}
-use Rattle.cltu_queue.specs.Numbers.{production_halted, production_operational, buffer_empty}
-use Rattle.cltu_queue.specs.Numbers.{last_id, last_count, last_run, longest_delay, many_notices}
+use Rattle.cltu_queue.specs.Limits.{last_id, last_count, last_run, longest_delay, many_notices}
 use Rattle.cltu_queue.specs.Times.{earliest_of, latest_of, has_moment, is_above}
 
 -- the machine: the octets that may wait and those that one CLTU may have; the run; what waits, the
@@ -50,10 +55,10 @@ pub record Machine : Type 0 where
   pub taken : ℕ
   pub radiated : ℕ
   pub notices : List Notice
-  pub production : ℕ
-  pub status : ℕ
+  pub production : CltuProductionStatus
+  pub status : UplinkStatus
 
--- no run has started yet; production is operational, and the uplink status 3
+-- no run has started yet; production is operational, and the uplink nominal
 abbrev pub new_machine : ℕ → ℕ → Machine
 new_machine room longest = record {
   room = room;
@@ -71,8 +76,8 @@ new_machine room longest = record {
   taken = 0;
   radiated = 0;
   notices = [];
-  production = operational;
-  status = 3;
+  production = Operational;
+  status = Nominal;
 }
 
 -- a count of a status report stays at its last value
@@ -91,7 +96,7 @@ abbrev pub room_of : Machine → Room
 room_of m = record { next = unwrap_or m.next last_id; free = free_octets m }
 
 -- a notice carries the last CLTUs, production and uplink as they stand when it is made
-abbrev pub notice_of : ℕ → Machine → Notice
+abbrev pub notice_of : CltuNotificationType → Machine → Notice
 notice_of kind m =
     record {
       kind = kind;
@@ -101,24 +106,29 @@ notice_of kind m =
       status = m.status;
     }
 
-abbrev pub with_notice : ℕ → Machine → Machine
+abbrev pub with_notice : CltuNotificationType → Machine → Machine
 with_notice kind m = record m { notices = m.notices ++ notice_of kind m ∷ [] }
 
 -- production interrupted, halted or operational
-abbrev pub is_of_production : Notice → Bool
-is_of_production notice =
-    nat_le production_interrupted notice.kind && nat_le notice.kind production_operational
+unfoldable pub is_of_production : CltuNotificationType → Bool
+is_of_production kind.ProductionInterrupted = true
+is_of_production kind.ProductionHalted = true
+is_of_production kind.ProductionOperational = true
+is_of_production _ = false
+
+abbrev pub tells_production : Notice → Bool
+tells_production notice = is_of_production notice.kind
 
 abbrev pub ends_with_production : List Notice → Bool
 ends_with_production notices =
-    option_map_or is_of_production (slice_get notices (length notices - 1)) false
+    option_map_or tells_production (slice_get notices (length notices - 1)) false
 
 abbrev pub without_last_of_production : List Notice → List Notice
 without_last_of_production notices =
     if ends_with_production notices then take (length notices - 1) notices else notices
 
 -- a notice of a change of production, which replaces a last notice of production
-abbrev pub with_production_notice : ℕ → Machine → Machine
+abbrev pub with_production_notice : CltuNotificationType → Machine → Machine
 with_production_notice kind m =
     record m { notices = without_last_of_production m.notices ++ notice_of kind m ∷ [] }
 
@@ -144,11 +154,19 @@ new_run first m =
       radiated = 0;
     }
 
+abbrev pub is_halted : CltuProductionStatus → Bool
+is_halted Halted = true
+is_halted _ = false
+
+abbrev pub is_interrupted : CltuProductionStatus → Bool
+is_interrupted Interrupted = true
+is_interrupted _ = false
+
 -- refused where production is halted or interrupted, or no run number is left; else a run begins
-abbrev pub on_start : Machine → ℕ → Machine × Result (Unit {0}) ℕ
+abbrev pub on_start : Machine → ℕ → Machine × Result (Unit {0}) CltuStartDiagnostic
 on_start m first =
-    if m.production == halted then (m, Err out_of_service)
-    else if m.production == interrupted || m.run == last_run then (m, Err unable_to_comply)
+    if is_halted m.production then (m, Err OutOfService)
+    else if is_interrupted m.production || m.run == last_run then (m, Err UnableToComply)
     else (new_run first m, Ok tt)
 
 -- STOP --------------------------------------------------------------------------------------------
@@ -168,16 +186,16 @@ abbrev pub behind : ℕ → Option ℕ
 behind id = if id == last_id then None else Some (id + 1)
 
 -- the first diagnostic whose condition holds
-abbrev pub refusal : Machine → Cltu → ℕ → Option ℕ
+abbrev pub refusal : Machine → Cltu → ℕ → Option CltuTransferDataDiagnostic
 refusal m cltu now =
-    if m.blocked then Some unable_to_process
-    else if not (is_next m.next cltu.id) then Some out_of_sequence
-    else if not (has_moment cltu.earliest && has_moment cltu.latest) then Some invalid_time
-    else if is_above (earliest_of cltu) (latest_of cltu) then Some inconsistent_time_range
-    else if is_above (Some now) (latest_of cltu) then Some late_sldu
-    else if nat_lt longest_delay cltu.delay then Some invalid_delay_time
-    else if nat_lt m.longest (length cltu.octets) then Some cltu_error
-    else if nat_lt (free_octets m) (length cltu.octets) then Some unable_to_store
+    if m.blocked then Some refused.UnableToProcess
+    else if not (is_next m.next cltu.id) then Some refused.OutOfSequence
+    else if not (has_moment cltu.earliest && has_moment cltu.latest) then Some refused.InvalidTime
+    else if is_above (earliest_of cltu) (latest_of cltu) then Some refused.InconsistentTimeRange
+    else if is_above (Some now) (latest_of cltu) then Some refused.LateSldu
+    else if nat_lt longest_delay cltu.radiation_delay then Some refused.InvalidDelayTime
+    else if nat_lt m.longest (length cltu.octets) then Some refused.CltuError
+    else if nat_lt (free_octets m) (length cltu.octets) then Some refused.UnableToStore
     else None
 
 abbrev pub queued : Machine → Cltu → Machine
@@ -188,7 +206,8 @@ queued m cltu =
       received = one_more m.received;
     }
 
-abbrev pub queued_unless : Option ℕ → Machine → Cltu → Machine × Result Room CltuFault
+abbrev pub queued_unless : Option CltuTransferDataDiagnostic → Machine → Cltu
+    → Machine × Result Room CltuFault
 queued_unless None m cltu = (queued m cltu, Ok (room_of (queued m cltu)))
 queued_unless (Some diagnostic) m cltu = (m, Err (Refused diagnostic (room_of m)))
 
@@ -198,21 +217,25 @@ on_transfer m cltu now = queued_unless (refusal m cltu now) m cltu
 
 -- take --------------------------------------------------------------------------------------------
 
+abbrev pub is_operational : CltuProductionStatus → Bool
+is_operational Operational = true
+is_operational _ = false
+
 -- nothing radiates while the run is blocked, one is in the air, production isn't operational, or
 -- 1,000 notices wait
 abbrev pub is_idle : Machine → Bool
 is_idle m =
     m.blocked
     || is_some m.in_air
-    || not (m.production == operational)
+    || not (is_operational m.production)
     || nat_le many_notices (length m.notices)
 
 -- all that waits is discarded, the run is blocked, and the user is told
 abbrev pub expired : ℕ → Machine → Machine
 expired id m =
-    with_notice sldu_expired
+    with_notice kind.SlduExpired
     (record (discarded m) {
-      processed = processed.Some id None status_expired;
+      processed = processed.Some id None status.Expired;
       taken = one_more m.taken;
     })
 
@@ -227,10 +250,10 @@ radiating head others now m =
             run = m.run;
             id = head.id;
             began = in_micros now;
-            delay = head.delay;
+            radiation_delay = head.radiation_delay;
             wanted = head.wanted;
           });
-      processed = processed.Some head.id (Some (in_micros now)) status_started;
+      processed = processed.Some head.id (Some (in_micros now)) status.RadiationStarted;
       taken = one_more m.taken;
     }
 
@@ -276,18 +299,18 @@ landed m = record m { in_air = None }
 abbrev pub radiated_at : InAir → ℕ → Machine → Machine
 radiated_at a now m =
     record (landed m) {
-      processed = processed.Some a.id (Some a.began) status_radiated;
+      processed = processed.Some a.id (Some a.began) status.Radiated;
       ok = ok.Some a.id (in_micros now);
-      rests_until = now + a.delay * PICOS_A_MICRO;
+      rests_until = now + a.radiation_delay * PICOS_A_MICRO;
       radiated = one_more m.radiated;
     }
 
 -- the user is told of it where that is wanted, and then where nothing waits
 abbrev pub with_radiation_notice : Bool → Machine → Machine
-with_radiation_notice wanted m = if wanted then with_notice cltu_radiated m else m
+with_radiation_notice wanted m = if wanted then with_notice kind.CltuRadiated m else m
 
 abbrev pub with_empty_notice : Machine → Machine
-with_empty_notice m = if length m.waiting == 0 then with_notice buffer_empty m else m
+with_empty_notice m = if length m.waiting == 0 then with_notice kind.BufferEmpty m else m
 
 -- a radiation of the run ended
 abbrev pub ended : InAir → ℕ → Machine → Machine
@@ -307,10 +330,10 @@ on_done m run id now = on_done_of m.in_air m run id now
 -- production is interrupted, what waits is discarded, the run is blocked, and the user is told
 abbrev pub broken_off : InAir → Machine → Machine
 broken_off a m =
-    with_notice production_interrupted
+    with_notice kind.ProductionInterrupted
     (record (discarded (landed m)) {
-      processed = processed.Some a.id (Some a.began) status_interrupted;
-      production = interrupted;
+      processed = processed.Some a.id (Some a.began) status.Interrupted;
+      production = Interrupted;
     })
 
 abbrev pub on_interrupted_of : Option InAir → Machine → ℕ → ℕ → Machine
@@ -327,18 +350,19 @@ on_interrupted m run id = on_interrupted_of m.in_air m run id
 
 -- in a started run, production that changed to interrupted or halted discards what waits and blocks
 -- the run; these changes and the one to operational are told
-abbrev pub production_changed : Machine → Machine
-production_changed m =
-    if m.production == operational then with_production_notice production_operational m
-    else if m.production == interrupted
-    then with_production_notice production_interrupted (discarded m)
-    else if m.production == halted then with_production_notice production_halted (discarded m)
-    else m
+abbrev pub changed_to : CltuProductionStatus → Machine → Machine
+changed_to Operational m = with_production_notice kind.ProductionOperational m
+changed_to Configured m = m
+changed_to Interrupted m = with_production_notice kind.ProductionInterrupted (discarded m)
+changed_to Halted m = with_production_notice kind.ProductionHalted (discarded m)
 
-abbrev pub on_uplink : Machine → ℕ → ℕ → Machine
+abbrev pub is_same : CltuProductionStatus → CltuProductionStatus → Bool
+is_same a b = number_of a == number_of b
+
+abbrev pub on_uplink : Machine → CltuProductionStatus → UplinkStatus → Machine
 on_uplink m production status =
     let set : Machine = record m { production = production; status = status } in
-    if m.started && not (m.production == production) then production_changed set else set
+    if m.started && not (is_same m.production production) then changed_to production set else set
 
 -- what is told ------------------------------------------------------------------------------------
 

@@ -3,13 +3,15 @@ use Rattle.std.specs.Prelude.{◌≡◌, ℕ, ◌+◌, ◌<◌, ◌≤◌, zero,
 use Rattle.std.specs.Prelude.{Some, None, Ok, List, [], ◌∷◌, ◌++◌, length, map, slice_get, ◌-◌}
 use Rattle.std.specs.Prelude.{IsSomeAnd}
 use Rattle.std.specs.List.{filter_map, list_any, AllByRecursion}
+use Rattle.fcltu_numbers.specs.declared.cltu_production_status.CltuProductionStatus.TheVariants as production
+use Rattle.fcltu_numbers.specs.declared.cltu_notification_type.CltuNotificationType.{CltuNotificationType}
+use Rattle.fcltu_numbers.specs.declared.cltu_notification_type.CltuNotificationType.TheVariants as kind
+use Rattle.fcltu_numbers.specs.declared.cltu_status.CltuStatus.TheVariants as status
 use Rattle.cltu_queue.specs.declared.cltu.Cltu.{Cltu}
 use Rattle.cltu_queue.specs.declared.in_air.InAir.{InAir}
 use Rattle.cltu_queue.specs.declared.notice.Notice.{Notice}
 use Rattle.cltu_queue.specs.declared.processed.Processed.TheVariants as processed
 use Rattle.cltu_queue.specs.declared.taken.Taken.TheVariants.{Radiate}
-use Rattle.cltu_queue.specs.Numbers.{interrupted as broken, status_expired, status_interrupted}
-use Rattle.cltu_queue.specs.Numbers.{sldu_expired, production_interrupted}
 use Rattle.cltu_queue.specs.Times.{IsInWindow}
 use Rattle.cltu_queue.specs.Machine.{Machine, octets_of, free_octets, notice_of, is_this}
 use Rattle.cltu_queue.specs.Parts.{notices_before_take}
@@ -129,8 +131,8 @@ AreInTurn (radiation ∷ others) = AllByRecursion (IsBefore radiation) others ×
 -- the notice of a CLTU that expired
 abbrev pub expiry_notice : Machine → ℕ → Notice
 expiry_notice m id = record {
-  kind = sldu_expired;
-  processed = processed.Some id None status_expired;
+  kind = kind.SlduExpired;
+  processed = processed.Some id None status.Expired;
   ok = m.ok;
   production = m.production;
   status = m.status;
@@ -139,20 +141,20 @@ expiry_notice m id = record {
 -- the notice of a radiation that failed
 abbrev pub interruption_notice : Machine → InAir → Notice
 interruption_notice m a = record {
-  kind = production_interrupted;
-  processed = processed.Some a.id (Some a.began) status_interrupted;
+  kind = kind.ProductionInterrupted;
+  processed = processed.Some a.id (Some a.began) status.Interrupted;
   ok = m.ok;
-  production = broken;
+  production = production.Interrupted;
   status = m.status;
 }
 
 -- production stopped: what waited is discarded, so that all octets are free; the run is blocked;
--- and the last notice says so
-pub record StopsProduction (n : Machine) : Type 0 where
+-- and the last notice is of this kind
+pub record StopsProduction (kind : CltuNotificationType) (n : Machine) : Type 0 where
   pub empty : n.waiting ≡ []
   pub free : free_octets n ≡ n.room
   pub blocked : n.blocked ≡ true
-  pub notified : slice_get n.notices (length n.notices - 1) ≡ Some (notice_of n.production n)
+  pub notified : slice_get n.notices (length n.notices - 1) ≡ Some (notice_of kind n)
 
 -- a CLTU of this run, with this identification and these octets, goes into the air, where nothing
 -- was; its octets are free again

@@ -1,6 +1,7 @@
 // What the station's book answers a session.
 
 use crate::room::Room;
+use fcltu_numbers::{CltuStartDiagnostic, CltuTransferDataDiagnostic};
 
 /// What the book answers.
 #[derive(Clone, Copy, Debug, PartialEq, Eq)]
@@ -20,8 +21,8 @@ pub enum BookReply {
     },
     /// No run began.
     StartRefused {
-        /// The diagnostic of START, 0 or 1.
-        diagnostic: u8,
+        /// Why.
+        diagnostic: CltuStartDiagnostic,
     },
     /// The CLTU is queued.
     Taken {
@@ -30,8 +31,8 @@ pub enum BookReply {
     },
     /// The CLTU isn't queued.
     Rejected {
-        /// The diagnostic of TRANSFER-DATA, 0 to 7.
-        diagnostic: u8,
+        /// Why.
+        diagnostic: CltuTransferDataDiagnostic,
         /// The queue, which is as it was.
         room: Room,
     },

@@ -17,7 +17,7 @@ pub struct Cltu {
     /// The latest time at which its radiation may begin.
     pub latest: Option<Cds>,
     /// The least time to the next CLTU's beginning, in microseconds.
-    pub delay: u32,
+    pub radiation_delay: u32,
     /// Whether the user is to be told that it was radiated.
     pub wanted: bool,
     /// The octets to be radiated.

@@ -2,6 +2,7 @@
 
 use crate::memory::Memory;
 use crate::room::Room;
+use fcltu_numbers::CltuTransferDataDiagnostic;
 use std::error::Error;
 use std::fmt;
 
@@ -10,8 +11,8 @@ use std::fmt;
 pub enum CltuFault {
     /// The user is answered negatively.
     Refused {
-        /// The diagnostic of TRANSFER-DATA, 0 to 7.
-        diagnostic: u8,
+        /// Why.
+        diagnostic: CltuTransferDataDiagnostic,
         /// The queue, which is as it was.
         room: Room,
     },
@@ -23,7 +24,7 @@ impl fmt::Display for CltuFault {
     fn fmt<W: fmt::Write>(&self, f: &mut fmt::Formatter<W>) -> fmt::Result {
         match self {
             CltuFault::Refused { diagnostic, .. } => {
-                write!(f, "the CLTU is refused with diagnostic {diagnostic}")
+                write!(f, "the CLTU is refused: {diagnostic}")
             }
             CltuFault::Memory => Memory.fmt(f),
         }

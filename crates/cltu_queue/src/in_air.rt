@@ -10,8 +10,8 @@ pub(crate) struct InAir {
     pub id: u32,
     // When its radiation began.
     pub began: Cds,
-    // In microseconds.
-    pub delay: u32,
+    // The least time to the next one's beginning, in microseconds.
+    pub radiation_delay: u32,
     // Whether its end is to be told.
     pub wanted: bool,
 }

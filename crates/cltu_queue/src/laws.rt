@@ -1,8 +1,11 @@
 // Laws of the forward machine, each the contract of an empty function: a caller has the law by the
 // call.
-ghost use Rattle.std.specs.Prelude.{◌≡◌, ◌≢◌, ◌≤◌, ℕ, ◌⊎◌, Ok, Some, IsTrue, IsFalse, List, []};
+ghost use Rattle.std.specs.Prelude.{◌≡◌, ◌≢◌, ◌≤◌, ℕ, Ok, Some, IsTrue, IsFalse, List, []};
 ghost use Rattle.std.specs.Prelude.{length, ◌&&◌};
 ghost use Rattle.std.specs.List.{list_any};
+ghost use Rattle.fcltu_numbers.specs.declared.cltu_production_status.CltuProductionStatus.TheVariants.{Interrupted, Halted};
+ghost use Rattle.fcltu_numbers.specs.declared.cltu_notification_type.CltuNotificationType.TheVariants.{ProductionInterrupted, ProductionHalted};
+ghost use Rattle.fcltu_numbers.specs.declared.uplink_status.UplinkStatus.{UplinkStatus};
 ghost use Rattle.cltu_queue.specs.declared.in_air.InAir.{InAir};
 ghost use Rattle.cltu_queue.specs.declared.taken.Taken.TheVariants.{Expired, Radiate};
 ghost use Rattle.cltu_queue.specs.Machine.{Machine, new_machine, is_this, is_of_run, on_take};
@@ -60,9 +63,12 @@ pub fn what_is_discarded_is_notified()
     ensures interrupted { (m : Machine) (run id : ℕ) (a : InAir) → m.in_air ≡ Some a
         → IsTrue (is_this run id a && is_of_run m a)
         → DiscardsWithNotice m (on_interrupted m run id) (interruption_notice m a) }
-    ensures production { (m : Machine) (production status : ℕ) → IsTrue m.started
-        → m.production ≢ production → (production ≡ 2) ⊎ (production ≡ 3)
-        → StopsProduction (on_uplink m production status) }
+    ensures production_interrupted { (m : Machine) (status : UplinkStatus) → IsTrue m.started
+        → m.production ≢ Interrupted
+        → StopsProduction ProductionInterrupted (on_uplink m Interrupted status) }
+    ensures production_halted { (m : Machine) (status : UplinkStatus) → IsTrue m.started
+        → m.production ≢ Halted
+        → StopsProduction ProductionHalted (on_uplink m Halted status) }
 {}
 
 /// Whatever the events since a queue was made, the octets that wait are within its room, and at

@@ -19,7 +19,6 @@ mod last_ok;
 pub mod laws;
 mod memory;
 mod notice;
-mod numbers;
 mod processed;
 mod queue;
 mod room;

@@ -1,6 +1,7 @@
 // The CLTU that was processed last.
 
 use cds_time::Cds;
+use fcltu_numbers::CltuStatus;
 
 /// The CLTU that was processed last (CCSDS 912.1-B, cltu-last-processed).
 #[derive(Clone, Copy, Debug, PartialEq, Eq)]
@@ -13,7 +14,7 @@ pub enum Processed {
         id: u32,
         /// When its radiation began, where it did.
         start: Option<Cds>,
-        /// 0 radiated, 1 expired, 2 interrupted, 4 started.
-        status: u8,
+        /// What became of it.
+        status: CltuStatus,
     },
 }

@@ -1,6 +1,7 @@
 // The queue of CLTUs: the forward machine.
 ghost use Rattle.std.specs.Prelude.{◌≡◌, ◌<◌, ◌≤◌, length, IsTrue, IsFalse, IfOk, OnOk, OnErr};
 ghost use Rattle.cds_time.specs.declared.cds.TheConstants.{MOMENT_END};
+ghost use Rattle.cltu_queue.specs.Machine.{is_of_production};
 
 use crate::cltu::Cltu;
 use crate::cltu_fault::CltuFault;
@@ -8,7 +9,6 @@ use crate::in_air::InAir;
 use crate::last_ok::LastOk;
 use crate::memory::Memory;
 use crate::notice::Notice;
-use crate::numbers::{diagnostic, kind, production, status};
 use crate::processed::Processed;
 use crate::room::Room;
 use crate::taken::Taken;
@@ -16,6 +16,10 @@ use crate::times::{has_moment, is_above};
 use crate::uplink_view::UplinkView;
 use cds_time::{Cds, PICOS_A_MICRO};
 use circular_buffer::HeapCircularBuffer;
+use fcltu_numbers::{
+    CltuNotificationType, CltuProductionStatus, CltuStartDiagnostic, CltuStatus,
+    CltuTransferDataDiagnostic, UplinkStatus,
+};
 use std::alloc::Global;
 use std::collections::VecDeque;
 use std::marker::Model;
@@ -48,8 +52,8 @@ pub struct Queue {
     taken: u32,
     radiated: u32,
     notices: HeapCircularBuffer<Notice>,
-    production: u8,
-    status: u8,
+    production: CltuProductionStatus,
+    status: UplinkStatus,
 }
 
 impl Model for Queue {
@@ -70,7 +74,7 @@ impl Queue {
     ghost use Rattle.cltu_queue.specs.Machine.{with_production_notice, ends_with_production};
     ghost use Rattle.cltu_queue.specs.Machine.{is_idle, is_of_run, on_radiation, expired};
     ghost use Rattle.cltu_queue.specs.Machine.{with_radiation_notice, with_empty_notice};
-    ghost use Rattle.cltu_queue.specs.Machine.{production_changed, on_start, on_stop, on_transfer};
+    ghost use Rattle.cltu_queue.specs.Machine.{changed_to, on_start, on_stop, on_transfer};
     ghost use Rattle.cltu_queue.specs.Machine.{on_take, on_done, on_interrupted, on_uplink};
     ghost use Rattle.cltu_queue.specs.Machine.{on_notice, view_of};
     ghost use Rattle.cltu_queue.specs.CltuFault.{UnlessMemory, OnMemory};
@@ -97,8 +101,8 @@ impl Queue {
             taken: 0,
             radiated: 0,
             notices,
-            production: production::OPERATIONAL,
-            status: 3,
+            production: CltuProductionStatus::Operational,
+            status: UplinkStatus::Nominal,
         })
     }
 
@@ -110,16 +114,16 @@ impl Queue {
     }
 
     /// Begins a run, which awaits the CLTU `first`, or answers the diagnostic of START.
-    pub fn start(&mut self, first: u32) -> Result<(), u8>
+    pub fn start(&mut self, first: u32) -> Result<(), CltuStartDiagnostic>
         requires { IsFalse self.old.started }
         ensures after { self.new ≡ (on_start self.old first).0 }
         ensures reply { result ≡ (on_start self.old first).1 }
     {
-        if self.production == production::HALTED {
-            return Err(diagnostic::OUT_OF_SERVICE);
+        if self.production == CltuProductionStatus::Halted {
+            return Err(CltuStartDiagnostic::OutOfService);
         }
-        if self.production == production::INTERRUPTED || self.run == u64::MAX {
-            return Err(diagnostic::UNABLE_TO_COMPLY);
+        if self.production == CltuProductionStatus::Interrupted || self.run == u64::MAX {
+            return Err(CltuStartDiagnostic::UnableToComply);
         }
         self.run += 1;
         self.started = true;
@@ -162,25 +166,25 @@ impl Queue {
     }
 
     // The first diagnostic whose condition holds.
-    fn refusal(&self, cltu: &Cltu, now: u128) -> Option<u8>
+    fn refusal(&self, cltu: &Cltu, now: u128) -> Option<CltuTransferDataDiagnostic>
         ensures { result ≡ refusal self.now cltu.now now }
     {
         if self.blocked {
-            Some(diagnostic::UNABLE_TO_PROCESS)
+            Some(CltuTransferDataDiagnostic::UnableToProcess)
         } else if self.next != Some(cltu.id) {
-            Some(diagnostic::OUT_OF_SEQUENCE)
+            Some(CltuTransferDataDiagnostic::OutOfSequence)
         } else if !(has_moment(cltu.earliest) && has_moment(cltu.latest)) {
-            Some(diagnostic::INVALID_TIME)
+            Some(CltuTransferDataDiagnostic::InvalidTime)
         } else if is_above(cltu.earliest_moment(), cltu.latest_moment()) {
-            Some(diagnostic::INCONSISTENT_TIME_RANGE)
+            Some(CltuTransferDataDiagnostic::InconsistentTimeRange)
         } else if is_above(Some(now), cltu.latest_moment()) {
-            Some(diagnostic::LATE_SLDU)
-        } else if cltu.delay > LONGEST_DELAY {
-            Some(diagnostic::INVALID_DELAY_TIME)
+            Some(CltuTransferDataDiagnostic::LateSldu)
+        } else if cltu.radiation_delay > LONGEST_DELAY {
+            Some(CltuTransferDataDiagnostic::InvalidDelayTime)
         } else if cltu.octets.len() > self.longest as usize {
-            Some(diagnostic::CLTU_ERROR)
+            Some(CltuTransferDataDiagnostic::CltuError)
         } else if cltu.octets.len() > self.free as usize {
-            Some(diagnostic::UNABLE_TO_STORE)
+            Some(CltuTransferDataDiagnostic::UnableToStore)
         } else {
             None
         }
@@ -239,7 +243,7 @@ impl Queue {
     {
         self.in_air.is_some()
             || self.blocked
-            || self.production != production::OPERATIONAL
+            || self.production != CltuProductionStatus::Operational
             || self.notices.len() >= NOTICES_LIMIT
     }
 
@@ -252,10 +256,10 @@ impl Queue {
         self.processed = Processed::Some {
             id,
             start: None,
-            status: status::EXPIRED,
+            status: CltuStatus::Expired,
         };
         self.taken = self.taken.saturating_add(1);
-        self.notify(kind::SLDU_EXPIRED);
+        self.notify(CltuNotificationType::SlduExpired);
     }
 
     // The first CLTU that waits goes into the air.
@@ -274,13 +278,13 @@ impl Queue {
             run: self.run,
             id: head.id,
             began,
-            delay: head.delay,
+            radiation_delay: head.radiation_delay,
             wanted: head.wanted,
         });
         self.processed = Processed::Some {
             id: head.id,
             start: Some(began),
-            status: status::STARTED,
+            status: CltuStatus::RadiationStarted,
         };
         self.taken = self.taken.saturating_add(1);
         Taken::Radiate {
@@ -301,7 +305,7 @@ impl Queue {
 
     // A notice is made. There is room for it, since at most 1,000 wait when a CLTU goes into the
     // air.
-    fn notify(&mut self, kind: u8)
+    fn notify(&mut self, kind: CltuNotificationType)
         requires landed { self.old.in_air ≡ None }
         requires few { length self.old.notices ≤ 1001 }
         ensures { self.new ≡ with_notice kind self.old }
@@ -311,8 +315,8 @@ impl Queue {
     }
 
     // A notice of a change of production is made, in place of a last one of production.
-    fn notify_production(&mut self, kind: u8)
-        requires kind { (2 ≤ kind) × (kind ≤ 4) }
+    fn notify_production(&mut self, kind: CltuNotificationType)
+        requires kind { IsTrue (is_of_production kind) }
         ensures { self.new ≡ with_production_notice kind self.old }
     {
         let change = self.notice_of(kind);
@@ -322,7 +326,7 @@ impl Queue {
         self.notices.push_back(change);
     }
 
-    fn notice_of(&self, kind: u8) -> Notice
+    fn notice_of(&self, kind: CltuNotificationType) -> Notice
         ensures { result ≡ notice_of kind self.now }
     {
         Notice {
@@ -340,7 +344,7 @@ impl Queue {
     {
         self.notices
             .back()
-            .is_some_and(|last| (2..=4).contains(&last.kind))
+            .is_some_and(|last| is_of_production(last.kind))
     }
 
     /// The radiation of a CLTU ended at `now`.
@@ -359,13 +363,13 @@ impl Queue {
         self.processed = Processed::Some {
             id,
             start: Some(landed.began),
-            status: status::RADIATED,
+            status: CltuStatus::Radiated,
         };
         self.ok = LastOk::Some {
             id,
             stop: Cds::of_moment(now),
         };
-        self.rests_until = now + u128::from(landed.delay) * PICOS_A_MICRO;
+        self.rests_until = now + u128::from(landed.radiation_delay) * PICOS_A_MICRO;
         self.radiated = self.radiated.saturating_add(1);
         self.notify_radiated(landed.wanted);
         self.notify_empty();
@@ -378,7 +382,7 @@ impl Queue {
         ensures { self.new ≡ with_radiation_notice is_wanted self.old }
     {
         if is_wanted {
-            self.notify(kind::CLTU_RADIATED);
+            self.notify(CltuNotificationType::CltuRadiated);
         }
     }
 
@@ -389,7 +393,7 @@ impl Queue {
         ensures { self.new ≡ with_empty_notice self.old }
     {
         if self.waiting.is_empty() {
-            self.notify(kind::BUFFER_EMPTY);
+            self.notify(CltuNotificationType::BufferEmpty);
         }
     }
 
@@ -416,40 +420,46 @@ impl Queue {
         self.processed = Processed::Some {
             id,
             start: Some(broken.began),
-            status: status::INTERRUPTED,
+            status: CltuStatus::Interrupted,
         };
-        self.production = production::INTERRUPTED;
-        self.notify(kind::PRODUCTION_INTERRUPTED);
+        self.production = CltuProductionStatus::Interrupted;
+        self.notify(CltuNotificationType::ProductionInterrupted);
     }
 
     /// Production and uplink have these statuses from now on.
-    pub fn uplink(&mut self, production: u8, status: u8)
-        requires { (production ≤ 3) × (status ≤ 3) }
+    pub fn uplink(&mut self, production: CltuProductionStatus, status: UplinkStatus)
         ensures { self.new ≡ on_uplink self.old production status }
     {
         let changed = self.production != production;
         self.production = production;
         self.status = status;
         if self.started && changed {
-            self.change_production();
+            self.change_production(production);
         }
     }
 
     // What a change of production does in a started run.
-    fn change_production(&mut self)
-        ensures { self.new ≡ production_changed self.old }
+    #[tactic(auto, unfolding(crate::specs::Machine::is_of_production))]
+    fn change_production(&mut self, production: CltuProductionStatus)
+        ensures { self.new ≡ changed_to production self.old }
     {
-        match self.production {
-            production::OPERATIONAL => self.notify_production(kind::PRODUCTION_OPERATIONAL),
-            production::INTERRUPTED => self.stop_production(kind::PRODUCTION_INTERRUPTED),
-            production::HALTED => self.stop_production(kind::PRODUCTION_HALTED),
-            _ => {}
+        match production {
+            CltuProductionStatus::Operational => self.notify_production(
+                CltuNotificationType::ProductionOperational,
+            ),
+            CltuProductionStatus::Interrupted => self.stop_production(
+                CltuNotificationType::ProductionInterrupted,
+            ),
+            CltuProductionStatus::Halted => self.stop_production(
+                CltuNotificationType::ProductionHalted,
+            ),
+            CltuProductionStatus::Configured => {}
         }
     }
 
     // What waits is discarded, and a notice of production is made.
-    fn stop_production(&mut self, kind: u8)
-        requires kind { (2 ≤ kind) × (kind ≤ 4) }
+    fn stop_production(&mut self, kind: CltuNotificationType)
+        requires kind { IsTrue (is_of_production kind) }
         ensures { self.new ≡ with_production_notice kind (discarded self.old) }
     {
         self.discard();
@@ -479,4 +489,17 @@ impl Queue {
             free: self.free,
         }
     }
+}
+
+// Whether a notice tells a change of production.
+#[tactic(auto, unfolding(crate::specs::Machine::is_of_production))]
+fn is_of_production(kind: CltuNotificationType) -> bool
+    ensures { result ≡ is_of_production kind }
+{
+    matches!(
+        kind,
+        CltuNotificationType::ProductionInterrupted
+            | CltuNotificationType::ProductionHalted
+            | CltuNotificationType::ProductionOperational
+    )
 }

@@ -2,6 +2,7 @@
 
 use crate::last_ok::LastOk;
 use crate::processed::Processed;
+use fcltu_numbers::{CltuProductionStatus, UplinkStatus};
 
 /// The numbers of CLTU-STATUS-REPORT (CCSDS 912.1-B). The counts are of the run, and stay at
 /// 4,294,967,295.
@@ -11,10 +12,10 @@ pub struct UplinkView {
     pub processed: Processed,
     /// The CLTU that was radiated last without a fault.
     pub ok: LastOk,
-    /// The production status: 0 operational, 1 configured, 2 interrupted, 3 halted.
-    pub production: u8,
-    /// The uplink status, 0 to 3.
-    pub status: u8,
+    /// The production status.
+    pub production: CltuProductionStatus,
+    /// The uplink status.
+    pub status: UplinkStatus,
     /// How many CLTUs were accepted.
     pub received: u32,
     /// How many takes radiated a CLTU or found it expired.
