@@ -1,15 +1,15 @@
 // Why a CLTU isn't queued.
 
-use crate::memory::Memory;
 use crate::room::Room;
 use fcltu_numbers::CltuTransferDataDiagnostic;
-use std::error::Error;
-use std::fmt;
+use octet_core::Memory;
+use thiserror::Error;
 
 /// Why a CLTU isn't queued.
-#[derive(Clone, Copy, Debug, PartialEq, Eq)]
+#[derive(Clone, Copy, Debug, PartialEq, Eq, Error)]
 pub enum CltuFault {
     /// The user is answered negatively.
+    #[error("the CLTU is refused: {diagnostic}")]
     Refused {
         /// Why.
         diagnostic: CltuTransferDataDiagnostic,
@@ -17,21 +17,9 @@ pub enum CltuFault {
         room: Room,
     },
     /// Memory was refused, and the queue is as it was.
+    #[error("out of memory")]
     Memory,
 }
-
-impl fmt::Display for CltuFault {
-    fn fmt<W: fmt::Write>(&self, f: &mut fmt::Formatter<W>) -> fmt::Result {
-        match self {
-            CltuFault::Refused { diagnostic, .. } => {
-                write!(f, "the CLTU is refused: {diagnostic}")
-            }
-            CltuFault::Memory => Memory.fmt(f),
-        }
-    }
-}
-
-impl Error for CltuFault {}
 
 impl From<Memory> for CltuFault {
     ghost use Rattle.std.specs.Prelude.{◌≡◌};

@@ -7,7 +7,6 @@ use crate::cltu::Cltu;
 use crate::cltu_fault::CltuFault;
 use crate::in_air::InAir;
 use crate::last_ok::LastOk;
-use crate::memory::Memory;
 use crate::notice::Notice;
 use crate::processed::Processed;
 use crate::room::Room;
@@ -20,6 +19,7 @@ use fcltu_numbers::{
     CltuNotificationType, CltuProductionStatus, CltuStartDiagnostic, CltuStatus,
     CltuTransferDataDiagnostic, UplinkStatus,
 };
+use octet_core::Memory;
 use std::alloc::Global;
 use std::collections::VecDeque;
 use std::marker::Model;
