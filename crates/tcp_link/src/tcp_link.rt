@@ -134,6 +134,7 @@ impl TcpLink {
         if !self.send_rest()? {
             return Ok(false);
         }
+        self.set_blocking(false)?;
         self.send_block(octets)?;
         self.is_busy = true;
         Ok(true)
@@ -197,10 +198,7 @@ fn write_some(stream: &mut TcpStream, octets: &[u8]) -> io::Result<usize>
 
 // Whether a call came to nothing yet.
 fn is_early(error: &io::Error) -> bool {
-    matches!(
-        error.kind(),
-        ErrorKind::WouldBlock | ErrorKind::TimedOut | ErrorKind::Interrupted
-    )
+    matches!(error.kind(), ErrorKind::WouldBlock | ErrorKind::Interrupted)
 }
 
 impl Link for TcpLink {
