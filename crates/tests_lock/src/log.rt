@@ -8,8 +8,8 @@ ghost use mathlib.Core.List.{[]};
 use std::alloc::{AllocError, Global};
 use std::rt::Clock;
 use std::sync::Wait;
-use std::thread;
 use std::time::Duration;
+use std::{hint, thread};
 use turn_lock::{HistoryEvent, LockFault, Names, Pass, StandsFor, Turn, Turns};
 
 /// A line was written. It is no value of the program, and can't be dropped.
@@ -50,7 +50,7 @@ impl Log {
 
 /// A lock over a list without lines, with so many turns.
 pub fn lock_of(alloc: Global, turns: u64) -> Result<(Turns<Log, Line>, Pass<Line>), LockFault>
-    requires { (1 ≤ turns) × (turns ≤ 200) }
+    requires { (1 ≤ turns) × (turns ≤ 2000) }
     ensures { IfOk result (λ r. (r.1.lock ≡ Some r.0) × (r.1.standing ≡ Ready)
         × (r.1.left ≡ turns)) }
 {
@@ -88,13 +88,35 @@ fn commit_line(lock: &Turns<Log, Line>, pass: &mut Pass<Line>, turn: Turn<Log, L
     lock.commit(pass, turn);
 }
 
+/// How long a turn is held.
+#[derive(Clone, Copy)]
+pub enum Hold {
+    /// For a time.
+    Time(Duration),
+    /// For so many looks of one who waits.
+    Looks(u64),
+}
+
+impl Hold {
+    fn pass<R: Clock>(self, rt: &R) {
+        match self {
+            Hold::Time(time) => thread::sleep(rt, time),
+            Hold::Looks(looks) => {
+                for _ in 0..looks {
+                    hint::spin_loop();
+                }
+            }
+        }
+    }
+}
+
 /// Writes a line in a turn that is held for so long, or leaves it where there is no memory.
 pub fn write_line<R: Wait + Clock>(
     rt: &R,
     lock: &Turns<Log, Line>,
     pass: &mut Pass<Line>,
     by: u32,
-    hold: Duration,
+    hold: Hold,
 ) -> Result<(), AllocError>
     requires lock { pass.old.lock ≡ Some lock.now }
     requires ready { (pass.old.standing ≡ Ready) × (0 < pass.old.left) }
@@ -102,7 +124,7 @@ pub fn write_line<R: Wait + Clock>(
         × (pass.new.left + 1 ≡ pass.old.left) }
 {
     let mut turn = lock.enter(rt, pass);
-    thread::sleep(rt, hold);
+    hold.pass(rt);
     match turn.value_mut().push(by) {
         Ok(()) => {
             commit_line(lock, pass, turn, by);

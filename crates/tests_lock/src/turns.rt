@@ -1,9 +1,8 @@
 // Turns of one thread.
-use crate::log::{Author, lock_of, write_line};
+use crate::log::{Author, Hold, lock_of, write_line};
 use std::alloc::AllocError;
 use std::marker::Send;
 use std::test::Fail;
-use std::time::Duration;
 use turn_lock::LockFault;
 
 #[test]
@@ -46,7 +45,7 @@ fn a_line_is_named_by_its_author(rt: HostRuntime) -> Result<(), Fail> {
 fn a_lock_is_closed_beside_a_pass_that_entered_no_turn(rt: HostRuntime) -> Result<(), Fail> {
     let (lock, mut pass) = lock_of(rt.alloc(), 3)?;
     let unused = lock.split(&mut pass, 2)?;
-    write_line(&rt, &lock, &mut pass, 1, Duration::ZERO)?;
+    write_line(&rt, &lock, &mut pass, 1, Hold::Looks(0))?;
     let Ok((log, _)) = lock.close(pass) else {
         panic!(rt; "the other pass entered no turn")
     };
@@ -58,7 +57,7 @@ fn a_lock_is_closed_beside_a_pass_that_entered_no_turn(rt: HostRuntime) -> Resul
 fn a_lock_is_handed_back_while_another_pass_has_entered(rt: HostRuntime) -> Result<(), Fail> {
     let (lock, mut pass) = lock_of(rt.alloc(), 2)?;
     let mut other = lock.split(&mut pass, 1)?;
-    write_line(&rt, &lock, &mut other, 1, Duration::ZERO)?;
+    write_line(&rt, &lock, &mut other, 1, Hold::Looks(0))?;
     let Err((lock, mut pass)) = lock.close(pass) else {
         panic!(rt; "a pass was outside")
     };

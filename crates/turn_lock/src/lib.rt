@@ -13,8 +13,8 @@
 // Waiting: a thread draws a ticket by one fetch_add and looks which ticket is served. While that is
 // another, it looks up to a hundred times more, and then sleeps on the low 32 bits of the word. The
 // end of a turn serves the next ticket and wakes all sleepers, of which one goes on and the others
-// sleep again; it makes no call of the system where no further ticket was drawn. A turn with nobody
-// waiting costs three atomic steps to enter and three to end, whatever the value is.
+// sleep again. A turn with nobody waiting costs three atomic steps to enter, and three and one call
+// of the system to end, whatever the value is.
 //
 // No contract says that a thread gets on: `enter` returns once every turn with an earlier ticket
 // has ended, and never where one of these was dropped.

@@ -272,7 +272,8 @@ fn add<N: Naming<E>, T: StandsFor<E>, E: HistoryEvent>(words: &Words<T, E>, seat
     words.fetch_add::<Add<N>>(seat, COUNT, 1);
 }
 
-/// Gives the value back, serves the next ticket, and wakes those who wait for it.
+/// Gives the value back, serves the next ticket, and wakes all who wait. It wakes also where no
+/// further ticket seems to be drawn, so that no order of two threads' steps can lose a wakeup.
 fn end_turn<T: StandsFor<E>, E: HistoryEvent>(words: &Words<T, E>, seat: &mut Place<T, E>, value: T)
     requires table { IsSeatOf words.now.table_id seat.old
         × (words.now.key.turns ≤ 2 ^ 62) }
@@ -284,10 +285,8 @@ fn end_turn<T: StandsFor<E>, E: HistoryEvent>(words: &Words<T, E>, seat: &mut Pl
 {
     let out = words.exchange(seat, 0, Some(value));
     let None = out else { unreachable!() };
-    let served = words.fetch_add::<End>(seat, SERVING, 1);
-    if words.peek(TICKET) != served.wrapping_add(1) {
-        words.wake_all(SERVING);
-    }
+    words.fetch_add::<End>(seat, SERVING, 1);
+    words.wake_all(SERVING);
 }
 
 impl<T: StandsFor<E>, E: HistoryEvent> Turns<T, E> {

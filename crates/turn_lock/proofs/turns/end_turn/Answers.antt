@@ -5,8 +5,8 @@ use Rattle.turn_lock.specs.Steps.{list_of}
 use Rattle.turn_lock.proofs.Keeping.{ends, some_is}
 use Rattle.turn_lock.proofs.turns.end_turn.Goals as goal
 
-pub fetch_add-served-requires : goal.fetch_add-served-requires
-fetch_add-served-requires g c =
+pub fetch_add-requires : goal.fetch_add-requires
+fetch_add-requires g c =
     let x = c.args.value in
     let now = c.exchange-out.ensures.3 in
     let h = some_is c.args.seat.now.me.0.kept c.requires.holds.1 in
