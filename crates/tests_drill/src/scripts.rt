@@ -1,12 +1,11 @@
 // Lines of scripts. What is expected was written by hand from the forms of the lines.
 //
 // A row is a line up to `|`; what it says, as its derived `Debug` writes it, stands behind ` = `,
-// where a row has it.
-use cds_time::Rest;
+// where a row has it. Octets stand in it as a list, and an identifier as its text.
 use drill_text::{AskLine, LineFault, ScriptLine, laws, parse_line, write_entry_line};
-use octet_core::Octets;
+use octet_core::{Memory, Octets};
 use record_form::Entry;
-use std::alloc::Global;
+use std::alloc::{AllocError, Global};
 use std::process::Abort;
 use std::test::Fail;
 
@@ -25,15 +24,24 @@ fn wrong_line<'a>(alloc: Global, rows: &'a str, should_be_bad: bool) -> Option<&
     None
 }
 
-// The good lines are in the grammar, and the bad ones aren't.
-fn check(rt: &impl Abort, alloc: Global, good: &str, bad: &str) {
-    assert_eq!(rt; wrong_line(alloc, good, false), None);
-    assert_eq!(rt; wrong_line(alloc, bad, true), None);
-}
+// Rows, and whether they are outside the grammar.
+const GRAMMAR: [(&str, bool); 9] = [
+    (ENTRIES, false),
+    (BAD_ENTRIES, true),
+    (CONNECTIONS, false),
+    (BAD_CONNECTIONS, true),
+    (DEVICES, false),
+    (BAD_DEVICES, true),
+    (MESSAGES, false),
+    (BAD_MESSAGES, true),
+    (BAD_WORDS, true),
+];
 
 #[test]
-fn entries_end_at_their_ranges(rt: HostRuntime) {
-    check(&rt, rt.alloc(), ENTRIES, BAD_ENTRIES);
+fn lines_end_at_their_ranges(rt: HostRuntime) {
+    for (rows, should_be_bad) in GRAMMAR {
+        assert_eq!(rt; wrong_line(rt.alloc(), rows, should_be_bad), None);
+    }
 }
 
 const ENTRIES: &str = "
@@ -69,11 +77,6 @@ production 3|
 production|
 mark none|
 mark 0/0/0 0|";
-
-#[test]
-fn lines_of_the_desk_and_of_links_end_at_their_ranges(rt: HostRuntime) {
-    check(&rt, rt.alloc(), CONNECTIONS, BAD_CONNECTIONS);
-}
 
 const CONNECTIONS: &str = "
 start 0/0/0 65535/86399999/999 0|
@@ -113,11 +116,6 @@ stall 17 1|
 stall 1 0|
 stall 1 1001|";
 
-#[test]
-fn lines_of_the_antenna_and_of_the_disk_end_at_their_ranges(rt: HostRuntime) {
-    check(&rt, rt.alloc(), DEVICES, BAD_DEVICES);
-}
-
 const DEVICES: &str = "
 take|
 take fail|
@@ -144,11 +142,6 @@ crash 0 Old|
 crash 0|
 fault 0|
 fault 1001|";
-
-#[test]
-fn messages_end_at_their_ranges(rt: HostRuntime) {
-    check(&rt, rt.alloc(), MESSAGES, BAD_MESSAGES);
-}
 
 const MESSAGES: &str = "
 ask 1 context 0 65535|
@@ -204,16 +197,7 @@ ask 1 cltu 0 none none 0 0 |
 ask 1 throw 0 7|
 ask 1 Stop|";
 
-#[test]
-fn words_are_one_blank_apart_and_first_words_are_known(rt: HostRuntime) -> Result<(), Fail> {
-    check(&rt, rt.alloc(), "", BAD_WORDS);
-    assert!(rt; is_bad(rt.alloc(), b"open 1\n"));
-    for line in [b"".as_slice(), b"#", b"# a comment\t\r\xff", b"#open 17"] {
-        assert!(rt; matches!(parse_line(rt.alloc(), line), Ok(ScriptLine::Skip)));
-    }
-    Ok(())
-}
-
+// Words are one blank apart, and first words are known.
 const BAD_WORDS: &str = "
  |
  open 1|
@@ -230,14 +214,76 @@ site|
 end|
 gear 1|
 throw 1 2|
-sent 1 00|";
+sent 1 00|
+open 1\n|";
+
+// Lines that say nothing: the empty one, and comments.
+const SKIPPED: [&[u8]; 4] = [b"", b"#", b"# a comment\t\r\xff", b"#open 17"];
+
+fn is_skipped(alloc: Global, line: &[u8]) -> bool {
+    matches!(parse_line(alloc, line), Ok(ScriptLine::Skip))
+}
+
+#[test]
+fn empty_lines_and_comments_are_skipped(rt: HostRuntime) {
+    for line in SKIPPED {
+        assert!(rt; is_skipped(rt.alloc(), line));
+    }
+}
+
+// What a message says; octets as a list, and an identifier as its text.
+fn ask_told(alloc: Global, ask: &AskLine) -> Result<String, AllocError> {
+    match ask {
+        AskLine::Bind {
+            name,
+            service,
+            version,
+            id,
+        } => format!(in alloc;
+            "Bind {{ name: {:?}, service: {service:?}, version: {version}, id: {id} }}",
+            name.as_slice()
+        ),
+        AskLine::Cltu {
+            id,
+            earliest,
+            latest,
+            delay,
+            wanted,
+            octets,
+        } => format!(in alloc;
+            "Cltu {{ id: {id}, earliest: {earliest:?}, latest: {latest:?}, delay: {delay}, \
+            wanted: {wanted}, octets: {:?} }}",
+            octets.as_slice()
+        ),
+        _ => format!(in alloc; "{ask:?}"),
+    }
+}
+
+fn said(alloc: Global, line: &ScriptLine) -> Result<String, AllocError> {
+    match line {
+        ScriptLine::Piece { c, octets } => {
+            format!(in alloc; "Piece {{ c: {c}, octets: {:?} }}", octets.as_slice())
+        }
+        ScriptLine::Ask { c, ask } => {
+            let ask = ask_told(alloc, ask)?;
+            format!(in alloc; "Ask {{ c: {c}, ask: {ask} }}")
+        }
+        _ => format!(in alloc; "{line:?}"),
+    }
+}
+
+fn told(alloc: Global, line: &[u8]) -> Result<String, AllocError> {
+    match parse_line(alloc, line) {
+        Ok(line) => said(alloc, &line),
+        Err(fault) => format!(in alloc; "{fault}"),
+    }
+}
 
 // The first row whose line doesn't say so.
-fn wrong_row<'a>(alloc: Global, rows: &'a str) -> Result<Option<&'a str>, Fail> {
+fn wrong_row<'a>(alloc: Global, rows: &'a str) -> Result<Option<&'a str>, AllocError> {
     for row in rows.split_terminator('|') {
         let (line, value) = row.split_once(" = ").unwrap_or((row, ""));
-        let says = parse_line(alloc, line.trim_start().as_bytes())?;
-        let told = format!(in alloc; "{says:?}")?;
+        let told = told(alloc, line.trim_start().as_bytes())?;
         if !told.split_whitespace().eq(value.split_whitespace()) {
             return Ok(Some(row));
         }
@@ -246,9 +292,8 @@ fn wrong_row<'a>(alloc: Global, rows: &'a str) -> Result<Option<&'a str>, Fail> 
 }
 
 #[test]
-fn each_word_comes_to_its_place(rt: HostRuntime) -> Result<(), Fail> {
-    assert_eq!(rt; wrong_row(rt.alloc(), SAID)?, None);
-    Ok(())
+fn each_word_comes_to_its_place(rt: HostRuntime) {
+    assert_eq!(rt; wrong_row(rt.alloc(), SAID), Ok(None));
 }
 
 const SAID: &str = "
@@ -284,111 +329,105 @@ ask 1 stop = Ask { c: 1, ask: Stop }|
 ask 1 report now = Ask { c: 1, ask: Report(Now) }|
 ask 1 report 60 = Ask { c: 1, ask: Report(Cycle(60)) }|
 ask 1 report stop = Ask { c: 1, ask: Report(Stop) }|
-ask 1 get 27 = Ask { c: 1, ask: Get { name: 27 } }|";
+ask 1 get 27 = Ask { c: 1, ask: Get { name: 27 } }|
+in 9 0aFf = Piece { c: 9, octets: [10, 255] }|
+ask 3 bind MOC 2 5 sagr=1.cltu=x = Ask { c: 3, ask: Bind { name: [77, 79, 67], service: 2,
+    version: 5, id: sagr=1.cltu=x } }|
+ask 1 cltu 7 none 20000/0/10 8 1 aa0007 = Ask { c: 1, ask: Cltu { id: 7, earliest: None,
+    latest: Some(Cds { days: 20000, millis: 0, rest: Micros(10) }), delay: 8, wanted: false,
+    octets: [170, 0, 7] } }|";
 
-// A line of `head`, so many digits and `tail`.
-fn long_line(alloc: Global, head: &[u8], digits: usize, tail: &[u8]) -> Result<Vec<u8>, Fail> {
-    let mut line = Vec::new(alloc);
-    line.extend_from_slice(head)?;
-    for _ in 0..digits {
-        line.push(b'0')?;
+// A line of `head`, so many octets 00 and `tail`.
+fn long_line(
+    alloc: Global,
+    head: &[u8],
+    octets: usize,
+    tail: &[u8],
+) -> Result<Vec<u8>, AllocError> {
+    let mut line = Vec::from_slice(alloc, head)?;
+    for _ in 0..octets {
+        line.extend_from_slice(b"00")?;
     }
     line.extend_from_slice(tail)?;
     Ok(line)
 }
 
+// Pieces and CLTUs have at most 65,536 octets.
+const LONG: [(&[u8], usize, bool); 4] = [
+    (b"in 1 ", 65_536, false),
+    (b"in 1 ", 65_537, true),
+    (b"ask 1 cltu 0 none none 0 0 ", 65_536, false),
+    (b"ask 1 cltu 0 none none 0 0 ", 65_537, true),
+];
+
 #[test]
-fn pieces_and_cltus_have_at_most_65536_octets_and_frames_any_number(
-    rt: HostRuntime,
-) -> Result<(), Fail> {
-    for head in [b"in 1 ".as_slice(), b"ask 1 cltu 0 none none 0 0 "] {
-        let longest = long_line(rt.alloc(), head, 131_072, b"")?;
-        assert!(rt; parse_line(rt.alloc(), longest.as_slice()).is_ok());
-        let longer = long_line(rt.alloc(), head, 131_072, b"00")?;
-        assert!(rt; is_bad(rt.alloc(), longer.as_slice()));
+fn pieces_and_cltus_have_at_most_65536_octets(rt: HostRuntime) -> Result<(), Fail> {
+    for (head, octets, should_be_bad) in LONG {
+        let line = long_line(rt.alloc(), head, octets, b"")?;
+        assert_eq!(rt; is_bad(rt.alloc(), &line), should_be_bad);
     }
-    let frame = long_line(rt.alloc(), b"frame 0/0/0 0 41 0 ", 131_072, b"ff")?;
-    let Ok(ScriptLine::Offer(Entry::Frame { octets, .. })) = parse_line(
-        rt.alloc(),
-        frame.as_slice(),
-    ) else {
-        return Err(Fail::from("no frame"));
-    };
-    assert_eq!(rt; octets.len(), 65_537);
-    assert_eq!(rt; octets.as_slice().last().copied(), Some(0xff));
     Ok(())
 }
 
+// The line that offers a storable entry, behind another one.
+fn append(alloc: Global, entry: &Entry, into: &mut Octets) -> Result<(), Memory> {
+    if entry.is_storable() {
+        write_entry_line(alloc, entry, into)
+    } else {
+        Ok(())
+    }
+}
+
+// The line that offers an entry again.
+fn append_again(alloc: Global, line: &[u8], into: &mut Octets) -> Result<(), Memory> {
+    match parse_line(alloc, line) {
+        Ok(ScriptLine::Offer(entry)) => append(alloc, &entry, into),
+        _ => Ok(()),
+    }
+}
+
+// The line behind another one.
+fn line_behind(text: &[u8]) -> Option<&[u8]> {
+    text.strip_prefix(b"made\n")?.strip_suffix(b"\n")
+}
+
+// An entry is written as the line that offers it.
+fn is_written_so(alloc: Global, line: &[u8]) -> Result<bool, Memory> {
+    let mut text = Octets::copy_of(alloc, b"made\n")?;
+    append_again(alloc, line, &mut text)?;
+    Ok(line_behind(text.as_slice()) == Some(line))
+}
+
+const OFFERS: [&[u8]; 5] = [
+    b"frame 20000/1000/0 0 41 0 0010a1",
+    b"frame 65535/86399999/999999999p 2 00ff 16777215 ff",
+    b"loss 1/2/3 1 2 3",
+    b"production 2",
+    b"mark 0/0/0p",
+];
+
 #[test]
-fn octets_and_names_are_those_of_the_line(rt: HostRuntime) -> Result<(), Fail> {
-    let Ok(ScriptLine::Piece { c, octets }) = parse_line(rt.alloc(), b"in 9 0aFf") else {
-        return Err(Fail::from("no piece"));
-    };
-    assert_eq!(rt; (c, octets.as_slice()), (9, [10, 255].as_slice()));
-    let bind = b"ask 3 bind MOC 2 5 sagr=1.cltu=x";
-    let Ok(
-        ScriptLine::Ask {
-            c: 3,
-            ask: AskLine::Bind {
-                name,
-                service: 2,
-                version: 5,
-                id,
-            },
-        },
-    ) = parse_line(rt.alloc(), bind)
-    else {
-        return Err(Fail::from("no BIND"));
-    };
-    assert_eq!(rt; name.as_slice(), b"MOC".as_slice());
-    assert_eq!(rt; format!(in rt.alloc(); "{}", id)?.as_str(), "sagr=1.cltu=x");
-    let cltu = b"ask 1 cltu 7 none 20000/0/10 8 1 aa0007";
-    let Ok(
-        ScriptLine::Ask {
-            ask: AskLine::Cltu {
-                id: 7,
-                earliest: None,
-                latest: Some(latest),
-                delay: 8,
-                wanted: false,
-                octets,
-            },
-            ..
-        },
-    ) = parse_line(rt.alloc(), cltu)
-    else {
-        return Err(Fail::from("no CLTU"));
-    };
-    assert_eq!(rt;
-        (latest.days, latest.millis, latest.rest),
-        (20_000, 0, Rest::Micros(10))
-    );
-    assert_eq!(rt; octets.as_slice(), [0xaa, 0, 7].as_slice());
-    Ok(())
+fn an_entry_is_written_as_the_line_that_offers_it(rt: HostRuntime) {
+    for line in OFFERS {
+        assert_eq!(rt; is_written_so(rt.alloc(), line), Ok(true));
+    }
+}
+
+// The number of a frame's octets, and the last one.
+fn frame_end(alloc: Global, line: &[u8]) -> Option<(usize, u8)> {
+    match parse_line(alloc, line) {
+        Ok(ScriptLine::Offer(Entry::Frame { octets, .. })) => {
+            let last = octets.as_slice().last()?;
+            Some((octets.len(), *last))
+        }
+        _ => None,
+    }
 }
 
 #[test]
-fn an_entry_is_written_as_the_line_that_offers_it(rt: HostRuntime) -> Result<(), Fail> {
-    let lines = [
-        b"frame 20000/1000/0 0 41 0 0010a1".as_slice(),
-        b"frame 65535/86399999/999999999p 2 00ff 16777215 ff",
-        b"loss 1/2/3 1 2 3",
-        b"production 2",
-        b"mark 0/0/0p",
-    ];
-    for line in lines {
-        let Ok(ScriptLine::Offer(entry)) = parse_line(rt.alloc(), line) else {
-            return Err(Fail::from("no entry"));
-        };
-        assert!(rt; entry.is_storable());
-        let mut text = Octets::copy_of(rt.alloc(), b"made\n")?;
-        write_entry_line(rt.alloc(), &entry, &mut text)?;
-        let mut expected = Octets::copy_of(rt.alloc(), b"made\n")?;
-        expected.append(line)?;
-        expected.append(b"\n")?;
-        assert!(rt; text == expected);
-    }
-    laws::script_is_exact();
+fn frames_have_any_number_of_octets(rt: HostRuntime) -> Result<(), Fail> {
+    let line = long_line(rt.alloc(), b"frame 0/0/0 0 41 0 ", 65_536, b"ff")?;
+    assert_eq!(rt; frame_end(rt.alloc(), &line), Some((65_537, 0xff)));
     Ok(())
 }
 
@@ -397,4 +436,10 @@ fn faults_have_words_of_their_own(rt: HostRuntime) -> Result<(), Fail> {
     let words = format!(in rt.alloc(); "{}, {}", LineFault::Bad, LineFault::Memory)?;
     assert_eq!(rt; words.as_str(), "bad line, out of memory");
     Ok(())
+}
+
+#[test]
+fn the_laws_of_lines_are_there() {
+    laws::script_is_exact();
+    laws::transcript_is_exact();
 }
