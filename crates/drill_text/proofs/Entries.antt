@@ -9,6 +9,15 @@ use Rattle.cds_time.specs.declared.cds.Rest.TheVariants.{Micros, Picos}
 use Rattle.record_form.specs.Entry.{entry_of}
 use Rattle.record_form.specs.declared.entry.Entry.{Entry}
 use Rattle.record_form.specs.declared.entry.Entry.TheVariants.{Frame, LossOfSync, Production, Seal}
+use Rattle.sle_numbers.specs.FrameQuality.{number_of as quality_number}
+use Rattle.sle_numbers.specs.LockStatus.{number_of as lock_number}
+use Rattle.sle_numbers.specs.ReturnProductionStatus.{number_of as production_number}
+use Rattle.sle_numbers.specs.declared.frame_quality.FrameQuality.{FrameQuality}
+use Rattle.sle_numbers.specs.declared.frame_quality.FrameQuality.TheVariants as quality
+use Rattle.sle_numbers.specs.declared.lock_status.LockStatus.{LockStatus}
+use Rattle.sle_numbers.specs.declared.lock_status.LockStatus.TheVariants as lock
+use Rattle.sle_numbers.specs.declared.return_production_status.ReturnProductionStatus.{ReturnProductionStatus}
+use Rattle.sle_numbers.specs.declared.return_production_status.ReturnProductionStatus.TheVariants as production
 use Rattle.words.specs.Times.{time, rest}
 use Rattle.drill_text.proofs.Scripts.{lines_are_exact}
 use Rattle.drill_text.specs.Reading.{reading, canonical, Fits, HasOctets, HasValidEntry, Reads}
@@ -61,6 +70,22 @@ fields_of_moment days millis (Picos n) is = let h = fields_picos days millis n i
 moment_time : (at : Cds) → IsTrue (is_moment at) → time.Fits at
 moment_time at is = fields_of_moment at.days at.millis at.rest is
 
+quality_small : (q : FrameQuality) → quality_number q ≤ 2
+quality_small quality.Good = omega arith
+quality_small quality.Erred = omega arith
+quality_small quality.Undetermined = omega arith
+
+lock_small : (l : LockStatus) → lock_number l ≤ 3
+lock_small lock.InLock = omega arith
+lock_small lock.OutOfLock = omega arith
+lock_small lock.NotInUse = omega arith
+lock_small lock.Unknown = omega arith
+
+production_small : (p : ReturnProductionStatus) → production_number p ≤ 2
+production_small production.Running = omega arith
+production_small production.Interrupted = omega arith
+production_small production.Halted = omega arith
+
 -- what fits a line is valid
 entry_valid : (e : Entry) → Fits (Offer e) → IsTrue (is_valid (entry_of e))
 entry_valid (Frame ert quality antenna lost octets) fits =
@@ -68,10 +93,11 @@ entry_valid (Frame ert quality antenna lost octets) fits =
     let antenna_some = fits.1.1.0.some in
     let antenna_few = fits.1.1.0.few in
     let octets_some = fits.1.1.1.1.some in
+    let small = quality_small quality in
     grind (arith, nat_tests)
 entry_valid (LossOfSync at carrier subcarrier symbol) fits = let is = time_moment at fits.0 in
-    grind (arith, nat_tests)
-entry_valid (Production status) fits = grind (arith, nat_tests)
+    grind (arith, nat_tests, lock_small carrier, lock_small subcarrier, lock_small symbol)
+entry_valid (Production status) fits = grind (arith, nat_tests, production_small status)
 entry_valid (Seal at) fits = time_moment at fits
 
 line_valid : (says : ScriptLine) → Fits says → HasValidEntry says
@@ -94,7 +120,7 @@ storable_fits (Frame ert quality antenna lost octets) is all =
     let at : IsTrue (is_moment ert) = grind (arith, nat_tests) in (
       moment_time ert at,
       (
-        (omega arith, grind (arith, nat_tests)),
+        tt,
         (
           record { some = grind (arith, nat_tests); few = grind (arith, nat_tests); each = all.0 },
           (
@@ -109,14 +135,9 @@ storable_fits (Frame ert quality antenna lost octets) is all =
       ),
     )
 storable_fits (LossOfSync at carrier subcarrier symbol) is all =
-    let moment : IsTrue (is_moment at) = grind (arith, nat_tests) in (
-      moment_time at moment,
-      (
-        (omega arith, grind (arith, nat_tests)),
-        ((omega arith, grind (arith, nat_tests)), (omega arith, grind (arith, nat_tests))),
-      ),
-    )
-storable_fits (Production status) is all = (omega arith, grind (arith, nat_tests))
+    let moment : IsTrue (is_moment at) = grind (arith, nat_tests) in
+    (moment_time at moment, (tt, (tt, tt)))
+storable_fits (Production status) is all = tt
 storable_fits (Seal at) is all = moment_time at (grind (arith, nat_tests))
 
 pub storable_back : (e : Entry) → IsTrue (is_storable (entry_of e)) → HasOctets e

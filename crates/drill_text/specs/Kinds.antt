@@ -2,12 +2,19 @@
 use Rattle.std.proofs.Common.{◌≡◌, ℕ, ◌⊎◌, inl, inr, Bool, true, false, List, [], ◌∷◌, Option, Some}
 use Rattle.std.proofs.Common.{None, refl, sym, ◌∙◌, ap, append-nil}
 use Rattle.std.specs.Char.{is_ascii_digit}
-use Rattle.std.specs.Fmt.{decimal}
 use Rattle.std.specs.Prelude.{codes}
 use Rattle.sle_common.specs.declared.gvcid.Channel.{Channel}
 use Rattle.sle_common.specs.declared.gvcid.Gvcid.{Gvcid}
 use Rattle.sle_common.specs.declared.report_kind.ReportKind.{ReportKind}
 use Rattle.sle_common.specs.declared.report_kind.ReportKind.TheVariants.{Now, Cycle, Stop}
+use Rattle.sle_numbers.specs.FrameQuality as frame_quality
+use Rattle.sle_numbers.specs.LockStatus as lock_status
+use Rattle.sle_numbers.specs.RequestedFrameQuality as requested_quality
+use Rattle.sle_numbers.specs.ReturnProductionStatus as production_status
+use Rattle.sle_numbers.specs.declared.frame_quality.FrameQuality.{FrameQuality}
+use Rattle.sle_numbers.specs.declared.lock_status.LockStatus.{LockStatus}
+use Rattle.sle_numbers.specs.declared.requested_frame_quality.RequestedFrameQuality.{RequestedFrameQuality}
+use Rattle.sle_numbers.specs.declared.return_production_status.ReturnProductionStatus.{ReturnProductionStatus}
 use Rattle.words.specs.Channels.{channel, gvcid}
 use Rattle.words.specs.Either.{either}
 use Rattle.words.specs.Fixed.{fixed, word_or}
@@ -15,7 +22,8 @@ use Rattle.words.specs.Kind.{Kind, kind_as}
 use Rattle.words.specs.Last.{last}
 use Rattle.words.specs.Listed.{AreListed, listed}
 use Rattle.words.specs.Maybe.{maybe}
-use Rattle.words.specs.Number.{number, number_clean, number_read, IsWithin}
+use Rattle.words.specs.Number.{number, number_read}
+use Rattle.words.specs.Numbers.{numbered}
 use Rattle.words.specs.Parts.{parts, to_parts}
 use Rattle.words.specs.Row.{Row, row_as}
 use Rattle.words.specs.Steps.{◌>>=◌}
@@ -32,6 +40,20 @@ connection = number 1 16
 -- rounds, offers and device calls, 1 to 1000
 abbrev pub times : Kind ℕ
 times = number 1 1000
+
+-- how a frame was received, a lock's status and that of production, and which frames a START asks
+-- for: their numbers
+abbrev pub quality : Kind FrameQuality
+quality = numbered frame_quality.number_of frame_quality.all frame_quality.each
+
+abbrev pub lock : Kind LockStatus
+lock = numbered lock_status.number_of lock_status.all lock_status.each
+
+abbrev pub production : Kind ReturnProductionStatus
+production = numbered production_status.number_of production_status.all production_status.each
+
+abbrev pub requested : Kind RequestedFrameQuality
+requested = numbered requested_quality.number_of requested_quality.all requested_quality.each
 
 -- what a read gives after a stop
 abbrev pub pick_word : Pick → List ℕ
@@ -90,12 +112,12 @@ abbrev pub report : Kind ReportKind
 report = kind_as (word_or (codes "now") (word_or (codes "stop") (number 0 65535) refl) refl)
     (record { to = report_of; from = of_report; there = report_there; back = report_back })
 
--- the last word of a START for frames: a channel, or a quality, 0 to 2
-abbrev pub wanted_of : Gvcid ⊎ ℕ → Wanted
+-- the last word of a START for frames: a channel, or a quality
+abbrev pub wanted_of : Gvcid ⊎ RequestedFrameQuality → Wanted
 wanted_of (inl g) = OfChannel g
 wanted_of (inr q) = OfQuality q
 
-abbrev pub of_wanted : Wanted → Gvcid ⊎ ℕ
+abbrev pub of_wanted : Wanted → Gvcid ⊎ RequestedFrameQuality
 of_wanted (OfChannel g) = inl g
 of_wanted (OfQuality q) = inr q
 
@@ -103,7 +125,7 @@ pub wanted_there : (w : Wanted) → wanted_of (of_wanted w) ≡ w
 wanted_there (OfChannel g) = refl
 wanted_there (OfQuality q) = refl
 
-pub wanted_back : (s : Gvcid ⊎ ℕ) → of_wanted (wanted_of s) ≡ s
+pub wanted_back : (s : Gvcid ⊎ RequestedFrameQuality) → of_wanted (wanted_of s) ≡ s
 wanted_back (inl g) = refl
 wanted_back (inr q) = refl
 
@@ -117,16 +139,17 @@ abbrev channel_fields : Row (ℕ × (ℕ × Channel))
 channel_fields = number 0 1023 ▸ number 0 3 ▸ last channel
 
 -- a number has no part behind a slash
-pub no_channel : (w : List ℕ) (n : ℕ) → IsWithin 0 2 n → w ≡ decimal n → gvcid.read w ≡ None
-no_channel w n fits e =
+pub no_channel : (w : List ℕ) (q : RequestedFrameQuality) → requested.Fits q → requested.Spells q w
+    → gvcid.read w ≡ None
+no_channel w q fits e =
     let one : parts 47 w ≡ w ∷ [] = ap (parts 47) (sym (append-nil w))
-    ∙ to_parts 47 is_ascii_digit refl w [] (number_clean 0 2 w n fits e) tt in
+    ∙ to_parts 47 is_ascii_digit refl w [] (requested.clean w q fits e) tt in
     let none : channel_fields.read (parts 47 w) ≡ None = ap channel_fields.read one
     ∙ pair_alone (number_read 0 1023) (number 0 3 ▸ last channel).read w refl in
     rw none refl
 
 abbrev pub wanted : Kind Wanted
-wanted = kind_as (either gvcid (number 0 2) no_channel)
+wanted = kind_as (either gvcid requested no_channel)
     (record { to = wanted_of; from = of_wanted; there = wanted_there; back = wanted_back })
 
 -- `fail`, or no word

@@ -3,6 +3,10 @@ use Rattle.std.proofs.Common.{ℕ, Bool, true, ◌==◌, List, [], ◌∷◌, Op
 use Rattle.std.specs.Prelude.{codes}
 use Rattle.cds_time.specs.declared.cds.Cds.{Cds}
 use Rattle.record_form.specs.declared.entry.Entry.TheVariants.{Frame, LossOfSync, Production, Seal}
+use Rattle.sle_numbers.specs.declared.frame_quality.FrameQuality.{FrameQuality}
+use Rattle.sle_numbers.specs.declared.lock_status.LockStatus.{LockStatus}
+use Rattle.sle_numbers.specs.declared.requested_frame_quality.RequestedFrameQuality.{RequestedFrameQuality}
+use Rattle.sle_numbers.specs.declared.return_production_status.ReturnProductionStatus.{ReturnProductionStatus}
 use Rattle.words.specs.HexOctets.{hex}
 use Rattle.words.specs.Last.{last}
 use Rattle.words.specs.Listed.{AreListed}
@@ -12,7 +16,8 @@ use Rattle.words.specs.Table.{Table, Says}
 use Rattle.words.specs.Then.{◌▸◌}
 use Rattle.words.specs.Times.{time}
 use Rattle.drill_text.specs.Asks.{ask}
-use Rattle.drill_text.specs.Kinds.{connection, times, pick, fails}
+use Rattle.drill_text.specs.Kinds.{connection, times, quality, lock, production, requested, pick}
+use Rattle.drill_text.specs.Kinds.{fails}
 use Rattle.drill_text.specs.declared.ask_line.AskLine.{AskLine}
 use Rattle.drill_text.specs.declared.pick.Pick.{Pick}
 use Rattle.drill_text.specs.declared.script_form.ScriptForm.{ScriptForm}
@@ -87,11 +92,11 @@ script_is_listed CrashForm = refl
 script_is_listed FaultForm = refl
 
 abbrev pub Behind : ScriptForm → Type 0
-Behind FrameForm = Cds × (ℕ × (List ℕ × (ℕ × List ℕ)))
-Behind LossForm = Cds × (ℕ × (ℕ × ℕ))
-Behind ProductionForm = ℕ
+Behind FrameForm = Cds × (FrameQuality × (List ℕ × (ℕ × List ℕ)))
+Behind LossForm = Cds × (LockStatus × (LockStatus × LockStatus))
+Behind ProductionForm = ReturnProductionStatus
 Behind MarkForm = Cds
-Behind StartForm = Cds × (Cds × ℕ)
+Behind StartForm = Cds × (Cds × RequestedFrameQuality)
 Behind ClockForm = Cds
 Behind OpenForm = ℕ
 Behind InForm = ℕ × List ℕ
@@ -108,11 +113,11 @@ Behind FaultForm = ℕ
 
 -- the words of each
 abbrev pub script_row : (f : ScriptForm) → Row (Behind f)
-script_row FrameForm = time ▸ number 0 2 ▸ hex 1 16 ▸ number 0 16777215 ▸ last (hex 1 4294967295)
-script_row LossForm = time ▸ number 0 3 ▸ number 0 3 ▸ last (number 0 3)
-script_row ProductionForm = last (number 0 2)
+script_row FrameForm = time ▸ quality ▸ hex 1 16 ▸ number 0 16777215 ▸ last (hex 1 4294967295)
+script_row LossForm = time ▸ lock ▸ lock ▸ last lock
+script_row ProductionForm = last production
 script_row MarkForm = last time
-script_row StartForm = time ▸ time ▸ last (number 0 2)
+script_row StartForm = time ▸ time ▸ last requested
 script_row ClockForm = last time
 script_row OpenForm = last connection
 script_row InForm = connection ▸ last (hex 1 65536)

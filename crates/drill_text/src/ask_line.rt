@@ -3,6 +3,7 @@
 use cds_time::Cds;
 use octet_core::Octets;
 use sle_common::{Gvcid, InstanceId, ReportKind};
+use sle_numbers::RequestedFrameQuality;
 
 /// A message that a peer sends, its credentials unused, its invoke id 0 and its port `PORT1`.
 #[derive(Debug, Drop)]
@@ -33,8 +34,8 @@ pub enum AskLine {
         start: Option<Cds>,
         /// The last time that is wanted.
         stop: Option<Cds>,
-        /// 0 good frames, 1 erred ones, 2 all.
-        quality: u8,
+        /// Which frames.
+        quality: RequestedFrameQuality,
     },
     /// `start WHEN WHEN CHANNEL`: a START of RCF.
     StartRcf {

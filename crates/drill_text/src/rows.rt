@@ -2,24 +2,22 @@
 
 use crate::ask_row::AskRow;
 use crate::pick::Pick;
-use words::{Hex, Last, Number, Octet, OneOf, Then, Time};
+use sle_numbers::{FrameQuality, LockStatus, RequestedFrameQuality, ReturnProductionStatus};
+use words::{Hex, Last, Number, NumberOf, Octet, OneOf, Then, Time};
 
 type Connection = Number<1, 16>;
 
 type Times = Number<1, 1_000>;
 
-type Quality = Octet<0, 2>;
+type Lock = NumberOf<LockStatus>;
 
-type Lock = Octet<0, 3>;
+type FrameOctets = Then<Hex<1, 16>, Then<Number<0, 16_777_215>, Last<Hex<1, 4_294_967_295>>>>;
 
-pub(crate) type Frame = Then<
-    Time,
-    Then<Quality, Then<Hex<1, 16>, Then<Number<0, 16_777_215>, Last<Hex<1, 4_294_967_295>>>>>,
->;
+pub(crate) type Frame = Then<Time, Then<NumberOf<FrameQuality>, FrameOctets>>;
 
 pub(crate) type Loss = Then<Time, Then<Lock, Then<Lock, Last<Lock>>>>;
 
-pub(crate) type Start = Then<Time, Then<Time, Last<Quality>>>;
+pub(crate) type Start = Then<Time, Then<Time, Last<NumberOf<RequestedFrameQuality>>>>;
 
 pub(crate) type Piece = Then<Connection, Last<Hex<1, 65_536>>>;
 
@@ -27,7 +25,7 @@ pub(crate) type Uplink = Then<Octet<0, 3>, Last<Octet<0, 3>>>;
 
 pub(crate) type Crash = Then<Number<0, 1_000>, Last<OneOf<Pick>>>;
 
-pub(crate) type Production = Last<Quality>;
+pub(crate) type Production = Last<NumberOf<ReturnProductionStatus>>;
 
 pub(crate) type Mark = Last<Time>;
 

@@ -5,6 +5,7 @@ use crate::pick::Pick;
 use cds_time::Cds;
 use octet_core::Octets;
 use record_form::Entry;
+use sle_numbers::RequestedFrameQuality;
 
 /// What a line of a script says. A connection is a number from 1 to 16.
 #[derive(Debug, Drop)]
@@ -20,8 +21,8 @@ pub enum ScriptLine {
         start: Cds,
         /// The last time that is wanted.
         stop: Cds,
-        /// 0 good frames, 1 erred ones, 2 all.
-        quality: u8,
+        /// Which frames.
+        quality: RequestedFrameQuality,
     },
     /// `clock TIME`: the clock reads this time from now on.
     Clock(Cds),

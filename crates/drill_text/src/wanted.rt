@@ -1,19 +1,20 @@
 // The last word of a START for frames.
 
 use sle_common::Gvcid;
+use sle_numbers::RequestedFrameQuality;
 use std::alloc::{AllocError, Global};
-use words::{ChannelWord, Octet, Unread, Word};
+use words::{ChannelWord, NumberOf, Unread, Word};
 
 /// What a START for frames asks for: a channel of RCF's, or a quality of RAF's.
 #[derive(Clone, Copy, Debug, PartialEq, Eq)]
 pub enum Wanted {
     /// A channel.
     OfChannel(Gvcid),
-    /// A quality, 0 to 2.
-    OfQuality(u8),
+    /// A quality.
+    OfQuality(RequestedFrameQuality),
 }
 
-type Quality = Octet<0, 2>;
+type Quality = NumberOf<RequestedFrameQuality>;
 
 impl Word for Wanted {
     ghost use Rattle.drill_text.specs.Kinds.{wanted};

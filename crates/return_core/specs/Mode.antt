@@ -3,13 +3,13 @@ use Rattle.archive_terms.specs.Delivery as terms
 use Rattle.archive_terms.specs.Rounds as rounds
 use Rattle.octet_core.specs.declared.offer.Offer.{Offer}
 use Rattle.octet_core.specs.declared.offer.Offer.TheVariants.{Whole, Stalled, Failed}
-use Rattle.return_core.specs.declared.mode.Mode.{Mode}
-use Rattle.return_core.specs.declared.mode.Mode.TheVariants.{Timely, Complete, Offline}
+use Rattle.sle_numbers.specs.declared.return_delivery_mode.ReturnDeliveryMode.{ReturnDeliveryMode}
+use Rattle.sle_numbers.specs.declared.return_delivery_mode.ReturnDeliveryMode.TheVariants as mode
 
-abbrev pub mode_of : Mode → terms.Mode
-mode_of Timely = terms.timely
-mode_of Complete = terms.complete
-mode_of Offline = terms.offline
+abbrev pub mode_of : ReturnDeliveryMode → terms.Mode
+mode_of mode.TimelyOnline = terms.timely
+mode_of mode.CompleteOnline = terms.complete
+mode_of mode.Offline = terms.offline
 
 abbrev pub answer_of : Offer → rounds.Answer
 answer_of Whole = rounds.whole

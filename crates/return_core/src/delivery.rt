@@ -16,10 +16,10 @@ ghost use Rattle.return_core.specs.Course.{limit_of_course, want_of_course, is_f
 ghost use Rattle.return_core.specs.Course.{is_offering, with_step, with_answer, held_of};
 
 use crate::held_items::HeldItems;
-use crate::mode::Mode;
 use archive_terms::laws::places_are_counts;
 use frame_select::{Glimpse, Item, Selection, Want};
 use octet_core::Offer;
+use sle_numbers::ReturnDeliveryMode;
 use std::alloc::Global;
 use std::marker::Model;
 use transfer_buffer::Memory;
@@ -27,7 +27,7 @@ use transfer_buffer::Memory;
 /// The delivery of a return service instance: what its START selects goes out in transfer buffers.
 #[derive(Drop)]
 pub struct Delivery {
-    mode: Mode,
+    mode: ReturnDeliveryMode,
     latency: Option<u128>,
     // None where no START runs.
     selection: Option<Selection>,
@@ -62,7 +62,7 @@ impl Delivery {
     /// picoseconds in the online modes. No START runs.
     pub fn new(
         alloc: Global,
-        mode: Mode,
+        mode: ReturnDeliveryMode,
         size: u32,
         latency: Option<u128>,
     ) -> Result<Delivery, Memory>
@@ -191,8 +191,8 @@ impl Delivery {
         ensures { result ≡ limit_of_course self.now }
     {
         match self.mode {
-            Mode::Timely | Mode::Complete => self.latency,
-            Mode::Offline => None,
+            ReturnDeliveryMode::TimelyOnline | ReturnDeliveryMode::CompleteOnline => self.latency,
+            ReturnDeliveryMode::Offline => None,
         }
     }
 
@@ -249,7 +249,7 @@ impl Delivery {
         requires { IsTrue (is_offering self.old) }
         ensures { self.new ≡ with_answer self.old stall }
     {
-        if self.mode == Mode::Timely && self.held.has_archived() {
+        if self.mode == ReturnDeliveryMode::TimelyOnline && self.held.has_archived() {
             self.held.release(self.last);
             self.owed = true;
             self.fixed = false;

@@ -14,11 +14,9 @@
 mod delivery;
 mod held_items;
 pub mod laws;
-mod mode;
 mod parts;
 
 pub use delivery::Delivery;
-pub use mode::Mode;
 pub use octet_core::Offer;
 pub use parts::are_of_archive;
 pub use transfer_buffer::Memory;
