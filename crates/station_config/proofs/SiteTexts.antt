@@ -24,8 +24,8 @@ use Rattle.station_config.specs.Drafts.{unless, said, told, onward, next, told_f
 use Rattle.station_config.specs.Drafts.{finished, site_told}
 use Rattle.station_config.specs.Grammar.{configuration, configuration_is_exact, instance_line}
 use Rattle.station_config.specs.Identity.{same_id_decides}
-use Rattle.station_config.specs.Kinds.{is_latency, is_owner, mode_number}
-use Rattle.station_config.specs.Validity.{IsFrom, AreApart, IsName, IsPeer, ArePeers, IsReturn}
+use Rattle.station_config.specs.Kinds.{is_latency, is_owner}
+use Rattle.station_config.specs.Validity.{IsFrom, AreApart, IsName, IsPeer, ArePeers, IsLatency}
 use Rattle.station_config.specs.Validity.{IsChannel, IsVirtual, AreChannels, IsService, is_forward}
 use Rattle.station_config.specs.Validity.{IsInstance, AreInstances, IsSite}
 use Rattle.station_config.specs.declared.cause.Cause.TheVariants.{Repeated, NoOwner, Surplus}
@@ -37,8 +37,8 @@ use Rattle.station_config.specs.declared.line.Line.{Line}
 use Rattle.station_config.specs.declared.line.Line.TheVariants.{Provider, Password, Capacity, Beat}
 use Rattle.station_config.specs.declared.line.Line.TheVariants.{Versions, Peer as OfPeer}
 use Rattle.station_config.specs.declared.line.Line.TheVariants.{Instance as OfInstance}
-use Rattle.station_config.specs.declared.mode.Mode.{Mode}
-use Rattle.station_config.specs.declared.mode.Mode.TheVariants.{Timely, Complete, Offline}
+use Rattle.sle_numbers.specs.declared.return_delivery_mode.ReturnDeliveryMode.{ReturnDeliveryMode}
+use Rattle.sle_numbers.specs.declared.return_delivery_mode.ReturnDeliveryMode.TheVariants.{TimelyOnline, CompleteOnline, Offline}
 use Rattle.station_config.specs.declared.peer.Peer.{Peer}
 use Rattle.station_config.specs.declared.service.Service.{Service}
 use Rattle.station_config.specs.declared.service.Service.TheVariants.{Raf as RafService}
@@ -58,11 +58,6 @@ use Rattle.words.specs.Parts.{joined_by, parts_of_text}
 
 -- ---- the text
 
-abbrev mode_of : ℕ → Mode
-mode_of zero = Timely
-mode_of (suc zero) = Complete
-mode_of (suc (suc mode)) = Offline
-
 abbrev name_at : ℕ → List Peer → List ℕ
 name_at place [] = []
 name_at zero (peer ∷ peers) = peer.name
@@ -70,9 +65,9 @@ name_at (suc place) (peer ∷ peers) = name_at place peers
 
 abbrev line_of_service : List InstancePart → List ℕ → ℕ → Service → InstanceLine
 line_of_service id name timeout (RafService mode size latency) =
-    Raf id name (mode_of mode) size latency timeout
+    Raf id name mode size latency timeout
 line_of_service id name timeout (RcfService mode size latency channels) =
-    Rcf id name (mode_of mode) size latency timeout channels
+    Rcf id name mode size latency timeout channels
 line_of_service id name timeout (CltuService room longest) = Cltu id name room longest timeout
 
 abbrev line_in : List Peer → Instance → InstanceLine
@@ -234,20 +229,11 @@ within : (least most n : ℕ) → least ≤ n → n ≤ most → most ≤ 184467
     → IsWithin least most n
 within least most n low high small = (low, omega (arith, high, small))
 
-mode_back : (mode : ℕ) → mode ≤ 2 → mode_number (mode_of mode) ≡ mode
-mode_back zero h = refl
-mode_back (suc zero) h = refl
-mode_back (suc (suc zero)) h = refl
-mode_back (suc (suc (suc mode))) h = absurd (omega (arith, h))
-
-latency_is : (mode size latency : ℕ) → IsReturn mode size latency
-    → (latency ≤ 3600) × (is_latency (mode_of mode) latency ≡ true)
-latency_is zero size latency h = let l = h.latency (omega arith) in (l.high, le-leb 1 latency l.low)
-latency_is (suc zero) size latency h = let l = h.latency (omega arith) in
-    (l.high, le-leb 1 latency l.low)
-latency_is (suc (suc zero)) size latency h = let none = h.offline (omega arith) in
-    (omega (arith, none), eq-eqb latency 0 none)
-latency_is (suc (suc (suc mode))) size latency h = absurd (omega (arith, h.mode))
+latency_is : (mode : ReturnDeliveryMode) (latency : ℕ) → IsLatency mode latency
+    → (latency ≤ 3600) × (is_latency mode latency ≡ true)
+latency_is TimelyOnline latency h = (h.high, le-leb 1 latency h.low)
+latency_is CompleteOnline latency h = (h.high, le-leb 1 latency h.low)
+latency_is Offline latency h = (omega (arith, h), eq-eqb latency 0 h)
 
 channel_fits : (g : Gvcid) → IsChannel g → gvcid.Fits g
 channel_fits g h = ((omega arith, h.spacecraft), ((omega arith, h.version), at g.channel h.channel))
@@ -275,7 +261,7 @@ service_fits : (id : List InstancePart) (name : List ℕ) (timeout : ℕ) (s : S
     → IsIdentifier id → IsName name → IsFrom 1 600 timeout → IsService s
     → instance_line.Fits (line_of_service id name timeout s)
 service_fits id name timeout (RafService mode size latency) is owner t h =
-    let l = latency_is mode size latency h in (
+    let l = latency_is mode latency h.latency in (
       identifier_fits id is,
       (
         owner_is name owner,
@@ -283,7 +269,7 @@ service_fits id name timeout (RafService mode size latency) is owner t h =
       ),
     )
 service_fits id name timeout (RcfService mode size latency channels) is owner t h =
-    let l = latency_is mode size latency h.0 in (
+    let l = latency_is mode latency h.0.latency in (
       identifier_fits id is,
       (
         owner_is name owner,
@@ -334,13 +320,11 @@ timeout_back id name timeout (RafService mode size latency) = refl
 timeout_back id name timeout (RcfService mode size latency channels) = refl
 timeout_back id name timeout (CltuService room longest) = refl
 
-service_back : (id : List InstancePart) (name : List ℕ) (timeout : ℕ) (s : Service) → IsService s
+service_back : (id : List InstancePart) (name : List ℕ) (timeout : ℕ) (s : Service)
     → service_of (line_of_service id name timeout s) ≡ s
-service_back id name timeout (RafService mode size latency) h =
-    ap (λ m. RafService m size latency) (mode_back mode h.mode)
-service_back id name timeout (RcfService mode size latency channels) h =
-    ap (λ m. RcfService m size latency channels) (mode_back mode h.0.mode)
-service_back id name timeout (CltuService room longest) h = refl
+service_back id name timeout (RafService mode size latency) = refl
+service_back id name timeout (RcfService mode size latency channels) = refl
+service_back id name timeout (CltuService room longest) = refl
 
 owner_place : (peers : List Peer) (i : Instance) → ArePeers peers → IsInstance (length peers) i
     → place_of (owner_of (line_in peers i)) peers ≡ Some i.owner
@@ -354,7 +338,7 @@ instance_back peers i p h = λ k. record {
   id = id_back i.id (name_at i.owner peers) i.timeout i.service k;
   owner = unwrap_or (owner_place peers i p h k) 0;
   timeout = timeout_back i.id (name_at i.owner peers) i.timeout i.service k;
-  service = service_back i.id (name_at i.owner peers) i.timeout i.service h.service k;
+  service = service_back i.id (name_at i.owner peers) i.timeout i.service k;
 }
 
 -- ---- lines that follow one another
@@ -467,7 +451,7 @@ instances_follow (i ∷ rest) before d p h =
     let l : InstanceLine = line_in d.peers i in
     let same = instance_back d.peers i p is in
     let id = id_back i.id (name_at i.owner d.peers) i.timeout i.service in
-    let service = service_back i.id (name_at i.owner d.peers) i.timeout i.service is.service in
+    let service = service_back i.id (name_at i.owner d.peers) i.timeout i.service in
     let new : has_id i.id before ≡ false = list_any_none (λ other. same_id other.id i.id) before
     (All-weaker (λ (other : Instance). other.id ≡ i.id
     → ⊥) (λ other. same_id other.id i.id ≡ false) (λ other apart. differ_id other.id i.id apart)

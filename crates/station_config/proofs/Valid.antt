@@ -27,7 +27,7 @@ use Rattle.station_config.specs.Drafts.{told, Refusal, onward, next, told_from, 
 use Rattle.station_config.specs.Drafts.{site_told}
 use Rattle.station_config.specs.Grammar.{configuration, configuration_is_exact, instance_line}
 use Rattle.station_config.specs.Identity.{same_id_decides}
-use Rattle.station_config.specs.Kinds.{is_latency, mode_number}
+use Rattle.station_config.specs.Kinds.{is_latency}
 use Rattle.station_config.specs.Validity.{IsFrom, AreApart, IsPeer, ArePeers}
 use Rattle.station_config.specs.Validity.{IsReturn, IsChannel, IsVirtual, AreChannels}
 use Rattle.station_config.specs.Validity.{IsService, is_forward, IsInstance, AreInstances, IsSite}
@@ -42,8 +42,8 @@ use Rattle.station_config.specs.declared.line.Line.{Line}
 use Rattle.station_config.specs.declared.line.Line.TheVariants.{Provider, Password, Capacity, Beat}
 use Rattle.station_config.specs.declared.line.Line.TheVariants.{Versions, Peer as OfPeer}
 use Rattle.station_config.specs.declared.line.Line.TheVariants.{Instance as OfInstance}
-use Rattle.station_config.specs.declared.mode.Mode.{Mode}
-use Rattle.station_config.specs.declared.mode.Mode.TheVariants.{Timely, Complete, Offline}
+use Rattle.sle_numbers.specs.declared.return_delivery_mode.ReturnDeliveryMode.{ReturnDeliveryMode}
+use Rattle.sle_numbers.specs.declared.return_delivery_mode.ReturnDeliveryMode.TheVariants.{TimelyOnline, CompleteOnline, Offline}
 use Rattle.station_config.specs.declared.peer.Peer.{Peer}
 use Rattle.station_config.specs.declared.site.Site.{Site}
 use Rattle.words.specs.Channels.{gvcid, number_of}
@@ -132,25 +132,19 @@ channels_are channels fits =
       each = each_all gvcid.Fits IsChannel channel_is channels fits.each;
     }
 
-return_is : (m : Mode) (size latency : ℕ) → IsWithin 1 1000 size → IsWithin 0 3600 latency
-    → is_latency m latency ≡ true → IsReturn (mode_number m) size latency
-return_is Timely size latency s l e = record {
-  mode = omega arith;
+return_is : (m : ReturnDeliveryMode) (size latency : ℕ) → IsWithin 1 1000 size → IsWithin 0 3600 latency
+    → is_latency m latency ≡ true → IsReturn m size latency
+return_is TimelyOnline size latency s l e = record {
   size = record { low = s.0; high = s.1 };
-  latency = λ below. record { low = leb-true 1 latency e; high = l.1 };
-  offline = λ is. absurd (omega arith);
+  latency = record { low = leb-true 1 latency e; high = l.1 };
 }
-return_is Complete size latency s l e = record {
-  mode = omega arith;
+return_is CompleteOnline size latency s l e = record {
   size = record { low = s.0; high = s.1 };
-  latency = λ below. record { low = leb-true 1 latency e; high = l.1 };
-  offline = λ is. absurd (omega arith);
+  latency = record { low = leb-true 1 latency e; high = l.1 };
 }
 return_is Offline size latency s l e = record {
-  mode = omega arith;
   size = record { low = s.0; high = s.1 };
-  latency = λ below. absurd (omega arith);
-  offline = λ is. eqb-true latency 0 e;
+  latency = eqb-true latency 0 e;
 }
 
 service_is : (l : InstanceLine) → instance_line.Fits l → IsService (service_of l)

@@ -11,7 +11,6 @@ use Rattle.sle_common.specs.Attribute.{name_of}
 use Rattle.sle_common.specs.declared.instance_id.InstancePart.{InstancePart}
 use Rattle.station_config.specs.Causes.{number_of, cause_of_words}
 use Rattle.station_config.specs.Grammar.{configuration}
-use Rattle.station_config.specs.Kinds.{mode_number}
 use Rattle.station_config.specs.Validity.{is_forward}
 use Rattle.station_config.specs.declared.cause.Cause.{Cause}
 use Rattle.station_config.specs.declared.cause.Cause.TheVariants.{Repeated, NoOwner, Surplus}
@@ -52,9 +51,9 @@ timeout_of (Rcf id owner mode size latency timeout channels) = timeout
 timeout_of (Cltu id owner room longest timeout) = timeout
 
 abbrev pub service_of : InstanceLine → Service
-service_of (Raf id owner mode size latency timeout) = RafService (mode_number mode) size latency
+service_of (Raf id owner mode size latency timeout) = RafService mode size latency
 service_of (Rcf id owner mode size latency timeout channels) =
-    RcfService (mode_number mode) size latency channels
+    RcfService mode size latency channels
 service_of (Cltu id owner room longest timeout) = CltuService room longest
 
 -- ---- what the lines so far say

@@ -3,6 +3,7 @@ use Rattle.std.proofs.Common.{◌≡◌, ℕ, ◌⊎◌, inl, inr, Bool, ◌&&�
 use Rattle.std.specs.Prelude.{codes}
 use Rattle.sle_common.specs.declared.gvcid.Gvcid.{Gvcid}
 use Rattle.sle_common.specs.declared.instance_id.InstancePart.{InstancePart}
+use Rattle.sle_numbers.specs.declared.return_delivery_mode.ReturnDeliveryMode.{ReturnDeliveryMode}
 use Rattle.station_config.specs.Kinds.{level, hash, mode, is_latency, owner}
 use Rattle.station_config.specs.declared.instance_line.InstanceLine.{InstanceLine}
 use Rattle.station_config.specs.declared.instance_line.InstanceLine.TheVariants.{Raf, Rcf, Cltu}
@@ -10,7 +11,6 @@ use Rattle.station_config.specs.declared.level.Level.{Level}
 use Rattle.station_config.specs.declared.line.Line.{Line}
 use Rattle.station_config.specs.declared.line.Line.TheVariants.{Provider, Password, Capacity, Beat}
 use Rattle.station_config.specs.declared.line.Line.TheVariants.{Versions, Peer as OfPeer, Instance}
-use Rattle.station_config.specs.declared.mode.Mode.{Mode}
 use Rattle.words.specs.Channels.{gvcid}
 use Rattle.words.specs.Choice.{Choice, no_line, line, choice_as}
 use Rattle.words.specs.HexOctets.{hex}
@@ -48,7 +48,7 @@ peer_row = name 3 16 ▸ level ▸ hash ▸ number 1 86400 ▸ last (hex 6 16)
 
 -- MODE SIZE LATENCY TIMEOUT
 abbrev pub Delivery : Type 0
-Delivery = Mode × (ℕ × (ℕ × ℕ))
+Delivery = ReturnDeliveryMode × (ℕ × (ℕ × ℕ))
 
 abbrev pub delivery_row : Row Delivery
 delivery_row = tested (mode ▸ number 1 1000 ▸ number 0 3600 ▸ last (number 1 600))
@@ -56,7 +56,7 @@ delivery_row = tested (mode ▸ number 1 1000 ▸ number 0 3600 ▸ last (number
 
 -- MODE SIZE LATENCY TIMEOUT CHANNEL..
 abbrev pub ChannelDelivery : Type 0
-ChannelDelivery = Mode × (ℕ × (ℕ × (ℕ × List Gvcid)))
+ChannelDelivery = ReturnDeliveryMode × (ℕ × (ℕ × (ℕ × List Gvcid)))
 
 abbrev pub channel_delivery_row : Row ChannelDelivery
 channel_delivery_row = tested (mode ▸ number 1 1000 ▸ number 0 3600 ▸ number 1 600 ▸ many gvcid 1 8)

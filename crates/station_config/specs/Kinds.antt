@@ -4,10 +4,10 @@ use Rattle.std.proofs.Common.{refl}
 use Rattle.std.proofs.lemmas.Bool.{and_parts}
 use Rattle.std.specs.List.{list_all}
 use Rattle.std.specs.Prelude.{codes}
+use Rattle.sle_numbers.specs.declared.return_delivery_mode.ReturnDeliveryMode.{ReturnDeliveryMode}
+use Rattle.sle_numbers.specs.declared.return_delivery_mode.ReturnDeliveryMode.TheVariants.{TimelyOnline, CompleteOnline, Offline}
 use Rattle.station_config.specs.declared.level.Level.{Level}
 use Rattle.station_config.specs.declared.level.Level.TheVariants.{Nothing, Bind, All}
-use Rattle.station_config.specs.declared.mode.Mode.{Mode}
-use Rattle.station_config.specs.declared.mode.Mode.TheVariants.{Timely, Complete, Offline}
 use Rattle.words.specs.Alphabet.{Of, of_all}
 use Rattle.words.specs.Kind.{Kind}
 use Rattle.words.specs.Listed.{AreListed, listed}
@@ -45,32 +45,26 @@ hashes_are_listed true = refl
 abbrev pub hash : Kind Bool
 hash = listed hash_word hashes hashes_are_listed
 
-abbrev pub mode_word : Mode → List ℕ
-mode_word Timely = codes "timely"
-mode_word Complete = codes "complete"
+abbrev pub mode_word : ReturnDeliveryMode → List ℕ
+mode_word TimelyOnline = codes "timely"
+mode_word CompleteOnline = codes "complete"
 mode_word Offline = codes "offline"
 
-abbrev pub modes : List Mode
-modes = Timely ∷ Complete ∷ Offline ∷ []
+abbrev pub modes : List ReturnDeliveryMode
+modes = TimelyOnline ∷ CompleteOnline ∷ Offline ∷ []
 
 pub modes_are_listed : AreListed mode_word modes
-modes_are_listed Timely = refl
-modes_are_listed Complete = refl
+modes_are_listed TimelyOnline = refl
+modes_are_listed CompleteOnline = refl
 modes_are_listed Offline = refl
 
-abbrev pub mode : Kind Mode
+abbrev pub mode : Kind ReturnDeliveryMode
 mode = listed mode_word modes modes_are_listed
 
--- the number of a delivery mode
-abbrev pub mode_number : Mode → ℕ
-mode_number Timely = 0
-mode_number Complete = 1
-mode_number Offline = 2
-
 -- an offline instance has the latency 0, any other one at least 1
-abbrev pub is_latency : Mode → ℕ → Bool
-is_latency Timely latency = nat_le 1 latency
-is_latency Complete latency = nat_le 1 latency
+abbrev pub is_latency : ReturnDeliveryMode → ℕ → Bool
+is_latency TimelyOnline latency = nat_le 1 latency
+is_latency CompleteOnline latency = nat_le 1 latency
 is_latency Offline latency = latency == 0
 
 -- any word of characters from 21 to 7E

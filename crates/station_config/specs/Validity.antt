@@ -6,6 +6,8 @@ use Rattle.sle_common.specs.Identifier.{IsIdentifier}
 use Rattle.sle_common.specs.declared.gvcid.Channel.{Channel}
 use Rattle.sle_common.specs.declared.gvcid.Channel.TheVariants.{Master, Virtual}
 use Rattle.sle_common.specs.declared.gvcid.Gvcid.{Gvcid}
+use Rattle.sle_numbers.specs.declared.return_delivery_mode.ReturnDeliveryMode.{ReturnDeliveryMode}
+use Rattle.sle_numbers.specs.declared.return_delivery_mode.ReturnDeliveryMode.TheVariants.{TimelyOnline, CompleteOnline, Offline}
 use Rattle.station_config.specs.declared.instance.Instance.{Instance}
 use Rattle.station_config.specs.declared.peer.Peer.{Peer}
 use Rattle.station_config.specs.declared.service.Service.{Service}
@@ -53,12 +55,16 @@ pub record ArePeers (peers : List Peer) : Type 0 where
   pub each : All IsPeer peers
   pub names : AreApart (map (λ peer. peer.name) peers)
 
--- a buffer's size and latency; an instance of mode 2, offline, has no latency
-pub record IsReturn (m s l : ℕ) : Type 0 where
-  pub mode : m ≤ 2
+-- an offline instance has no latency, any other one up to an hour
+abbrev pub IsLatency : ReturnDeliveryMode → ℕ → Type 0
+IsLatency TimelyOnline l = IsFrom 1 3600 l
+IsLatency CompleteOnline l = IsFrom 1 3600 l
+IsLatency Offline l = l ≡ 0
+
+-- a buffer's size and latency
+pub record IsReturn (mode : ReturnDeliveryMode) (s l : ℕ) : Type 0 where
   pub size : IsFrom 1 1000 s
-  pub latency : m < 2 → IsFrom 1 3600 l
-  pub offline : m ≡ 2 → l ≡ 0
+  pub latency : IsLatency mode l
 
 abbrev pub IsVirtual : Channel → Type 0
 IsVirtual Master = Unit {0}

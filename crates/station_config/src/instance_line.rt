@@ -5,10 +5,10 @@ ghost use Rattle.station_config.specs.Validity.{is_forward};
 
 use crate::channels::Channels;
 use crate::instance::Instance;
-use crate::mode::Mode;
 use crate::service::Service;
 use octet_core::Octets;
 use sle_common::InstanceId;
+use sle_numbers::ReturnDeliveryMode;
 
 /// What the line of a service instance says.
 #[derive(Drop)]
@@ -17,7 +17,7 @@ pub(crate) enum InstanceLine {
     Raf {
         id: InstanceId,
         owner: Octets,
-        mode: Mode,
+        mode: ReturnDeliveryMode,
         size: u32,
         latency: u32,
         timeout: u16,
@@ -26,7 +26,7 @@ pub(crate) enum InstanceLine {
     Rcf {
         id: InstanceId,
         owner: Octets,
-        mode: Mode,
+        mode: ReturnDeliveryMode,
         size: u32,
         latency: u32,
         timeout: u16,
@@ -93,7 +93,7 @@ impl InstanceLine {
                 owner,
                 timeout,
                 service: Service::Raf {
-                    mode: mode.number(),
+                    mode,
                     size,
                     latency,
                 },
@@ -111,7 +111,7 @@ impl InstanceLine {
                 owner,
                 timeout,
                 service: Service::Rcf {
-                    mode: mode.number(),
+                    mode,
                     size,
                     latency,
                     channels,

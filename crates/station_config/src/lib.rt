@@ -24,7 +24,7 @@ pub mod laws;
 mod level;
 mod level_word;
 mod line;
-mod mode;
+mod mode_word;
 mod owner_word;
 mod peer;
 mod peers;

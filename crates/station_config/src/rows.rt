@@ -2,10 +2,11 @@
 
 use crate::channels::Channels;
 use crate::heartbeat::Heartbeat;
-use crate::mode::Mode;
+use crate::mode_word::{ModeWord, may_have_latency};
 use octet_core::Octets;
+use sle_numbers::ReturnDeliveryMode;
 use std::alloc::Global;
-use words::{ChannelWord, Last, Many, Number, Octet, OneOf, Short, Then, Unread, Words};
+use words::{ChannelWord, Last, Many, Number, Octet, Short, Then, Unread, Words};
 
 type SpanWords = Then<Short<1, 3_600>, Then<Short<1, 3_600>, FactorWords>>;
 
@@ -74,7 +75,7 @@ impl Words for VersionsRow {
     }
 }
 
-type DeliveryWords = Then<OneOf<Mode>, Then<Number<1, 1_000>, TimeWords>>;
+type DeliveryWords = Then<ModeWord, Then<Number<1, 1_000>, TimeWords>>;
 
 type TimeWords = Then<Number<0, 3_600>, Last<Short<1, 600>>>;
 
@@ -84,7 +85,7 @@ pub(crate) struct DeliveryRow;
 impl Words for DeliveryRow {
     ghost use Rattle.station_config.specs.Grammar.{Delivery, delivery_row};
 
-    type Value = (Mode, (u32, (u32, u16)));
+    type Value = (ReturnDeliveryMode, (u32, (u32, u16)));
 
     ghost Seen = { Delivery };
 
@@ -96,9 +97,9 @@ impl Words for DeliveryRow {
         alloc: Global,
         separator: u8,
         words: Option<&[u8]>,
-    ) -> Result<(Mode, (u32, (u32, u16))), Unread> {
+    ) -> Result<(ReturnDeliveryMode, (u32, (u32, u16))), Unread> {
         let (mode, (size, (latency, timeout))) = DeliveryWords::read(alloc, separator, words)?;
-        if mode.has_latency(latency) {
+        if may_have_latency(mode, latency) {
             Ok((mode, (size, (latency, timeout))))
         } else {
             Err(Unread::Bad)
@@ -110,7 +111,7 @@ impl Words for DeliveryRow {
     }
 }
 
-type ChannelDeliveryWords = Then<OneOf<Mode>, Then<Number<1, 1_000>, ChannelTimeWords>>;
+type ChannelDeliveryWords = Then<ModeWord, Then<Number<1, 1_000>, ChannelTimeWords>>;
 
 type ChannelTimeWords = Then<Number<0, 3_600>, Then<Short<1, 600>, Many<ChannelWord, 1, 8>>>;
 
@@ -120,7 +121,7 @@ pub(crate) struct ChannelDeliveryRow;
 impl Words for ChannelDeliveryRow {
     ghost use Rattle.station_config.specs.Grammar.{ChannelDelivery, channel_delivery_row};
 
-    type Value = (Mode, (u32, (u32, (u16, Channels))));
+    type Value = (ReturnDeliveryMode, (u32, (u32, (u16, Channels))));
 
     ghost Seen = { ChannelDelivery };
 
@@ -133,11 +134,11 @@ impl Words for ChannelDeliveryRow {
         alloc: Global,
         separator: u8,
         words: Option<&[u8]>,
-    ) -> Result<(Mode, (u32, (u32, (u16, Channels)))), Unread> {
+    ) -> Result<(ReturnDeliveryMode, (u32, (u32, (u16, Channels)))), Unread> {
         let (mode, (size, (latency, (timeout, channels)))) = ChannelDeliveryWords::read(
             alloc, separator, words,
         )?;
-        if mode.has_latency(latency) {
+        if may_have_latency(mode, latency) {
             let channels = Channels::from_vec(channels);
             Ok((mode, (size, (latency, (timeout, channels)))))
         } else {

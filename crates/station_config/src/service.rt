@@ -3,15 +3,15 @@ ghost use Rattle.std.specs.Prelude.{◌≡◌};
 ghost use Rattle.station_config.specs.Validity.{is_forward};
 
 use crate::channels::Channels;
+use sle_numbers::ReturnDeliveryMode;
 
-/// What a service instance offers. A mode is the number of a delivery mode: timely 0, complete 1,
-/// offline 2.
+/// What a service instance offers.
 #[derive(Clone, Debug, Drop)]
 pub enum Service {
     /// Return all frames (CCSDS 911.1-B).
     Raf {
-        /// 0 to 2.
-        mode: u8,
+        /// How it gives its frames.
+        mode: ReturnDeliveryMode,
         /// Items of a transfer buffer, 1 to 1,000.
         size: u32,
         /// Seconds, 1 to 3,600; 0 for offline.
@@ -19,8 +19,8 @@ pub enum Service {
     },
     /// Return channel frames (CCSDS 911.2-B).
     Rcf {
-        /// 0 to 2.
-        mode: u8,
+        /// How it gives its frames.
+        mode: ReturnDeliveryMode,
         /// Items of a transfer buffer, 1 to 1,000.
         size: u32,
         /// Seconds, 1 to 3,600; 0 for offline.
