@@ -10,12 +10,17 @@ use Rattle.std.proofs.lemmas.List.Folds.{position_or_len-set}
 use Rattle.std.proofs.lemmas.List.Quantifiers.{position-Some}
 use Rattle.std.proofs.lemmas.Option.{slice_get-get_or}
 use Rattle.std.proofs.lemmas.Bool.Decides.{nat_tests}
+use Rattle.fcltu_numbers.specs.declared.cltu_production_status.CltuProductionStatus.{CltuProductionStatus}
+use Rattle.fcltu_numbers.specs.declared.cltu_production_status.CltuProductionStatus.TheVariants.{Operational, Configured}
+use Rattle.fcltu_numbers.specs.declared.cltu_production_status.CltuProductionStatus.TheVariants.{Interrupted, Halted}
+use Rattle.fcltu_numbers.specs.declared.uplink_status.UplinkStatus.{UplinkStatus}
+use Rattle.fcltu_numbers.specs.declared.cltu_transfer_data_diagnostic.CltuTransferDataDiagnostic.{CltuTransferDataDiagnostic}
 use Rattle.cltu_queue.specs.Machine.{Machine, on_transfer, on_stop, on_take, on_take_of}
 use Rattle.cltu_queue.specs.Machine.{on_radiation_of, is_idle, begins_at}
 use Rattle.cltu_queue.specs.Machine.{on_done, on_done_of, is_this, is_of_run, ended}
 use Rattle.cltu_queue.specs.Machine.{radiated_at, with_radiation_notice}
 use Rattle.cltu_queue.specs.Machine.{on_interrupted, on_interrupted_of, on_uplink}
-use Rattle.cltu_queue.specs.Machine.{production_changed, on_notice, on_notice_of, queued_unless}
+use Rattle.cltu_queue.specs.Machine.{changed_to, is_same, on_notice, on_notice_of, queued_unless}
 use Rattle.cltu_queue.specs.Machine.{refusal}
 use Rattle.cltu_queue.specs.Times.{is_above, latest_of}
 use Rattle.cltu_queue.specs.declared.cltu.Cltu.{Cltu}
@@ -140,7 +145,7 @@ started_transfer : (m : Machine) (cltu : Cltu) (now : ℕ)
     → (on_transfer m cltu now).0.started ≡ m.started
 started_transfer m cltu now = at_refusal (refusal m cltu now)
   where
-    at_refusal : (r : Option ℕ) → (queued_unless r m cltu).0.started ≡ m.started
+    at_refusal : (r : Option CltuTransferDataDiagnostic) → (queued_unless r m cltu).0.started ≡ m.started
     at_refusal None = refl
     at_refusal (Some d) = refl
 
@@ -180,17 +185,19 @@ started_interrupted m run id = of_air m.in_air
     of_air (Some a) = either (not (is_this run id a)) _ _ m.started refl
         (either (is_of_run m a) _ _ m.started refl refl)
 
-started_changed : (m : Machine) → (production_changed m).started ≡ m.started
-started_changed m =
-    either (m.production == 0) _ _ m.started refl
-    (either (m.production == 2) _ _ m.started refl
-    (either (m.production == 3) _ _ m.started refl refl))
+started_changed : (production : CltuProductionStatus) (m : Machine)
+    → (changed_to production m).started ≡ m.started
+started_changed Operational m = refl
+started_changed Configured m = refl
+started_changed Interrupted m = refl
+started_changed Halted m = refl
 
-started_uplink : (m : Machine) (production status : ℕ)
+started_uplink : (m : Machine) (production : CltuProductionStatus) (status : UplinkStatus)
     → (on_uplink m production status).started ≡ m.started
 started_uplink m production status =
     let set : Machine = record m { production = production; status = status } in
-    either (m.started && not (m.production == production)) _ _ m.started (started_changed set) refl
+    either (m.started && not (is_same m.production production)) _ _ m.started
+    (started_changed production set) refl
 
 started_notice : (m : Machine) → (on_notice m).0.started ≡ m.started
 started_notice m = of_notices m.notices

@@ -7,6 +7,8 @@ use Rattle.std.proofs.lemmas.List.Elements.{filter_map-append}
 use Rattle.std.proofs.lemmas.List.Folds.{list_any-append}
 use Rattle.std.proofs.lemmas.List.Sums.{fold-append}
 use Rattle.archive_terms.specs.Glimpse.{Want}
+use Rattle.fcltu_numbers.specs.declared.cltu_start_diagnostic.CltuStartDiagnostic.{CltuStartDiagnostic}
+use Rattle.fcltu_numbers.specs.declared.cltu_transfer_data_diagnostic.CltuTransferDataDiagnostic.{CltuTransferDataDiagnostic}
 use Rattle.cltu_queue.specs.Machine.{Machine, new_machine, on_start, on_stop, on_transfer, refusal}
 use Rattle.cltu_queue.specs.Machine.{queued_unless, on_take, on_notice, on_notice_of}
 use Rattle.cltu_queue.specs.Forward as queue
@@ -212,13 +214,13 @@ accepted_stop false m = refl
 -- what a TRANSFER-DATA accepts
 accepted_transfer : (m : Machine) (cltu : Cltu) (now : ℕ) → m.started ≡ true
     → run.accepted_by (queue.transfer cltu now) (forward m (queue.transfer cltu now)).1
-    ≡ where_taken cltu (transfer_reply (refusal m cltu now) m cltu)
+    ≡ where_taken cltu (transfer_reply (on_transfer m cltu now).1)
 accepted_transfer m cltu now one =
     ap (λ x. run.accepted_by (queue.transfer cltu now) x.1) (transfers m cltu now one)
     ∙ by_refusal (refusal m cltu now)
   where
-    by_refusal : (r : Option ℕ) → run.accepted_by (queue.transfer cltu now)
-        (transferred (queued_unless r m cltu).1) ≡ where_taken cltu (transfer_reply r m cltu)
+    by_refusal : (r : Option CltuTransferDataDiagnostic) → run.accepted_by (queue.transfer cltu now)
+        (transferred (queued_unless r m cltu).1) ≡ where_taken cltu (transfer_reply (queued_unless r m cltu).1)
     by_refusal None = refl
     by_refusal (Some d) = refl
 
@@ -378,7 +380,7 @@ begun_start m first now none =
     ap (λ x. run.begins_run_by (queue.start first) x.1 || false) (begins m first none)
     ∙ by_result (on_start m first).1
   where
-    by_result : (r : Result (Unit {0}) ℕ)
+    by_result : (r : Result (Unit {0}) CltuStartDiagnostic)
         → (run.begins_run_by (queue.start first) (started r) || false)
         ≡ is_some (where_started first (start_reply now r))
     by_result (Ok u) = refl
@@ -457,7 +459,7 @@ pub record Begun (s : State) (call : Call) (first : ℕ) : Type 0 where
   pub queue_is : (after s call).queue ≡ run.after (forward s.queue (queue.start first)).0
       (notice_where told)
 
-started_where : (f first now : ℕ) (r : Result (Unit {0}) ℕ)
+started_where : (f first now : ℕ) (r : Result (Unit {0}) CltuStartDiagnostic)
     → where_started f (start_reply now r) ≡ Some first → (f ≡ first) × (r ≡ Ok tt)
 started_where f first now (Ok u) e = (cc e, refl)
 started_where f first now (Err d) e = absurd (cc e)

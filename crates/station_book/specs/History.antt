@@ -9,8 +9,9 @@ use Rattle.std.specs.Option.{option_map_or}
 use Rattle.archive_terms.specs.Archive.{Entry, is_archive}
 use Rattle.archive_terms.specs.Glimpse.{Want, glimpse}
 use Rattle.frame_select.specs.Glimpse.{as_said}
-use Rattle.cltu_queue.specs.Machine.{Machine, on_start, on_stop, on_transfer, refusal, queued}
-use Rattle.cltu_queue.specs.Machine.{room_of, on_take, on_done, on_interrupted, on_uplink}
+use Rattle.fcltu_numbers.specs.declared.cltu_start_diagnostic.CltuStartDiagnostic.{CltuStartDiagnostic}
+use Rattle.cltu_queue.specs.Machine.{Machine, on_start, on_stop, on_transfer}
+use Rattle.cltu_queue.specs.Machine.{on_take, on_done, on_interrupted, on_uplink}
 use Rattle.cltu_queue.specs.Machine.{on_notice, view_of}
 use Rattle.cltu_queue.specs.declared.ask.Ask.{Ask}
 use Rattle.cltu_queue.specs.declared.ask.Ask.TheVariants as ask
@@ -19,7 +20,9 @@ use Rattle.cltu_queue.specs.declared.book_reply.BookReply.TheVariants.{Nothing, 
 use Rattle.cltu_queue.specs.declared.book_reply.BookReply.TheVariants.{Unbound, Started}
 use Rattle.cltu_queue.specs.declared.book_reply.BookReply.TheVariants.{StartRefused, Taken}
 use Rattle.cltu_queue.specs.declared.book_reply.BookReply.TheVariants.{Rejected, Stopped, Lost}
-use Rattle.cltu_queue.specs.declared.cltu.Cltu.{Cltu}
+use Rattle.cltu_queue.specs.declared.cltu_fault.CltuFault.{CltuFault}
+use Rattle.cltu_queue.specs.declared.cltu_fault.CltuFault.TheVariants.{Refused, Memory}
+use Rattle.cltu_queue.specs.declared.room.Room.{Room}
 use Rattle.cltu_queue.specs.declared.notice.Notice.{Notice}
 use Rattle.station_book.specs.declared.service_kind.ServiceKind.{ServiceKind}
 use Rattle.station_book.specs.declared.service_kind.ServiceKind.TheVariants.{Cltu as Forward}
@@ -96,13 +99,15 @@ is_lost s door ask.CltuStop = not (is_running s door)
 is_lost s door ask.Nothing = false
 is_lost s door ask.Quiet = false
 
-abbrev pub start_reply : ℕ → Result (Unit {0}) ℕ → BookReply
+abbrev pub start_reply : ℕ → Result (Unit {0}) CltuStartDiagnostic → BookReply
 start_reply now (Ok _) = Started now
 start_reply now (Err diagnostic) = StartRefused diagnostic
 
-abbrev pub transfer_reply : Option ℕ → Machine → Cltu → BookReply
-transfer_reply None m cltu = Taken (room_of (queued m cltu))
-transfer_reply (Some diagnostic) m cltu = Rejected diagnostic (room_of m)
+-- no machine answers a want of memory
+abbrev pub transfer_reply : Result Room CltuFault → BookReply
+transfer_reply (Ok room) = Taken room
+transfer_reply (Err (Refused diagnostic room)) = Rejected diagnostic room
+transfer_reply (Err Memory) = Lost
 
 -- what an ask that fits does to the doors and to the queue, and what it is answered
 abbrev pub doors_asked : State → ℕ → Ask → List (Option ℕ)
@@ -125,7 +130,7 @@ reply_asked s door now (ask.Bind instance) =
 reply_asked s door now ask.Unbind = Unbound
 reply_asked s door now (ask.CltuStart first) = start_reply now (on_start s.queue first).1
 reply_asked s door now (ask.CltuTransfer cltu) =
-    transfer_reply (refusal s.queue cltu now) s.queue cltu
+    transfer_reply (on_transfer s.queue cltu now).1
 reply_asked s door now ask.CltuStop = Stopped
 reply_asked s door now _ = Nothing
 

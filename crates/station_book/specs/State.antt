@@ -2,6 +2,8 @@
 use Rattle.std.specs.Prelude.{ℕ, Bool, false, Option, None, List, length, replicate}
 use Rattle.archive_terms.specs.Archive.{Entry}
 use Rattle.archive_terms.specs.Glimpse.{Want, Glimpse}
+use Rattle.fcltu_numbers.specs.declared.cltu_production_status.CltuProductionStatus.{CltuProductionStatus}
+use Rattle.fcltu_numbers.specs.declared.uplink_status.UplinkStatus.{UplinkStatus}
 use Rattle.cltu_queue.specs.Machine.{Machine, new_machine}
 use Rattle.cltu_queue.specs.declared.ask.Ask.{Ask}
 use Rattle.cltu_queue.specs.declared.book_reply.BookReply.{BookReply}
@@ -53,7 +55,7 @@ pub data Call : Type 0 where
   take : ℕ → Call
   done : ℕ → ℕ → ℕ → Call
   interrupted : ℕ → ℕ → ℕ → Call
-  uplink : ℕ → ℕ → ℕ → Call
+  uplink : CltuProductionStatus → UplinkStatus → ℕ → Call
   gone : ℕ → Call
 
 -- what a door is answered: the reply to its ask, the look, the notice that is told, and the numbers

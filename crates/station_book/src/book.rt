@@ -18,6 +18,7 @@ use crate::service_kind::ServiceKind;
 use crate::site::{forward_limits, kinds_of};
 use archive_index::Index;
 use cltu_queue::{Ask, BookReply, Cltu, CltuFault, Notice, Queue, Taken, UplinkView};
+use fcltu_numbers::{CltuProductionStatus, UplinkStatus};
 use frame_select::{Glimpse, Want};
 use octet_core::Memory;
 use record_form::{Entries, Entry};
@@ -302,7 +303,7 @@ impl Book {
         ensures after { OnOk result (self.new
             ≡ record self.old { queue = (on_transfer self.old.queue cltu.now now).0 }) }
         ensures reply { IfOk result (λ reply.
-            reply ≡ transfer_reply (refusal self.old.queue cltu.now now) self.old.queue cltu.now) }
+            reply ≡ transfer_reply (on_transfer self.old.queue cltu.now now).1) }
         ensures err { OnErr result (self.new ≡ self.old) }
     {
         match self.queue.transfer(cltu, now) {
@@ -442,9 +443,8 @@ impl Book {
     }
 
     /// Production and uplink have these statuses from now on.
-    pub fn uplink(&mut self, production: u8, status: u8, reading: u128)
-        requires moment { reading < MOMENT_END }
-        requires statuses { (production ≤ 3) × (status ≤ 3) }
+    pub fn uplink(&mut self, production: CltuProductionStatus, status: UplinkStatus, reading: u128)
+        requires { reading < MOMENT_END }
         ensures { self.new ≡ after self.old (uplink production status reading) }
     {
         self.moment = self.peek(reading);

@@ -4,6 +4,7 @@ ghost use Rattle.frame_select.specs.Want.{want_of};
 
 use crate::book::Book;
 use cltu_queue::Ask;
+use fcltu_numbers::{CltuProductionStatus, UplinkStatus};
 use frame_select::Want;
 use record_form::Entries;
 use std::marker::Model;
@@ -53,8 +54,8 @@ pub(crate) enum Called {
         reading: u128,
     },
     Uplink {
-        production: u8,
-        status: u8,
+        production: CltuProductionStatus,
+        status: UplinkStatus,
         reading: u128,
     },
     Gone {
@@ -172,7 +173,12 @@ impl Event {
     }
 
     /// The event of `uplink`, called now.
-    pub fn uplink(book: &Book, production: u8, status: u8, reading: u128) -> Event
+    pub fn uplink(
+        book: &Book,
+        production: CltuProductionStatus,
+        status: UplinkStatus,
+        reading: u128,
+    ) -> Event
         ensures { result ≡ event_at book.now (uplink production status reading) }
     {
         Event::of(
