@@ -7,6 +7,10 @@ use Rattle.sle_common.specs.declared.gvcid.Channel.{Channel}
 use Rattle.sle_common.specs.declared.gvcid.Gvcid.{Gvcid}
 use Rattle.sle_common.specs.declared.report_kind.ReportKind.{ReportKind}
 use Rattle.sle_common.specs.declared.report_kind.ReportKind.TheVariants.{Now, Cycle, Stop}
+use Rattle.fcltu_numbers.specs.CltuProductionStatus as forward_status
+use Rattle.fcltu_numbers.specs.UplinkStatus as uplink_status
+use Rattle.fcltu_numbers.specs.declared.cltu_production_status.CltuProductionStatus.{CltuProductionStatus}
+use Rattle.fcltu_numbers.specs.declared.uplink_status.UplinkStatus.{UplinkStatus}
 use Rattle.sle_numbers.specs.FrameQuality as frame_quality
 use Rattle.sle_numbers.specs.LockStatus as lock_status
 use Rattle.sle_numbers.specs.RequestedFrameQuality as requested_quality
@@ -54,6 +58,13 @@ production = numbered production_status.number_of production_status.all producti
 
 abbrev pub requested : Kind RequestedFrameQuality
 requested = numbered requested_quality.number_of requested_quality.all requested_quality.each
+
+-- the status of forward production, and that of the uplink: their numbers
+abbrev pub forward_production : Kind CltuProductionStatus
+forward_production = numbered forward_status.number_of forward_status.all forward_status.each
+
+abbrev pub uplink : Kind UplinkStatus
+uplink = numbered uplink_status.number_of uplink_status.all uplink_status.each
 
 -- what a read gives after a stop
 abbrev pub pick_word : Pick → List ℕ

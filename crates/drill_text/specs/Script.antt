@@ -3,6 +3,8 @@ use Rattle.std.proofs.Common.{ℕ, Bool, true, ◌==◌, List, [], ◌∷◌, Op
 use Rattle.std.specs.Prelude.{codes}
 use Rattle.cds_time.specs.declared.cds.Cds.{Cds}
 use Rattle.record_form.specs.declared.entry.Entry.TheVariants.{Frame, LossOfSync, Production, Seal}
+use Rattle.fcltu_numbers.specs.declared.cltu_production_status.CltuProductionStatus.{CltuProductionStatus}
+use Rattle.fcltu_numbers.specs.declared.uplink_status.UplinkStatus.{UplinkStatus}
 use Rattle.sle_numbers.specs.declared.frame_quality.FrameQuality.{FrameQuality}
 use Rattle.sle_numbers.specs.declared.lock_status.LockStatus.{LockStatus}
 use Rattle.sle_numbers.specs.declared.requested_frame_quality.RequestedFrameQuality.{RequestedFrameQuality}
@@ -17,7 +19,7 @@ use Rattle.words.specs.Then.{◌▸◌}
 use Rattle.words.specs.Times.{time}
 use Rattle.drill_text.specs.Asks.{ask}
 use Rattle.drill_text.specs.Kinds.{connection, times, quality, lock, production, requested, pick}
-use Rattle.drill_text.specs.Kinds.{fails}
+use Rattle.drill_text.specs.Kinds.{fails, forward_production, uplink}
 use Rattle.drill_text.specs.declared.ask_line.AskLine.{AskLine}
 use Rattle.drill_text.specs.declared.pick.Pick.{Pick}
 use Rattle.drill_text.specs.declared.script_form.ScriptForm.{ScriptForm}
@@ -107,7 +109,7 @@ Behind RoundForm = ℕ × ℕ
 Behind StallForm = ℕ × ℕ
 Behind TakeForm = Bool
 Behind DoneForm = Unit {0}
-Behind UplinkForm = ℕ × ℕ
+Behind UplinkForm = CltuProductionStatus × UplinkStatus
 Behind CrashForm = ℕ × Pick
 Behind FaultForm = ℕ
 
@@ -128,7 +130,7 @@ script_row RoundForm = connection ▸ last times
 script_row StallForm = connection ▸ last times
 script_row TakeForm = fails
 script_row DoneForm = nothing
-script_row UplinkForm = number 0 3 ▸ last (number 0 3)
+script_row UplinkForm = forward_production ▸ last uplink
 script_row CrashForm = number 0 1000 ▸ last pick
 script_row FaultForm = last times
 

@@ -69,7 +69,7 @@ pub enum AskLine {
         /// The latest time of radiation.
         latest: Option<Cds>,
         /// The delay behind it, in microseconds.
-        delay: u32,
+        radiation_delay: u32,
         /// Whether a notice is wanted: NOTIFY is 0.
         wanted: bool,
         /// The CLTU, 1 to 65,536 octets.

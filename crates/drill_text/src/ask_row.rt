@@ -169,14 +169,14 @@ fn read_cltu(alloc: Global, separator: u8, words: Option<&[u8]>) -> Result<AskLi
     ensures { Gives (λ asked. asked) result
         (ask_reading AskForm.Cltu (parts_behind separator words.entry)) }
 {
-    let (id, (earliest, (latest, (delay, (wanted, octets))))) = Cltu::read(
+    let (id, (earliest, (latest, (radiation_delay, (wanted, octets))))) = Cltu::read(
         alloc, separator, words,
     )?;
     Ok(AskLine::Cltu {
         id,
         earliest,
         latest,
-        delay,
+        radiation_delay,
         wanted,
         octets,
     })

@@ -2,8 +2,9 @@
 
 use crate::ask_row::AskRow;
 use crate::pick::Pick;
+use fcltu_numbers::{CltuProductionStatus, UplinkStatus};
 use sle_numbers::{FrameQuality, LockStatus, RequestedFrameQuality, ReturnProductionStatus};
-use words::{Hex, Last, Number, NumberOf, Octet, OneOf, Then, Time};
+use words::{Hex, Last, Number, NumberOf, OneOf, Then, Time};
 
 type Connection = Number<1, 16>;
 
@@ -21,7 +22,7 @@ pub(crate) type Start = Then<Time, Then<Time, Last<NumberOf<RequestedFrameQualit
 
 pub(crate) type Piece = Then<Connection, Last<Hex<1, 65_536>>>;
 
-pub(crate) type Uplink = Then<Octet<0, 3>, Last<Octet<0, 3>>>;
+pub(crate) type Uplink = Then<NumberOf<CltuProductionStatus>, Last<NumberOf<UplinkStatus>>>;
 
 pub(crate) type Crash = Then<Number<0, 1_000>, Last<OneOf<Pick>>>;
 

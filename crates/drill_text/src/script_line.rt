@@ -3,6 +3,7 @@
 use crate::ask_line::AskLine;
 use crate::pick::Pick;
 use cds_time::Cds;
+use fcltu_numbers::{CltuProductionStatus, UplinkStatus};
 use octet_core::Octets;
 use record_form::Entry;
 use sle_numbers::RequestedFrameQuality;
@@ -64,10 +65,10 @@ pub enum ScriptLine {
     },
     /// `done`: one done turn for what is in the air.
     Done,
-    /// `uplink P U`: the production status and the uplink status, 0 to 3 each.
+    /// `uplink P U`: the numbers of the production status and of the uplink status.
     Uplink {
-        production: u8,
-        status: u8,
+        production: CltuProductionStatus,
+        status: UplinkStatus,
     },
     /// `crash K PICK`: the K-th counted device call from now on stops, 0 to 1000; 0 is now.
     Crash {
