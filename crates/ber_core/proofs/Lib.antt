@@ -1,0 +1,3 @@
+mod Longer
+mod Trees
+mod Cutting

@@ -8,3 +8,4 @@ pub mod View
 pub mod Reading
 pub mod Whole
 pub mod Facts
+pub mod Longer

@@ -5,6 +5,8 @@ ghost use Rattle.ber_core.specs.Reading.{ElementReadBack, ContentIsInside, Conte
 ghost use Rattle.ber_core.specs.Reading.{RestIsBehind};
 ghost use Rattle.ber_core.specs.Whole.{ReadWhereSpelled, AllReadAreSpelled, AllSpelledAreRead};
 ghost use Rattle.ber_core.specs.Length.{IsSlice};
+ghost use Rattle.ber_core.specs.Longer.{FoundStays, TreeStays, CutWhereEndsBehind};
+ghost use Rattle.ber_core.specs.Longer.{TreeCutWhereEndsBehind};
 ghost use Rattle.ber_core.specs.Spelling.{CanonicalSpells, NoneBeginsAnother, OneTree};
 
 /// The canonical spelling is one of the spellings.
@@ -73,6 +75,19 @@ pub fn all_read_are_spelled()
 /// What is spelled, tree behind tree, is read.
 pub fn all_spelled_are_read()
     ensures { AllSpelledAreRead }
+{}
+
+/// Octets that come behind the input change nothing that was found, and no fault but Cut.
+pub fn a_fault_stays()
+    ensures found { FoundStays }
+    ensures tree { TreeStays }
+{}
+
+/// Cut is exactly where the outermost element, its identifier and length included, ends behind the
+/// input.
+pub fn cut_where_it_ends_behind()
+    ensures found { CutWhereEndsBehind }
+    ensures tree { TreeCutWhereEndsBehind }
 {}
 
 /// The octets of a slice are octets, and fewer than 2 ^ 63.

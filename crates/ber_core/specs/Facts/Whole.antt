@@ -202,7 +202,7 @@ content_ends : (view : View) (tag content spelled : List ℕ) → IsElement tag 
 content_ends view tag content spelled element =
     omega (arith, ap length element.2, length-parts tag element.0 content)
 
-standing : (view : View) (tag content spelled rest : List ℕ) → IsElement tag content spelled
+pub standing : (view : View) (tag content spelled rest : List ℕ) → IsElement tag content spelled
     → left view ≡ spelled ++ rest → length view.ends < 16
     → Stands view tag content (view.place + length spelled - length content)
 standing view tag content spelled rest element front shallow = record {
