@@ -1,4 +1,5 @@
-// Disks over files, which the tests make in their own folder and remove.
+// Disks over files of the system, which the tests make in their own folder and remove. What is
+// found in a file is told by std's own reader and writer of files.
 ghost use Rattle.std.specs.Prelude.{◌≡◌};
 
 use disk_model::{Disk, FileDisk};
@@ -6,6 +7,15 @@ use octet_core::Failed;
 use std::fs;
 use std::io::{ErrorKind, Result as IoResult};
 use std::test::Fail;
+
+// The paths of a disk: a plain one, one with a blank at its end, and one of 300 octets.
+const PATHS: [&str; 3] = ["a_disk_over_a_file", "a_blank_at_the_end ", LONG];
+
+const LONG: &str = "\
+    ././././././././././././././././././././././././././././././././././././././././\
+    ././././././././././././././././././././././././././././././././././././././././\
+    ././././././././././././././././././././././././././././././././././././././././\
+    ././././././././././././././././././././a_path_of_300_octets";
 
 // Through the bound alone, as callers use a disk.
 fn write_and_cut<D: Disk>(disk: &mut D) -> Result<[u8; 5], Failed>
@@ -50,12 +60,33 @@ fn read_again(files: &HostRuntime, path: &str) -> IoResult<(Result<[u8; 3], Fail
 // A file that is there is taken as it is.
 #[test]
 fn a_disk_over_a_file_keeps_what_is_written_and_cut(rt: HostRuntime) -> Result<(), Fail> {
-    let path = "a_disk_over_a_file";
-    let filled = fill(&rt, path)?;
-    let again = read_again(&rt, path)?;
+    for path in PATHS {
+        let filled = fill(&rt, path)?;
+        let found = fs::read(&rt, path)?;
+        let again = read_again(&rt, path)?;
+        fs::remove_file(&rt, path)?;
+        assert_eq!(rt; filled, (Ok(*b"abxyz"), 5));
+        assert_eq!(rt; found.as_slice(), b"abxyz".as_slice());
+        assert_eq!(rt; again, (Ok(*b"xyz"), 5, 0));
+    }
+    Ok(())
+}
+
+// What is read of a file that ended early since it was opened, and how often that failed.
+fn read_of_a_cut_file(files: &HostRuntime, path: &str) -> IoResult<(Result<[u8; 3], Failed>, u64)> {
+    fs::write(files, path, b"abcdef")?;
+    let mut disk = FileDisk::open(files, path)?;
+    fs::write(files, path, b"abc")?;
+    let read = from_the_third(&mut disk);
+    Ok((read, disk.faults()))
+}
+
+#[test]
+fn a_file_that_is_cut_from_outside_is_at_fault(rt: HostRuntime) -> Result<(), Fail> {
+    let path = "a_file_that_is_cut";
+    let read = read_of_a_cut_file(&rt, path)?;
     fs::remove_file(&rt, path)?;
-    assert_eq!(rt; filled, (Ok(*b"abxyz"), 5));
-    assert_eq!(rt; again, (Ok(*b"xyz"), 5, 0));
+    assert_eq!(rt; read, (Err(Failed), 1));
     Ok(())
 }
 

@@ -1,0 +1,2 @@
+pub mod PartFile
+pub mod PartFileLaws
