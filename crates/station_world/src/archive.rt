@@ -1,9 +1,11 @@
 // The calls of an archive on any disk that tells, each with the events of the world that it is.
-ghost use Rattle.std.specs.Prelude.{◌≡◌, ◌≤◌, false, true, List, [], ◌∷◌, Some, None, IsSomeAnd};
-ghost use Rattle.std.specs.Prelude.{IsTrue, OnOk, OnErr, IfOk, IsErrOf};
+ghost use Rattle.std.specs.Prelude.{◌≡◌, ◌≤◌, ◌-◌, ◌⊎◌, false, true, List, [], ◌∷◌, length, Some};
+ghost use Rattle.std.specs.Prelude.{None, IsSomeAnd, IsTrue, OnOk, OnErr, IfOk, IfErr, IsErrOf};
 ghost use Rattle.archive_terms.specs.Archive.{is_valid};
 ghost use Rattle.disk_model.specs.Moments.{HoldsThroughout};
+ghost use Rattle.disk_model.specs.Calls.{AllMade, FailedAtOne};
 ghost use Rattle.record_form.specs.Entry.{entry_of};
+ghost use Rattle.gate_journal.specs.JournalState.{appending, recovering, FailsToRecover};
 ghost use Rattle.frame_archive.specs.declared.fault.ArchiveFault.TheVariants as ArchiveFault;
 ghost use Rattle.station_book.specs.State.{Opening};
 ghost use Rattle.station_world.specs.File.{File, in_a_store, Finding, refused, found_by};
@@ -44,6 +46,10 @@ pub fn store<D: Disk>(archive: &mut FrameArchive<D>) -> Result<Stored, ArchiveFa
     ensures any_moment { archive.old.is_stale ≡ false → (f : File)
         → Holds D.pending archive.old f → HoldsThroughout D.moment D.images_since archive.old.disk
         archive.new.disk (StandsForOne (in_a_store f)) }
+    ensures calls { OnOk result (1 ≤ length archive.old.waiting → AllMade D.makes archive.old.disk
+        (appending (archive.old.used - 1) archive.old.waiting) archive.new.disk) }
+    ensures failed_calls { IsErrOf result ArchiveFault.DiskFault → FailedAtOne D.makes D.fails
+        archive.old.disk (appending (archive.old.used - 1) archive.old.waiting) archive.new.disk }
 {
     archive_calls_are_events::<D>();
     archive.store()
@@ -59,6 +65,11 @@ pub fn reopen<D: Disk>(archive: &mut FrameArchive<D>) -> Result<Landing, Archive
     ensures any_moment { (f : File) → Holds D.pending archive.old f
         → HoldsThroughout D.moment D.images_since archive.old.disk archive.new.disk
         (StandsForOne f) }
+    ensures calls { OnOk result (AllMade D.makes archive.old.disk recovering archive.new.disk) }
+    ensures refused_calls { OnErr result (IsErrOf result ArchiveFault.DiskFault
+        ⊎ AllMade D.makes archive.old.disk recovering archive.new.disk) }
+    ensures failed_calls { IsErrOf result ArchiveFault.DiskFault → FailsToRecover D.makes D.fails
+        D.fails_to_read archive.old.disk archive.new.disk }
 {
     archive_calls_are_events::<D>();
     archive.reopen()
@@ -77,6 +88,11 @@ pub fn open<D: Disk>(
         → (finding : Finding) × (found_by w.file finding ≡ Some opened.1)
         × AllCome o w (restarts finding ∷ [])
         × Holds D.pending opened.0 (after_events o w (restarts finding ∷ [])).file) }
+    ensures calls { IfOk result (λ opened. AllMade D.makes disk recovering opened.0.disk) }
+    ensures refused_calls { IfErr result (λ refused. (refused.0 ≡ ArchiveFault.DiskFault)
+        ⊎ AllMade D.makes disk recovering refused.1) }
+    ensures failed_calls { IfErr result (λ refused. refused.0 ≡ ArchiveFault.DiskFault
+        → FailsToRecover D.makes D.fails D.fails_to_read disk refused.1) }
 {
     archive_calls_are_events::<D>();
     open_archive(alloc, disk, capacity)
