@@ -1,8 +1,9 @@
 // A journal's entries from the octets of its file.
-ghost use Rattle.std.specs.Prelude.{◌≡◌, ◌<◌, ◌++◌, drop, length};
-ghost use Rattle.std.specs.Prelude.{IfOk, IfErr, IfSome, IfNone, OnOk};
+ghost use Rattle.std.specs.Prelude.{◌≡◌, ◌<◌, ◌++◌, ℕ, drop, length};
+ghost use Rattle.std.specs.Prelude.{IfOk, IfErr, IfSome, IfNone, IsErrOf, OnOk};
 ghost use Rattle.gate_journal.specs.File.{header, StandsAt};
 ghost use Rattle.gate_journal.specs.Reading.{IsNoJournal, Refuses};
+ghost use Rattle.gate_journal.specs.declared.fault.JournalFault.TheVariants as JournalFault;
 
 use crate::JournalFault;
 use crate::batch::Batch;
@@ -14,11 +15,15 @@ use std::alloc::Global;
 /// What stands before the first gate: SLEA, and the form 1.
 pub const HEADER: [u8; 8] = *b"SLEA\x00\x00\x00\x01";
 
-/// The entries that the octets of a file stand for, and where the gate behind them stands.
+/// The entries that the octets of a file stand for, and where the gate behind them stands. One that
+/// is no journal is refused as such, and not for want of memory: none is taken for it.
+#[tactic(auto, using(crate::proofs::Verdicts::one_place, crate::proofs::Verdicts::header_leads))]
 pub fn load(alloc: Global, file: &[u8]) -> Result<(Entries, u64), JournalFault>
     ensures stands { IfOk result (λ read. StandsAt read.0 read.1 file.now) }
     ensures within { IfOk result (λ read. read.1 < length file.now) }
     ensures refused { IfErr result (λ fault. Refuses fault file.now) }
+    ensures no_journal { (place : ℕ) → IsNoJournal place file.now
+        → IsErrOf result (JournalFault.NotJournal place) }
 {
     if let Some(place) = first_difference(file) {
         return Err(JournalFault::NotJournal {
