@@ -1,7 +1,9 @@
 // Words that are service instance identifiers.
-ghost use Rattle.std.specs.Prelude.{◌≡◌};
+ghost use Rattle.std.specs.Prelude.{◌≡◌, false, IsErrOf};
 ghost use Rattle.std.specs.List.{list_all};
 ghost use Rattle.sle_common.specs.Identifier.{is_value, is_value_octet};
+ghost use Rattle.words.specs.Identifiers.{value};
+ghost use Rattle.words.specs.Reading.{Gives};
 
 use crate::last::Last;
 use crate::listed::{Listed, OneOf};
@@ -86,7 +88,12 @@ impl Word for ValueWord {
 
     ghost seen = { λ octets. octets };
 
-    fn read(alloc: Global, word: &[u8]) -> Result<Octets, Unread> {
+    /// The octets of a word. One that is no value is refused as such, and not for want of memory:
+    /// nothing is copied for it.
+    fn read(alloc: Global, word: &[u8]) -> Result<Octets, Unread>
+        ensures exact { Gives (λ octets. octets) result (value.read word.now) }
+        ensures bad { is_value word.now ≡ false → IsErrOf result Unread.Bad }
+    {
         if is_value(word) {
             Ok(Octets::copy_of(alloc, word)?)
         } else {

@@ -1,7 +1,8 @@
 // Words that are names.
-ghost use Rattle.std.specs.Prelude.{◌≡◌};
+ghost use Rattle.std.specs.Prelude.{◌≡◌, false, IsErrOf};
 ghost use Rattle.std.specs.List.{list_all};
-ghost use Rattle.words.specs.Names.{is_graphic};
+ghost use Rattle.words.specs.Names.{is_graphic, is_name, name};
+ghost use Rattle.words.specs.Reading.{Gives};
 
 use crate::unread::Unread;
 use crate::word::Word;
@@ -23,7 +24,12 @@ impl<const LEAST: u32, const MOST: u32> Word for Name<LEAST, MOST> {
 
     ghost seen = { λ octets. octets };
 
-    fn read(alloc: Global, word: &[u8]) -> Result<Octets, Unread> {
+    /// The octets of a word. One that is no name is refused as such, and not for want of memory:
+    /// nothing is copied for it.
+    fn read(alloc: Global, word: &[u8]) -> Result<Octets, Unread>
+        ensures exact { Gives (λ octets. octets) result ((name LEAST MOST).read word.now) }
+        ensures bad { is_name LEAST MOST word.now ≡ false → IsErrOf result Unread.Bad }
+    {
         if word.len() >= LEAST as usize && word.len() <= MOST as usize && is_graphic(word) {
             Ok(Octets::copy_of(alloc, word)?)
         } else {
