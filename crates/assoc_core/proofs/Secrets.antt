@@ -8,11 +8,12 @@ use Rattle.station_config.specs.declared.peer.Peer.{Peer}
 use Rattle.assoc_core.specs.Access.{lent, secret_of, IsSecretOf}
 
 abbrev by_parts : List ℕ → List ℕ → Hash → ℕ → Secret
-by_parts name pass hash delay =
-    record { name = lent name; pass = lent pass; hash = hash; delay = delay }
+by_parts name pass hash age =
+    record { name = lent name; pass = lent pass; hash = hash; credential_age = age }
 
 same_octets : (s : Secret) (credentials : Option (List ℕ)) (now : ℕ)
-    → auth s credentials now ≡ auth (by_parts s.name.now s.pass.now s.hash s.delay) credentials now
+    → auth s credentials now
+    ≡ auth (by_parts s.name.now s.pass.now s.hash s.credential_age) credentials now
 same_octets s credentials now = refl
 
 pub same_answer : (peer : Peer) (s : Secret) (credentials : Option (List ℕ)) (now : ℕ)
@@ -21,7 +22,7 @@ pub same_answer : (peer : Peer) (s : Secret) (credentials : Option (List ℕ)) (
 same_answer peer s credentials now is =
     let answer : Secret → Result (Unit {0}) AuthFault = λ t. auth t credentials now in
     same_octets s credentials now
-    ∙ ap (λ name. answer (by_parts name s.pass.now s.hash s.delay)) is.name
-    ∙ ap (λ pass. answer (by_parts peer.name pass s.hash s.delay)) is.pass
-    ∙ ap (λ hash. answer (by_parts peer.name peer.pass hash s.delay)) is.hash
-    ∙ ap (λ delay. answer (by_parts peer.name peer.pass (secret_of peer).hash delay)) is.delay
+    ∙ ap (λ name. answer (by_parts name s.pass.now s.hash s.credential_age)) is.name
+    ∙ ap (λ pass. answer (by_parts peer.name pass s.hash s.credential_age)) is.pass
+    ∙ ap (λ hash. answer (by_parts peer.name peer.pass hash s.credential_age)) is.hash
+    ∙ ap (λ age. answer (by_parts peer.name peer.pass (secret_of peer).hash age)) is.credential_age

@@ -49,7 +49,7 @@ secret_of peer =
       name = lent peer.name;
       pass = lent peer.pass;
       hash = if peer.sha256 then Sha256 else Sha1;
-      delay = peer.delay;
+      credential_age = peer.credential_age;
     }
 
 -- a secret with just these octets, wherever they stand
@@ -57,7 +57,7 @@ pub record IsSecretOf (peer : Peer) (secret : Secret) : Type 0 where
   pub name : secret.name.now ≡ peer.name
   pub pass : secret.pass.now ≡ peer.pass
   pub hash : secret.hash ≡ (secret_of peer).hash
-  pub delay : secret.delay ≡ peer.delay
+  pub credential_age : secret.credential_age ≡ peer.credential_age
 
 -- whether credentials are a peer's at this moment
 abbrev pub is_authentic : Peer → Option (List ℕ) → ℕ → Bool

@@ -70,7 +70,7 @@ fn secret_of(peer: &Peer) -> Secret<'_>
         name: peer.name.as_slice(),
         pass: peer.pass.as_slice(),
         hash,
-        delay: peer.delay,
+        credential_age: peer.credential_age,
     }
 }
 

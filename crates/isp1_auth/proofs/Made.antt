@@ -82,9 +82,9 @@ near_now : (now delay : ℕ) → 1 ≤ delay → abs_diff now (now / PICOS_A_MIC
 near_now now delay some = omega (arith, some)
 
 pub signed_accepted : (secret : Secret) (now number : ℕ) → now < MOMENT_END
-    → number ≤ GREATEST_NUMBER → 1 ≤ secret.delay
+    → number ≤ GREATEST_NUMBER → 1 ≤ secret.credential_age
     → auth secret (Some (signed secret (octets_of (in_micros now)) number)) now ≡ Ok tt
 signed_accepted secret now number below small some =
     accepted (signed secret (octets_of (in_micros now)) number) secret now
     (claim secret (octets_of (in_micros now)) number) (now / PICOS_A_MICRO * PICOS_A_MICRO)
-    (signed_says secret now number below small) (near_now now secret.delay some) refl
+    (signed_says secret now number below small) (near_now now secret.credential_age some) refl

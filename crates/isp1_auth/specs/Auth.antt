@@ -17,7 +17,7 @@ use Rattle.isp1_auth.specs.Signed.{Claim, sequence}
 
 -- how far a claim's time may be from now, in picoseconds
 abbrev pub allowed : Secret → ℕ
-allowed secret = secret.delay * PICOS_A_SECOND
+allowed secret = secret.credential_age * PICOS_A_SECOND
 
 -- the moment that a time's octets name, if they name one
 abbrev pub moment_in : List ℕ → Option ℕ

@@ -31,7 +31,7 @@ AcceptedWhileNear =
 abbrev pub SignedIsAccepted : Type 0
 SignedIsAccepted =
     (secret : Secret) (now number : ℕ) → now < MOMENT_END → number ≤ GREATEST_NUMBER
-    → 1 ≤ secret.delay
+    → 1 ≤ secret.credential_age
     → auth secret (Some (signed secret (octets_of (in_micros now)) number)) now ≡ Ok tt
 
 -- With a delay of 60, so many picoseconds are between now and the time that the credentials say,

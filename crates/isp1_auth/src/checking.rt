@@ -15,7 +15,7 @@ use sle_common::Credentials;
 pub const PICOS_A_SECOND: u128 = 1_000_000_000_000;
 
 /// Whether credentials are the secret's, and their time is now, in picoseconds since 1958-01-01, or
-/// at most the secret's delay away. The first fault is told, in the order of `AuthFault`. It takes
+/// at most the secret's age away. The first fault is told, in the order of `AuthFault`. It takes
 /// no memory, and one digest.
 pub fn check(secret: &Secret<'_>, credentials: &Credentials<'_>, now: u128) -> Result<(), AuthFault>
     ensures answer { IsAnswer (credentials_of credentials.now) secret.now now result }
@@ -39,7 +39,7 @@ fn check_used(secret: &Secret<'_>, octets: &[u8], now: u128) -> Result<(), AuthF
         return Err(AuthFault::Malformed);
     };
     let difference = now.abs_diff(moment);
-    if difference > u128::from(secret.delay) * PICOS_A_SECOND {
+    if difference > u128::from(secret.credential_age) * PICOS_A_SECOND {
         return Err(AuthFault::TooOld { difference });
     }
     let digest = digest(secret, signature.time, signature.number);

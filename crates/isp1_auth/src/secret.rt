@@ -10,5 +10,5 @@ pub struct Secret<'a> {
     pub pass: &'a [u8],
     pub hash: Hash,
     /// How far the time of credentials may be from now, either way, in seconds.
-    pub delay: u32,
+    pub credential_age: u32,
 }

@@ -85,4 +85,4 @@ pub record IsOwnSecret (site : Site) (peer : Peer) (secret : Secret) : Type 0 wh
   pub name : secret.name.now ≡ site.provider
   pub pass : secret.pass.now ≡ site.password
   pub hash : secret.hash ≡ (own_secret site peer).hash
-  pub delay : secret.delay ≡ peer.delay
+  pub credential_age : secret.credential_age ≡ peer.credential_age

@@ -42,7 +42,7 @@ fn own_secret<'a>(site: &'a Site, peer: &Peer) -> Secret<'a>
         name: site.provider.as_slice(),
         pass: site.password.as_slice(),
         hash,
-        delay: peer.delay,
+        credential_age: peer.credential_age,
     }
 }
 

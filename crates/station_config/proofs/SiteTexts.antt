@@ -419,7 +419,9 @@ abbrev with_instances : Draft → List Instance → Draft
 with_instances d instances = record d { instances = instances }
 
 peer_fits : (peer : Peer) → IsPeer peer → configuration.Fits (OfPeer peer)
-peer_fits peer is = (is.name, (tt, (tt, ((is.delay.low, is.delay.high), is.pass))))
+peer_fits peer is =
+    let age = is.credential_age in
+    (is.name, (tt, (tt, ((age.low, age.high), is.pass))))
 
 peers_follow : (rest before : List Peer) (d : Draft) (others : List Line)
     → ArePeers (before ++ rest) → Follow (with_peers d (before ++ rest)) others

@@ -318,7 +318,7 @@ step d (Versions versions) fits free h = record {
 step d (OfPeer peer) fits free h =
     let is : IsPeer peer = record {
       name = fits.0;
-      delay = record { low = fits.1.1.1.0.0; high = fits.1.1.1.0.1 };
+      credential_age = record { low = fits.1.1.1.0.0; high = fits.1.1.1.0.1 };
       pass = fits.1.1.1.1;
     } in
     record {

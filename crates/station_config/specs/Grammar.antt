@@ -131,7 +131,7 @@ line_of (inr (inr (inr (inr (inr (inl p)))))) =
       name = p.0;
       level = p.1.0;
       sha256 = p.1.1.0;
-      delay = p.1.1.1.0;
+      credential_age = p.1.1.1.0;
       pass = p.1.1.1.1;
     })
 line_of (inr (inr (inr (inr (inr (inr l)))))) = Instance l
@@ -146,7 +146,7 @@ parts_of (Beat h) = inr (inr (inr (inl (
 ))))
 parts_of (Versions versions) = inr (inr (inr (inr (inl versions))))
 parts_of (OfPeer p) = inr (inr
-    (inr (inr (inr (inl (p.name, (p.level, (p.sha256, (p.delay, p.pass)))))))))
+    (inr (inr (inr (inl (p.name, (p.level, (p.sha256, (p.credential_age, p.pass)))))))))
 parts_of (Instance l) = inr (inr (inr (inr (inr (inr l)))))
 
 pub line_there : (l : Line) → line_of (parts_of l) ≡ l

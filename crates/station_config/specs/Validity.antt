@@ -46,7 +46,7 @@ pub record AreVersions (versions : List ℕ) : Type 0 where
 
 pub record IsPeer (peer : Peer) : Type 0 where
   pub name : IsName peer.name
-  pub delay : IsFrom 1 86400 peer.delay
+  pub credential_age : IsFrom 1 86400 peer.credential_age
   pub pass : IsPassword peer.pass
 
 -- at most 32, each with a name of its own

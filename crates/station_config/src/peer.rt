@@ -13,7 +13,7 @@ pub struct Peer {
     /// Whether credentials have digests by SHA-256; by SHA-1 otherwise.
     pub sha256: bool,
     /// How far the time of credentials may be from now, either way: 1 to 86,400 seconds.
-    pub delay: u32,
+    pub credential_age: u32,
     /// The peer's password, 6 to 16 octets.
     pub pass: Octets,
 }

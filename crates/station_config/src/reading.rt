@@ -67,12 +67,12 @@ pub(crate) fn parse_line(alloc: Global, line: &[u8]) -> Result<Line, LineFault>
     } else if word == VERSIONS {
         Ok(Line::Versions(read_row::<VersionsRow>(alloc, words)?))
     } else if word == PEER {
-        let (name, (level, (sha256, (delay, pass)))) = read_row::<PeerRow>(alloc, words)?;
+        let (name, (level, (sha256, (credential_age, pass)))) = read_row::<PeerRow>(alloc, words)?;
         Ok(Line::Peer(Peer {
             name,
             level,
             sha256,
-            delay,
+            credential_age,
             pass,
         }))
     } else {
