@@ -13,8 +13,8 @@ use Rattle.station_config.specs.Drafts.{same_id}
 use Rattle.station_config.specs.Identity.{same_id_decides}
 use Rattle.station_config.specs.declared.instance.Instance.{Instance}
 use Rattle.station_config.specs.declared.site.Site.{Site}
-use Rattle.assoc_core.specs.declared.bind_fault.BindFault.{BindFault}
-use Rattle.assoc_core.specs.declared.bind_fault.BindFault.TheVariants.{InconsistentServiceType}
+use Rattle.sle_numbers.specs.declared.bind_diagnostic.BindDiagnostic.{BindDiagnostic}
+use Rattle.sle_numbers.specs.declared.bind_diagnostic.BindDiagnostic.TheVariants.{InconsistentServiceType}
 use Rattle.assoc_core.specs.Bind.{Ask, type_of, is_type, instance_place, wanted, is_owned_by, Check}
 use Rattle.assoc_core.specs.Bind.{checks, first_fault, place_unless, bind_answer}
 use Rattle.assoc_core.specs.Laws.{MayBind}
@@ -109,11 +109,11 @@ none_fails (check ∷ others) e =
           (is, none_fails others no)
     ] refl e
 
-record Answered (fault : Option BindFault) (found : Option ℕ) (place : ℕ) : Type 0 where
+record Answered (fault : Option BindDiagnostic) (found : Option ℕ) (place : ℕ) : Type 0 where
   pub no_fault : fault ≡ None
   pub at_place : found ≡ Some place
 
-answered : (fault : Option BindFault) (found : Option ℕ) (place : ℕ)
+answered : (fault : Option BindDiagnostic) (found : Option ℕ) (place : ℕ)
     → place_unless fault found ≡ Ok place → Answered fault found place
 answered (Some fault) found place e = absurd (differ (sym (ap is_ok e)))
 answered None None place e = absurd (differ (sym (ap is_ok e)))

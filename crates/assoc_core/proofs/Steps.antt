@@ -1,10 +1,12 @@
 -- What a message that passes shows.
-use Rattle.std.proofs.Common.{◌≡◌, ◌⊎◌, inl, inr, ℕ, Bool, true, false, not, ◌||◌}
+use Rattle.std.proofs.Common.{◌≡◌, ◌⊎◌, inl, inr, Bool, true, false, not, ◌||◌}
 use Rattle.std.proofs.Common.{if◌then◌else◌, Option, Some, None, Result, Ok, Err, refl, sym}
 use Rattle.std.proofs.Common.{◌∙◌, ap, subst}
 use Rattle.std.specs.Prelude.{IsSomeAnd, is_some, is_ok}
 use Rattle.isp1_auth.specs.declared.auth_fault.AuthFault.{AuthFault}
 use Rattle.isp1_auth.specs.Auth.{auth}
+use Rattle.sle_numbers.specs.declared.peer_abort_diagnostic.PeerAbortDiagnostic.{PeerAbortDiagnostic}
+use Rattle.sle_numbers.specs.declared.peer_abort_diagnostic.PeerAbortDiagnostic.TheVariants as why
 use Rattle.station_config.specs.declared.level.Level.{Level}
 use Rattle.station_config.specs.declared.level.Level.TheVariants as level
 use Rattle.station_config.specs.declared.peer.Peer.{Peer}
@@ -17,7 +19,6 @@ use Rattle.assoc_core.specs.declared.state.State.{State}
 use Rattle.assoc_core.specs.declared.state.State.TheVariants as state
 use Rattle.assoc_core.specs.declared.step.Step.{Step}
 use Rattle.assoc_core.specs.declared.step.Step.TheVariants as step
-use Rattle.assoc_core.specs.Numbers.{protocol_error, encoding_error}
 use Rattle.assoc_core.specs.Kind.{Kind, context, heartbeat, bind, peer_abort, Message}
 use Rattle.assoc_core.specs.Table.{next}
 use Rattle.assoc_core.specs.State.{phase_of, binding_of, moved}
@@ -31,8 +32,8 @@ use Rattle.assoc_core.proofs.Tests.{differ}
 -- what becomes of a message by the three tests
 abbrev judged : Bool → Bool → Bool → Kind → Step
 judged decoded placed admitted k =
-    if not decoded then step.Abort encoding_error
-    else if not placed then step.Abort protocol_error
+    if not decoded then step.Abort why.EncodingError
+    else if not placed then step.Abort why.ProtocolError
     else if not admitted then refusal k
     else step.Pass
 
@@ -40,7 +41,7 @@ abbrev pub is_step_pass : Step → Bool
 is_step_pass step.Pass = true
 is_step_pass _ = false
 
-no_pass : (diagnostic : ℕ) → step.Abort diagnostic ≡ step.Pass → ⊥
+no_pass : (diagnostic : PeerAbortDiagnostic) → step.Abort diagnostic ≡ step.Pass → ⊥
 no_pass diagnostic e = differ (sym (ap is_step_pass e))
 
 refused : (k : Kind) → is_step_pass (refusal k) ≡ false
@@ -56,8 +57,8 @@ by_tests : (decoded placed admitted : Bool) (k : Kind)
     → judged decoded placed admitted k ≡ step.Pass
     → Passes decoded placed admitted
 by_tests true true true k e = record { is_decoded = refl; is_placed = refl; is_admitted = refl }
-by_tests false placed admitted k e = absurd (no_pass encoding_error e)
-by_tests true false admitted k e = absurd (no_pass protocol_error e)
+by_tests false placed admitted k e = absurd (no_pass why.EncodingError e)
+by_tests true false admitted k e = absurd (no_pass why.ProtocolError e)
 by_tests true true false k e = absurd (differ (sym (ap is_step_pass e) ∙ refused k))
 
 -- a message that passes decodes, is in place and is admitted

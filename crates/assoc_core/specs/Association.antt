@@ -1,12 +1,12 @@
 -- What becomes of a message, and of the association.
 use Rattle.std.specs.Prelude.{Bool, true, false, not, is_some, if◌then◌else◌}
+use Rattle.sle_numbers.specs.declared.peer_abort_diagnostic.PeerAbortDiagnostic.TheVariants as why
 use Rattle.station_config.specs.declared.site.Site.{Site}
 use Rattle.assoc_core.specs.declared.state.State.{State}
 use Rattle.assoc_core.specs.declared.state.State.TheVariants.{Unbound, Ready, Active}
 use Rattle.assoc_core.specs.declared.state.State.TheVariants.{Closing}
 use Rattle.assoc_core.specs.declared.step.Step.{Step}
 use Rattle.assoc_core.specs.declared.step.Step.TheVariants.{Pass, Denied, Abort}
-use Rattle.assoc_core.specs.Numbers.{access_denied, protocol_error, encoding_error}
 use Rattle.assoc_core.specs.Kind.{Kind, bind, peer_abort, throw, transfer, other, undecoded}
 use Rattle.assoc_core.specs.Kind.{Message}
 use Rattle.assoc_core.specs.Table.{follows}
@@ -36,14 +36,14 @@ is_in_place state kind = is_some (follows (phase_of state) kind)
 -- what becomes of a message with credentials that fail
 abbrev pub refusal : Kind → Step
 refusal bind = Denied
-refusal _ = Abort access_denied
+refusal _ = Abort why.AccessDenied
 
 -- Decoding comes before the state, the state before credentials, and credentials before the
 -- service.
 abbrev pub step : Site → State → Message → Step
 step site state m =
-    if not (is_decoded state m.kind) then Abort encoding_error
-    else if not (is_in_place state m.kind) then Abort protocol_error
+    if not (is_decoded state m.kind) then Abort why.EncodingError
+    else if not (is_in_place state m.kind) then Abort why.ProtocolError
     else if not (is_admitted site state m) then refusal m.kind
     else Pass
 

@@ -1,25 +1,22 @@
 -- The checks of a BIND (CCSDS 911.1-B, annex A, has the diagnostics; the conditions and their order
 -- are own).
-use Rattle.std.specs.Prelude.{ℕ, Bool, false, not, ◌||◌, ◌==◌, if◌then◌else◌, Option, Some, None}
-use Rattle.std.specs.Prelude.{is_none, option_and_then, Result, Ok, Err, List, [], ◌∷◌, position}
-use Rattle.std.specs.Prelude.{slice_get}
+use Rattle.std.specs.Prelude.{ℕ, Bool, false, not, ◌==◌, if◌then◌else◌, Option, Some, None}
+use Rattle.std.specs.Prelude.{is_none, is_some, option_and_then, Result, Ok, Err, List, [], ◌∷◌}
+use Rattle.std.specs.Prelude.{position, slice_get}
 use Rattle.std.specs.List.{list_any}
 use Rattle.std.specs.Option.{option_map_or}
 use Rattle.sle_common.specs.declared.instance_id.InstancePart.{InstancePart}
 use Rattle.sle_common.specs.declared.instance_ref.InstanceRef.{InstanceRef}
 use Rattle.sle_common.specs.InstanceRef.{parts_of}
+use Rattle.sle_numbers.specs.Numbered.{of_number}
+use Rattle.sle_numbers.specs.ServiceType as services
+use Rattle.sle_numbers.specs.declared.bind_diagnostic.BindDiagnostic.{BindDiagnostic}
+use Rattle.sle_numbers.specs.declared.bind_diagnostic.BindDiagnostic.TheVariants as why
 use Rattle.station_config.specs.Drafts.{same_id}
+use Rattle.station_config.specs.Validity.{service_type}
 use Rattle.station_config.specs.declared.instance.Instance.{Instance}
 use Rattle.station_config.specs.declared.service.Service.{Service}
-use Rattle.station_config.specs.declared.service.Service.TheVariants.{Raf, Rcf, Cltu}
 use Rattle.station_config.specs.declared.site.Site.{Site}
-use Rattle.assoc_core.specs.declared.bind_fault.BindFault.{BindFault}
-use Rattle.assoc_core.specs.declared.bind_fault.BindFault.TheVariants.{AccessDenied}
-use Rattle.assoc_core.specs.declared.bind_fault.BindFault.TheVariants.{ServiceTypeNotSupported}
-use Rattle.assoc_core.specs.declared.bind_fault.BindFault.TheVariants.{VersionNotSupported}
-use Rattle.assoc_core.specs.declared.bind_fault.BindFault.TheVariants.{NoSuchServiceInstance}
-use Rattle.assoc_core.specs.declared.bind_fault.BindFault.TheVariants.{SiNotAccessibleToThisInitiator}
-use Rattle.assoc_core.specs.declared.bind_fault.BindFault.TheVariants.{InconsistentServiceType}
 
 -- what a BIND asks for: the place of the peer that sends it, if it is one that may bind; the
 -- service type and version; and the attributes and values of the instance
@@ -33,14 +30,13 @@ abbrev pub ask_of : Option ℕ → ℕ → ℕ → InstanceRef → Ask
 ask_of peer service version instance =
     record { peer = peer; service = service; version = version; id = parts_of instance }
 
--- the service type of RAF, RCF and forward CLTU
+-- the number of the type by which a BIND asks for a service
 abbrev pub type_of : Service → ℕ
-type_of (Raf _ _ _) = 0
-type_of (Rcf _ _ _ _) = 2
-type_of (Cltu _ _) = 16
+type_of service = services.number_of (service_type service)
 
+-- whether a number is one of a service type
 abbrev pub is_type : ℕ → Bool
-is_type service = service == 0 || service == 2 || service == 16
+is_type number = is_some (of_number services.number_of services.all number)
 
 -- the place of the instance of this identifier
 abbrev pub instance_place : List Instance → List InstancePart → Option ℕ
@@ -67,37 +63,37 @@ has_other_service ask instance =
 
 -- a diagnostic, and whether it is to be answered
 pub record Check : Type 0 where
-  pub fault : BindFault
+  pub fault : BindDiagnostic
   pub fails : Bool
 
-abbrev pub check : BindFault → Bool → Check
+abbrev pub check : BindDiagnostic → Bool → Check
 check fault fails = record { fault = fault; fails = fails }
 
 -- the checks of an ask for an instance, or for none, in their order
 abbrev pub checks : Site → Ask → Option Instance → List Check
 checks site ask instance =
-    check AccessDenied (is_none ask.peer)
-    ∷ check ServiceTypeNotSupported (not (is_type ask.service))
-    ∷ check VersionNotSupported (not (has_version site ask))
-    ∷ check NoSuchServiceInstance (is_none instance)
-    ∷ check SiNotAccessibleToThisInitiator (is_anothers ask instance)
-    ∷ check InconsistentServiceType (has_other_service ask instance)
+    check why.AccessDenied (is_none ask.peer)
+    ∷ check why.ServiceTypeNotSupported (not (is_type ask.service))
+    ∷ check why.VersionNotSupported (not (has_version site ask))
+    ∷ check why.NoSuchServiceInstance (is_none instance)
+    ∷ check why.SiNotAccessibleToThisInitiator (is_anothers ask instance)
+    ∷ check why.InconsistentServiceType (has_other_service ask instance)
     ∷ []
 
 -- the first that fails
-abbrev pub first_fault : List Check → Option BindFault
+abbrev pub first_fault : List Check → Option BindDiagnostic
 first_fault [] = None
 first_fault (check ∷ others) = if check.fails then Some check.fault else first_fault others
 
 -- the place of the instance, where no check fails
-abbrev pub place_unless : Option BindFault → Option ℕ → Result ℕ BindFault
+abbrev pub place_unless : Option BindDiagnostic → Option ℕ → Result ℕ BindDiagnostic
 place_unless (Some fault) place = Err fault
 place_unless None (Some place) = Ok place
-place_unless None None = Err NoSuchServiceInstance
+place_unless None None = Err why.NoSuchServiceInstance
 
 -- what a BIND is answered, but for what the book says of it: the place of the instance, or the
 -- diagnostic of the first check that fails
-abbrev pub bind_answer : Site → Ask → Result ℕ BindFault
+abbrev pub bind_answer : Site → Ask → Result ℕ BindDiagnostic
 bind_answer site ask =
     place_unless
     (first_fault (checks site ask (wanted site.instances ask.id)))

@@ -1,4 +1,3 @@
-pub mod Numbers
 pub mod Kind
 pub mod Table
 pub mod State

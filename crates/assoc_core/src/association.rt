@@ -7,8 +7,9 @@ use crate::access::is_admitted;
 use crate::outcome::Outcome;
 use crate::pdu_kind::PduKind;
 use crate::state::State;
-use crate::step::{ACCESS_DENIED, ENCODING_ERROR, PROTOCOL_ERROR, Step};
+use crate::step::Step;
 use sle_common::Credentials;
+use sle_numbers::PeerAbortDiagnostic;
 use station_config::Site;
 use std::marker::Model;
 
@@ -87,12 +88,12 @@ fn judge(
 {
     if !state.decodes(kind) {
         return Step::Abort {
-            diagnostic: ENCODING_ERROR,
+            diagnostic: PeerAbortDiagnostic::EncodingError,
         };
     }
     if !state.accepts(kind) {
         return Step::Abort {
-            diagnostic: PROTOCOL_ERROR,
+            diagnostic: PeerAbortDiagnostic::ProtocolError,
         };
     }
     if !is_admitted(site, state, kind, credentials, now) {
@@ -108,7 +109,7 @@ fn refusal(kind: PduKind<'_>) -> Step
     match kind {
         PduKind::Bind { .. } => Step::Denied,
         _ => Step::Abort {
-            diagnostic: ACCESS_DENIED,
+            diagnostic: PeerAbortDiagnostic::AccessDenied,
         },
     }
 }

@@ -6,16 +6,9 @@ ghost use Rattle.station_config.specs.Drafts.{same_id};
 ghost use Rattle.station_config.specs.Validity.{IsSite};
 ghost use Rattle.assoc_core.specs.Bind.{ask_of, bind_answer, instance_place, is_type, type_of};
 
-use crate::bind_fault::BindFault;
 use sle_common::{InstanceId, InstanceRef};
+use sle_numbers::{BindDiagnostic, Numbered, ServiceType};
 use station_config::{Instance, Service, Site};
-
-// The service types (CCSDS 911.1-B, annex A).
-const RAF: u16 = 0;
-
-const RCF: u16 = 2;
-
-const FORWARD_CLTU: u16 = 16;
 
 /// The place of the instance that a BIND asks for, among the site's, or the first cause for which
 /// it is refused. `peer` is the place of the peer that sends it, and none where it may not bind:
@@ -28,47 +21,48 @@ pub fn check_bind(
     service: u16,
     version: u16,
     instance: &InstanceRef<'_>,
-) -> Result<u32, BindFault>
+) -> Result<u32, BindDiagnostic>
     requires { IsSite site.now }
     ensures { result ≡ bind_answer site.now (ask_of peer service version instance.now) }
 {
     let Some(peer) = peer else {
-        return Err(BindFault::AccessDenied);
+        return Err(BindDiagnostic::AccessDenied);
     };
     if !is_type(service) {
-        return Err(BindFault::ServiceTypeNotSupported);
+        return Err(BindDiagnostic::ServiceTypeNotSupported);
     }
     if !has_version(site.versions.as_slice(), version) {
-        return Err(BindFault::VersionNotSupported);
+        return Err(BindDiagnostic::VersionNotSupported);
     }
     let instances = site.instances.as_slice();
     let Some(place) = place_of(instances, instance) else {
-        return Err(BindFault::NoSuchServiceInstance);
+        return Err(BindDiagnostic::NoSuchServiceInstance);
     };
     let wanted = &instances[place];
     if wanted.owner != peer {
-        return Err(BindFault::SiNotAccessibleToThisInitiator);
+        return Err(BindDiagnostic::SiNotAccessibleToThisInitiator);
     }
     if type_of(&wanted.service) != service {
-        return Err(BindFault::InconsistentServiceType);
+        return Err(BindDiagnostic::InconsistentServiceType);
     }
     Ok(place as u32)
 }
 
-fn is_type(service: u16) -> bool
-    ensures { result ≡ is_type service }
+// Whether a number is one of a service type.
+fn is_type(number: u16) -> bool
+    ensures { result ≡ is_type number }
 {
-    matches!(service, RAF | RCF | FORWARD_CLTU)
+    match u8::try_from(number) {
+        Ok(number) => ServiceType::from_number(number).is_some(),
+        Err(_) => false,
+    }
 }
 
+// The number of the type by which a BIND asks for a service.
 fn type_of(service: &Service) -> u16
     ensures { result ≡ type_of service.now }
 {
-    match service {
-        Service::Raf { .. } => RAF,
-        Service::Rcf { .. } => RCF,
-        Service::Cltu { .. } => FORWARD_CLTU,
-    }
+    u16::from(service.service_type().number())
 }
 
 fn has_version(versions: &[u8], version: u16) -> bool

@@ -16,7 +16,6 @@
 mod access;
 mod association;
 mod bind_check;
-mod bind_fault;
 pub mod laws;
 mod outcome;
 mod outer_tag;
@@ -27,7 +26,6 @@ mod step;
 pub use access::{is_asked, peer_of};
 pub use association::Association;
 pub use bind_check::check_bind;
-pub use bind_fault::BindFault;
 pub use outcome::Outcome;
 pub use outer_tag::OuterTag;
 pub use pdu_kind::PduKind;

@@ -1,4 +1,5 @@
 // What becomes of a message.
+use sle_numbers::PeerAbortDiagnostic;
 
 /// What becomes of a message.
 #[derive(Clone, Copy, Debug, PartialEq, Eq)]
@@ -7,14 +8,6 @@ pub enum Step {
     Pass,
     /// It is a BIND, and is answered with accessDenied.
     Denied,
-    /// The association is aborted with this diagnostic of PEER-ABORT: accessDenied 0, protocolError
-    /// 3 or encodingError 5 (CCSDS 911.1-B, annex A).
-    Abort { diagnostic: u8 },
+    /// The association is aborted: for accessDenied, protocolError or encodingError.
+    Abort { diagnostic: PeerAbortDiagnostic },
 }
-
-// Diagnostics of PEER-ABORT.
-pub(crate) const ACCESS_DENIED: u8 = 0;
-
-pub(crate) const PROTOCOL_ERROR: u8 = 3;
-
-pub(crate) const ENCODING_ERROR: u8 = 5;

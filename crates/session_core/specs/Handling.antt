@@ -1,14 +1,17 @@
 -- What a message asks the book, and what it leads to once the book has replied.
-use Rattle.std.specs.Prelude.{ℕ, ℤ, pos, Bool, true, false, ◌&&◌, ◌||◌, ◌==◌, nat_le}
+use Rattle.std.specs.Prelude.{ℕ, Bool, true, false, ◌&&◌, ◌||◌, ◌==◌, nat_le}
 use Rattle.std.specs.Prelude.{if◌then◌else◌, Option, Some, None, unwrap_or, [], slice_get}
 use Rattle.std.specs.Prelude.{Result, Ok, Err}
 use Rattle.std.specs.Option.{option_map_or}
 use Rattle.bind_pdu.specs.Binding.{BindContent}
+use Rattle.sle_numbers.specs.declared.bind_diagnostic.BindDiagnostic.{BindDiagnostic}
+use Rattle.sle_numbers.specs.declared.bind_diagnostic.BindDiagnostic.TheVariants as refused
+use Rattle.sle_numbers.specs.declared.peer_abort_diagnostic.PeerAbortDiagnostic.{PeerAbortDiagnostic}
+use Rattle.sle_numbers.specs.declared.peer_abort_diagnostic.PeerAbortDiagnostic.TheVariants as why
 use Rattle.station_config.specs.Drafts.{place_of}
 use Rattle.station_config.specs.Validity.{is_forward}
 use Rattle.station_config.specs.declared.peer.Peer.{Peer}
 use Rattle.station_config.specs.declared.site.Site.{Site}
-use Rattle.assoc_core.specs.declared.bind_fault.BindFault.{BindFault}
 use Rattle.assoc_core.specs.declared.outcome.Outcome.{Outcome}
 use Rattle.assoc_core.specs.declared.outcome.Outcome.TheVariants as outcome
 use Rattle.assoc_core.specs.declared.step.Step.{Step}
@@ -17,7 +20,6 @@ use Rattle.assoc_core.specs.Access.{sender}
 use Rattle.assoc_core.specs.Association.{after_step}
 use Rattle.assoc_core.specs.Bind.{bind_answer}
 use Rattle.assoc_core.specs.Kind as kind
-use Rattle.assoc_core.specs.Numbers.{diagnostic_of}
 use Rattle.assoc_core.specs.State.{moved}
 use Rattle.cltu_queue.specs.declared.ask.Ask.{Ask}
 use Rattle.cltu_queue.specs.declared.ask.Ask.TheVariants as ask
@@ -27,7 +29,6 @@ use Rattle.session_core.specs.declared.course.Course.TheVariants.{Closing, Over}
 use Rattle.session_core.specs.declared.ended.Ended.{Ended}
 use Rattle.session_core.specs.declared.ended.Ended.TheVariants as ended
 use Rattle.session_core.specs.declared.standing.Standing.{Standing}
-use Rattle.session_core.specs.Numbers.{other_reason, access_denied, already_bound}
 use Rattle.session_core.specs.Inquiry.{Inquiry, only_asks, Replied}
 use Rattle.session_core.specs.Message.{UserContent, context, bind, unbind, peer_abort, invocation}
 use Rattle.session_core.specs.Message.{kind_of}
@@ -41,13 +42,13 @@ use Rattle.session_core.specs.Returns.{unbind_return_message, with_return}
 abbrev pub ended_by : Standing → Ended → Standing
 ended_by s end = record s { course = Over end; block = [] }
 
-abbrev pub aborted : Standing → ℕ → Standing
+abbrev pub aborted : Standing → PeerAbortDiagnostic → Standing
 aborted s diagnostic = ended_by s (ended.Aborted diagnostic)
 
 -- ---- what is asked
 
 -- the place of the instance that a BIND asks for, or why it is refused
-abbrev pub bind_judged : Site → BindContent → Result ℕ BindFault
+abbrev pub bind_judged : Site → BindContent → Result ℕ BindDiagnostic
 bind_judged site b =
     bind_answer site
     (record {
@@ -57,7 +58,7 @@ bind_judged site b =
       id = b.instance;
     })
 
-abbrev pub bind_ask : Result ℕ BindFault → Ask
+abbrev pub bind_ask : Result ℕ BindDiagnostic → Ask
 bind_ask (Ok place) = ask.Bind place
 bind_ask (Err fault) = ask.Nothing
 
@@ -96,10 +97,11 @@ with_context site s interval factor =
 -- ---- a BIND
 
 -- the version, where the book says that the instance is bound
-abbrev pub bind_result : BindContent → Result ℕ BindFault → BookReply → Result ℤ ℤ
-bind_result b (Err fault) reply = Err (pos (diagnostic_of fault))
-bind_result b (Ok place) Bound = Ok (pos b.version)
-bind_result b (Ok place) _ = Err (pos already_bound)
+abbrev pub bind_result : BindContent → Result ℕ BindDiagnostic → BookReply
+    → Result ℕ BindDiagnostic
+bind_result b (Err fault) reply = Err fault
+bind_result b (Ok place) Bound = Ok b.version
+bind_result b (Ok place) _ = Err refused.AlreadyBound
 
 -- whether the instance at a place of the site is one of a forward service
 abbrev pub is_forward_at : Site → ℕ → Bool
@@ -107,13 +109,13 @@ is_forward_at site place =
     option_map_or (λ instance. is_forward instance.service) (slice_get site.instances place) false
 
 -- what a BIND of a peer at this place led to
-abbrev pub bind_outcome : Site → Option ℕ → Result ℕ BindFault → BookReply → Outcome
+abbrev pub bind_outcome : Site → Option ℕ → Result ℕ BindDiagnostic → BookReply → Outcome
 bind_outcome site peer (Ok place) Bound =
     outcome.Bound (unwrap_or peer 0) (is_forward_at site place)
 bind_outcome site peer _ _ = outcome.Kept
 
 -- the place of the instance that a BIND bound
-abbrev pub place_bound : Result ℕ BindFault → BookReply → Option ℕ
+abbrev pub place_bound : Result ℕ BindDiagnostic → BookReply → Option ℕ
 place_bound (Ok place) Bound = Some place
 place_bound _ _ = None
 
@@ -138,7 +140,7 @@ abbrev pub with_denial : Site → Standing → Standing
 with_denial site s =
     record s {
       course = Closing ended.Denied;
-      block = bind_return_message site None (Err (pos access_denied));
+      block = bind_return_message site None (Err refused.AccessDenied);
     }
 
 -- ---- an UNBIND
@@ -178,7 +180,7 @@ invoked s said step =
 -- a message that was judged so leads to this, where the book replied so
 abbrev pub after_judged : Site → Standing → UserContent → Step → Replied → Standing
 after_judged site s said step r =
-    if is_lost r.reply then aborted s other_reason else concluded site s said step r
+    if is_lost r.reply then aborted s why.OtherReason else concluded site s said step r
 
 abbrev pub after_message : Site → Standing → UserContent → Step → Replied → Standing
 after_message site s said step r = after_judged site (invoked s said step) said step r

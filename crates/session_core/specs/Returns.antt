@@ -1,6 +1,7 @@
 -- The returns, as messages of the transport, with this provider's credentials (CCSDS 911.1-B, annex
 -- A; CCSDS 913.1-B). Which of them carry credentials is this product's own.
-use Rattle.std.specs.Prelude.{◌≡◌, ℕ, ℤ, Bool, nat_le, List, Option, Some, None, Result}
+use Rattle.std.specs.Prelude.{◌≡◌, ℕ, ℤ, pos, Bool, nat_le, List, Option, Some, None}
+use Rattle.std.specs.Prelude.{Result, Ok, Err}
 use Rattle.std.specs.Prelude.{option_and_then, option_map, slice_get, if◌then◌else◌}
 use Rattle.ber_core.specs.Spelling.{canonical}
 use Rattle.cds_time.specs.Moment.{octets_of, in_micros}
@@ -11,6 +12,8 @@ use Rattle.isp1_auth.specs.Numbers.{next_number}
 use Rattle.isp1_auth.specs.Signed.{signed}
 use Rattle.bind_pdu.specs.Binding.{bind_return}
 use Rattle.bind_pdu.specs.Unbinding.{unbind_return}
+use Rattle.sle_numbers.specs.BindDiagnostic.{number_of}
+use Rattle.sle_numbers.specs.declared.bind_diagnostic.BindDiagnostic.{BindDiagnostic}
 use Rattle.station_config.specs.declared.peer.Peer.{Peer}
 use Rattle.station_config.specs.declared.site.Site.{Site}
 use Rattle.assoc_core.specs.declared.state.State.{State}
@@ -69,11 +72,16 @@ with_return site s k message =
       block = message (own_credentials site (bound_peer site s) k s.numbers s.moment);
     }
 
+-- a version or a diagnostic as a return has it
+abbrev pub as_integers : Result ℕ BindDiagnostic → Result ℤ ℤ
+as_integers (Ok version) = Ok (pos version)
+as_integers (Err why) = Err (pos (number_of why))
+
 -- the return of BIND: the version, or why there is none
-abbrev pub bind_return_message : Site → Option (List ℕ) → Result ℤ ℤ → List ℕ
-bind_return_message site credentials result =
+abbrev pub bind_return_message : Site → Option (List ℕ) → Result ℕ BindDiagnostic → List ℕ
+bind_return_message site credentials bound =
     return_message bind_return
-    (record { credentials = credentials; responder = site.provider; result = result })
+    (record { credentials = credentials; responder = site.provider; result = as_integers bound })
 
 -- the return of UNBIND
 abbrev pub unbind_return_message : Option (List ℕ) → List ℕ

@@ -1,11 +1,11 @@
 -- What contracts see of a message that the code has read, and of what it is judged by.
-use Rattle.std.specs.Prelude.{ℕ, ℤ, pos, None, Result, Ok, Err}
+use Rattle.std.specs.Prelude.{ℕ, None, Result, Err}
 use Rattle.bind_pdu.specs.Binding.{BindContent}
 use Rattle.bind_pdu.specs.Seen.{bind_of, unbind_of, diagnostic_of}
+use Rattle.sle_numbers.specs.declared.bind_diagnostic.BindDiagnostic.{BindDiagnostic}
+use Rattle.sle_numbers.specs.declared.bind_diagnostic.BindDiagnostic.TheVariants.{AccessDenied}
 use Rattle.station_config.specs.declared.site.Site.{Site}
 use Rattle.station_config.specs.Drafts.{place_of}
-use Rattle.assoc_core.specs.declared.bind_fault.BindFault.{BindFault}
-use Rattle.assoc_core.specs.declared.bind_fault.BindFault.TheVariants.{AccessDenied}
 use Rattle.assoc_core.specs.declared.step.Step.{Step}
 use Rattle.assoc_core.specs.declared.step.Step.TheVariants.{Pass}
 use Rattle.cltu_queue.specs.declared.ask.Ask.TheVariants as ask
@@ -28,11 +28,6 @@ said_of (variant.Service i) = invocation (invocation_of i)
 said_of variant.Undecoded = undecoded
 said_of variant.OutOfPlace = out_of_place
 
--- a version or a diagnostic as a return has it
-abbrev pub as_integers : Result ℕ ℕ → Result ℤ ℤ
-as_integers (Ok version) = Ok (pos version)
-as_integers (Err diagnostic) = Err (pos diagnostic)
-
 -- what a BIND that passed is judged by
 abbrev pub places_of_bind : Site → BindContent → BindPlaces
 places_of_bind site b =
@@ -43,12 +38,12 @@ places_of site (bind b) Pass = places_of_bind site b
 places_of site _ _ = record { peer = None; instance = Err AccessDenied }
 
 -- what a message that was judged so asks, where a BIND's instance was judged so
-abbrev pub passed_ask_by : UserContent → Result ℕ BindFault → Inquiry
+abbrev pub passed_ask_by : UserContent → Result ℕ BindDiagnostic → Inquiry
 passed_ask_by (bind b) judged = only_asks (bind_ask judged)
 passed_ask_by (unbind u) judged = only_asks ask.Unbind
 passed_ask_by (invocation i) judged = invocation_ask i
 passed_ask_by _ judged = only_asks ask.Nothing
 
-abbrev pub ask_by : UserContent → Step → Result ℕ BindFault → Inquiry
+abbrev pub ask_by : UserContent → Step → Result ℕ BindDiagnostic → Inquiry
 ask_by said Pass judged = passed_ask_by said judged
 ask_by said _ judged = only_asks ask.Nothing

@@ -9,6 +9,7 @@ use Rattle.isp1_tml.specs.Beat.{Pulse, picos}
 use Rattle.isp1_tml.specs.Message.{Content, heartbeat, spelling}
 use Rattle.link_model.specs.declared.call.Heard.{Heard}
 use Rattle.link_model.specs.declared.call.Heard.TheVariants.{Arrived, Nothing, Closed, Failed}
+use Rattle.sle_numbers.specs.declared.peer_abort_diagnostic.PeerAbortDiagnostic.TheVariants.{CommunicationsFailure}
 use Rattle.station_config.specs.declared.service.Service.{Service}
 use Rattle.station_config.specs.declared.site.Site.{Site}
 use Rattle.cltu_queue.specs.declared.ask.Ask.{Ask}
@@ -19,7 +20,6 @@ use Rattle.session_core.specs.declared.course.Course.TheVariants.{Closing as Clo
 use Rattle.session_core.specs.declared.course.Course.TheVariants.{Over, LinkFailing, LinkFailed}
 use Rattle.session_core.specs.declared.ended.Ended.TheVariants.{PeerClosed, Broken}
 use Rattle.session_core.specs.declared.standing.Standing.{Standing}
-use Rattle.session_core.specs.Numbers.{communications_failure}
 use Rattle.session_core.specs.Course.{is_going, is_live, is_blocked, has_arrived}
 use Rattle.session_core.specs.Course.{has_closed}
 use Rattle.session_core.specs.Inquiry.{Inquiry, only_asks, Replied}
@@ -150,7 +150,7 @@ is_due p now = not (p.interval == 0) && nat_le (picos p.interval) (now - p.sent)
 abbrev pub timed : Standing → Standing
 timed s =
     if is_live s.course && is_dead (pulse_of s) s.moment
-    then aborted s communications_failure else s
+    then aborted s CommunicationsFailure else s
 
 -- a heartbeat, where the block is still empty
 abbrev pub with_heartbeat : Standing → Standing

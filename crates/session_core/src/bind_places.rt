@@ -5,8 +5,9 @@ ghost use Rattle.station_config.specs.Validity.{IsSite};
 ghost use Rattle.session_core.specs.Seen.{said_of, places_of_bind, places_of};
 
 use crate::user_message::UserMessage;
-use assoc_core::{BindFault, Step, check_bind, peer_of};
+use assoc_core::{Step, check_bind, peer_of};
 use bind_pdu::Bind;
+use sle_numbers::BindDiagnostic;
 use station_config::Site;
 
 // The place of a BIND's peer, if it is one; and the place of the instance that it asks for, or why
@@ -14,7 +15,7 @@ use station_config::Site;
 #[derive(Clone, Copy)]
 pub(crate) struct BindPlaces {
     pub(crate) peer: Option<u32>,
-    pub(crate) instance: Result<u32, BindFault>,
+    pub(crate) instance: Result<u32, BindDiagnostic>,
 }
 
 // What a BIND that passed is judged by. It goes over the site's peers and instances once.
@@ -36,7 +37,7 @@ pub(crate) fn places_of(site: &Site, message: &UserMessage<'_>, step: Step) -> B
         (UserMessage::Bind(bind), Step::Pass) => places_of_bind(site, bind),
         _ => BindPlaces {
             peer: None,
-            instance: Err(BindFault::AccessDenied),
+            instance: Err(BindDiagnostic::AccessDenied),
         },
     }
 }

@@ -1,6 +1,7 @@
 // How a session ended.
 
 use isp1_tml::TmlFault;
+use sle_numbers::PeerAbortDiagnostic;
 
 /// How a session ended.
 #[derive(Clone, Copy, Debug, PartialEq, Eq)]
@@ -22,13 +23,12 @@ pub enum Ended {
     Broken(TmlFault),
     /// This provider aborted, by closing the connection.
     Aborted {
-        /// Why, by the diagnostics of PEER-ABORT (CCSDS 911.1-B, annex A): accessDenied 0,
-        /// protocolError 3, communicationsFailure 4, encodingError 5, otherReason 127.
-        diagnostic: u8,
+        /// Why: accessDenied, protocolError, communicationsFailure, encodingError or otherReason.
+        diagnostic: PeerAbortDiagnostic,
     },
     /// The peer aborted.
     PeerAborted {
-        /// Why, from 0 to 127.
+        /// Why, from 0 to 127, also where the standard's table doesn't have the number.
         diagnostic: u8,
     },
 }

@@ -26,15 +26,9 @@ use crate::standing::Standing;
 use crate::user_message::UserMessage;
 use assoc_core::{Outcome, PduKind, Step, is_asked};
 use bind_pdu::Bind;
+use sle_numbers::{BindDiagnostic, PeerAbortDiagnostic};
 use station_book::{Ask, BookReply};
 use station_config::{Peer, Service, Site};
-
-// The diagnostic of PEER-ABORT where the book has lost what a session bound (CCSDS 911.1-B, annex
-// A).
-const OTHER_REASON: u8 = 127;
-
-// The diagnostic of a BIND that is denied (CCSDS 911.1-B, annex A).
-const ACCESS_DENIED: u8 = 0;
 
 // What a message that was judged so asks the book, and wants of a look.
 pub(crate) fn said_ask(message: &UserMessage<'_>, step: Step, places: BindPlaces) -> Inquiry
@@ -168,8 +162,8 @@ impl Standing {
         ensures { self.new ≡ with_denial site.now self.old }
     {
         self.course = Course::Closing(Ended::Denied);
-        self.block
-            .put(&bind_return(site, &None, Err(ACCESS_DENIED)));
+        let denied = Err(BindDiagnostic::AccessDenied);
+        self.block.put(&bind_return(site, &None, denied));
     }
 
     // An UNBIND that passed is answered.
@@ -222,7 +216,7 @@ impl Standing {
             (replied_of answer.now) }
     {
         if answer.reply == BookReply::Lost {
-            self.abort(OTHER_REASON);
+            self.abort(PeerAbortDiagnostic::OtherReason);
             return;
         }
         match step {

@@ -6,29 +6,29 @@ ghost use Rattle.bind_pdu.specs.Seen.{bind_of, bind_return_of, unbind_return_of}
 ghost use Rattle.station_config.specs.Validity.{IsSite};
 ghost use Rattle.session_core.specs.Handling.{bind_result, is_forward_at, bind_outcome};
 ghost use Rattle.session_core.specs.Handling.{place_bound};
-ghost use Rattle.session_core.specs.Seen.{as_integers};
+ghost use Rattle.session_core.specs.Returns.{as_integers};
 
 use crate::bind_places::BindPlaces;
 use crate::signature::{Signature, signed_with};
 use assoc_core::Outcome;
 use bind_pdu::{Bind, BindReturn, UnbindReturn};
+use sle_numbers::{BindDiagnostic, Numbered};
 use station_book::BookReply;
 use station_config::Site;
 
-// The diagnostic of BIND where another association has the instance (CCSDS 911.1-B, annex A).
-const ALREADY_BOUND: u8 = 4;
-
 // What a BIND that passed is answered, where the book replied so: its version, or why there is
 // none.
-pub(crate) fn bind_result(bind: &Bind<'_>, places: BindPlaces, reply: BookReply) -> Result<u16, u8>
-    ensures { as_integers result ≡ bind_result (bind_of bind.now) places.instance reply }
+pub(crate) fn bind_result(
+    bind: &Bind<'_>,
+    places: BindPlaces,
+    reply: BookReply,
+) -> Result<u16, BindDiagnostic>
+    ensures { result ≡ bind_result (bind_of bind.now) places.instance reply }
 {
-    match places.instance {
-        Err(fault) => Err(fault.diagnostic()),
-        Ok(_) => match reply {
-            BookReply::Bound => Ok(bind.version),
-            _ => Err(ALREADY_BOUND),
-        },
+    places.instance?;
+    match reply {
+        BookReply::Bound => Ok(bind.version),
+        _ => Err(BindDiagnostic::AlreadyBound),
     }
 }
 
@@ -67,13 +67,13 @@ pub(crate) fn place_bound(places: BindPlaces, reply: BookReply) -> Option<u32>
 
 // A version or a diagnostic as a return has it.
 #[tactic(auto, using(crate::proofs::Fits::number_fits))]
-fn integers_of(bound: Result<u16, u8>) -> Result<i128, i128>
+fn integers_of(bound: Result<u16, BindDiagnostic>) -> Result<i128, i128>
     ensures exact { result ≡ as_integers bound }
     ensures fits { bind_result_element.Fits result }
 {
     match bound {
         Ok(version) => Ok(i128::from(version)),
-        Err(diagnostic) => Err(i128::from(diagnostic)),
+        Err(why) => Err(i128::from(why.number())),
     }
 }
 
@@ -82,7 +82,7 @@ fn integers_of(bound: Result<u16, u8>) -> Result<i128, i128>
 pub(crate) fn bind_return<'a>(
     site: &'a Site,
     signature: &'a Option<Signature>,
-    bound: Result<u16, u8>,
+    bound: Result<u16, BindDiagnostic>,
 ) -> BindReturn<'a>
     requires { IsSite site.now }
     ensures seen { bind_return_of result ≡ record {

@@ -19,6 +19,7 @@ use assoc_core::Association;
 use isp1_auth::RandomNumbers;
 use isp1_tml::Beat;
 use octet_core::{Memory, Offer};
+use sle_numbers::PeerAbortDiagnostic;
 use std::alloc::Global;
 
 /// How a session stands, but for the octets that arrived and the messages handled. Moments are in
@@ -48,9 +49,6 @@ pub struct Standing {
     /// Whether this round's `listen` handed the waiting block over.
     pub relieved: bool,
 }
-
-// The diagnostic of PEER-ABORT where the peer is taken for dead (CCSDS 911.1-B, annex A).
-const COMMUNICATIONS_FAILURE: u8 = 4;
 
 impl Standing {
     // A session at a door begins, with the program's draw, at a moment.
@@ -194,7 +192,7 @@ impl Standing {
     }
 
     // This provider aborts.
-    pub(crate) fn abort(&mut self, diagnostic: u8)
+    pub(crate) fn abort(&mut self, diagnostic: PeerAbortDiagnostic)
         ensures { self.new ≡ aborted self.old diagnostic }
     {
         self.end(Ended::Aborted { diagnostic });
@@ -238,7 +236,7 @@ impl Standing {
         ensures { self.new ≡ timed self.old }
     {
         if self.is_live() && self.is_dead() {
-            self.abort(COMMUNICATIONS_FAILURE);
+            self.abort(PeerAbortDiagnostic::CommunicationsFailure);
         }
     }
 

@@ -8,6 +8,9 @@ use Rattle.sle_common.specs.declared.gvcid.Channel.TheVariants.{Master, Virtual}
 use Rattle.sle_common.specs.declared.gvcid.Gvcid.{Gvcid}
 use Rattle.sle_numbers.specs.declared.return_delivery_mode.ReturnDeliveryMode.{ReturnDeliveryMode}
 use Rattle.sle_numbers.specs.declared.return_delivery_mode.ReturnDeliveryMode.TheVariants.{TimelyOnline, CompleteOnline, Offline}
+use Rattle.sle_numbers.specs.declared.service_type.ServiceType.{ServiceType}
+use Rattle.sle_numbers.specs.declared.service_type.ServiceType.TheVariants.{RtnAllFrames, RtnChFrames}
+use Rattle.sle_numbers.specs.declared.service_type.ServiceType.TheVariants.{FwdCltu}
 use Rattle.station_config.specs.declared.instance.Instance.{Instance}
 use Rattle.station_config.specs.declared.peer.Peer.{Peer}
 use Rattle.station_config.specs.declared.service.Service.{Service}
@@ -93,6 +96,12 @@ abbrev pub is_forward : Service → Bool
 is_forward (Raf mode size latency) = false
 is_forward (Rcf mode size latency channels) = false
 is_forward (Cltu room longest) = true
+
+-- the type by which a BIND asks for it
+abbrev pub service_type : Service → ServiceType
+service_type (Raf mode size latency) = RtnAllFrames
+service_type (Rcf mode size latency channels) = RtnChFrames
+service_type (Cltu room longest) = FwdCltu
 
 -- an instance of a station that has so many peers
 pub record IsInstance (peers : ℕ) (instance : Instance) : Type 0 where

@@ -1,9 +1,10 @@
 // What an instance offers.
 ghost use Rattle.std.specs.Prelude.{◌≡◌};
-ghost use Rattle.station_config.specs.Validity.{is_forward};
+ghost use Rattle.station_config.specs.Validity.{is_forward, service_type};
 
 use crate::channels::Channels;
 use sle_numbers::ReturnDeliveryMode;
+use sle_numbers::ServiceType;
 
 /// What a service instance offers.
 #[derive(Clone, Debug, Drop)]
@@ -45,6 +46,17 @@ impl Service {
         match self {
             Service::Cltu { .. } => true,
             _ => false,
+        }
+    }
+
+    /// The type by which a BIND asks for it.
+    pub fn service_type(&self) -> ServiceType
+        ensures { result ≡ service_type self.now }
+    {
+        match self {
+            Service::Raf { .. } => ServiceType::RtnAllFrames,
+            Service::Rcf { .. } => ServiceType::RtnChFrames,
+            Service::Cltu { .. } => ServiceType::FwdCltu,
         }
     }
 }

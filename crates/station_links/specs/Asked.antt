@@ -5,6 +5,8 @@ use Rattle.bind_pdu.specs.Binding.{bind, BindContent}
 use Rattle.bind_pdu.specs.Unbinding.{unbind, UnbindContent}
 use Rattle.isp1_tml.specs.Message.{Content, context, pdu, spelling}
 use Rattle.sle_common.specs.declared.instance_id.InstancePart.{InstancePart}
+use Rattle.sle_numbers.specs.UnbindReason.{number_of}
+use Rattle.sle_numbers.specs.declared.unbind_reason.UnbindReason.TheVariants.{End}
 use Rattle.drill_text.specs.declared.ask_line.AskLine.{AskLine}
 use Rattle.drill_text.specs.declared.ask_line.AskLine.TheVariants.{Context, Bind, Unbind}
 
@@ -23,7 +25,7 @@ bind_asked name service version id =
     }
 
 abbrev pub unbind_asked : UnbindContent
-unbind_asked = record { credentials = None; reason = 0 }
+unbind_asked = record { credentials = None; reason = number_of End }
 
 -- the message of an `ask`, if it is built: context, BIND and UNBIND are
 abbrev pub message_of : AskLine → Option Content

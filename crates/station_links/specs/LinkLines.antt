@@ -8,6 +8,7 @@ use Rattle.isp1_tml.specs.declared.tml_fault.TmlFault.TheVariants.{BadType, NotZ
 use Rattle.isp1_tml.specs.declared.tml_fault.TmlFault.TheVariants.{TooLong, BadContext}
 use Rattle.link_model.specs.declared.call.Call.{Call}
 use Rattle.link_model.specs.declared.call.Call.TheVariants.{Polled, Offered}
+use Rattle.sle_numbers.specs.PeerAbortDiagnostic.{number_of}
 use Rattle.session_core.specs.declared.ended.Ended.{Ended}
 use Rattle.session_core.specs.declared.ended.Ended.TheVariants as ended
 use Rattle.session_core.specs.declared.spoken.Spoken.{Spoken}
@@ -44,7 +45,7 @@ end_word ended.PeerClosed = word.Closed
 end_word ended.Denied = word.Denied
 end_word (ended.Range interval factor) = word.Range
 end_word (ended.Broken fault) = word.Broken (fault_number fault)
-end_word (ended.Aborted diagnostic) = word.Aborted diagnostic
+end_word (ended.Aborted diagnostic) = word.Aborted (number_of diagnostic)
 end_word (ended.PeerAborted diagnostic) = word.PeerAborted diagnostic
 
 -- how a connection ended, if it did

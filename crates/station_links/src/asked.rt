@@ -17,6 +17,7 @@ use drill_text::AskLine;
 use isp1_tml::head;
 use octet_core::{Memory, Octets};
 use sle_common::{Credentials, InstanceId, InstanceRef};
+use sle_numbers::{Numbered, UnbindReason};
 use std::alloc::{AllocError, Global};
 
 // The port from which a script's peer binds.
@@ -105,7 +106,7 @@ fn unbind_message(alloc: Global) -> Result<Octets, Memory>
 {
     let sent = Unbind {
         credentials: Credentials::Unused,
-        reason: 0,
+        reason: UnbindReason::End.number(),
     };
     put_unbind(alloc, &sent)
 }

@@ -9,6 +9,7 @@ use isp1_tml::TmlFault;
 use link_model::Call;
 use octet_core::{Memory, Octets, Offer};
 use session_core::{Ended, Spoken};
+use sle_numbers::Numbered;
 use std::alloc::Global;
 
 /// What a connection says in the transcript. The connection's number isn't told here.
@@ -103,7 +104,7 @@ fn end_word(end: Ended) -> EndWord
         Ended::Denied => EndWord::Denied,
         Ended::Range { .. } => EndWord::Range,
         Ended::Broken(fault) => EndWord::Broken(fault_number(fault)),
-        Ended::Aborted { diagnostic } => EndWord::Aborted(diagnostic),
+        Ended::Aborted { diagnostic } => EndWord::Aborted(diagnostic.number()),
         Ended::PeerAborted { diagnostic } => EndWord::PeerAborted(diagnostic),
     }
 }
