@@ -95,7 +95,7 @@ const LOST_IN_A_RUN: &str = "\
 9 2 start 1=Said(Lost)
 9 1 stop=Said(Lost)
 9 1 transfer 8=Said(Lost)
-0 0 view=Queue(9, 2, 1)
+0 0 view=Queue(9, 2, Configured)
 0 2 nothing=Said(Nothing)
 0 2 transfer 8=Said(Taken { room: Room { next: 9, free: 1 } })
 ";
@@ -126,7 +126,7 @@ const UNBOUND: &str = "\
 5 2 transfer 8=Said(Taken { room: Room { next: 9, free: 1 } })
 6 0 take=Radiates(1, 7)
 7 2 unbind=Said(Unbound)
-0 0 view=Queue(7, 3, 0)
+0 0 view=Queue(7, 3, Operational)
 7 0 take=Idle
 7 1 bind 1=Said(Bound)
 7 1 transfer 9=Said(Lost)
@@ -145,13 +145,13 @@ const QUIT: &str = "\
 5 2 start 7=Said(Started { now: 5 })
 5 2 transfer 7=Said(Taken { room: Room { next: 8, free: 2 } })
 0 1 quit=Fine
-0 0 view=Queue(5, 2, 0)
+0 0 view=Queue(5, 2, Operational)
 0 2 quit=Fine
-0 0 view=Queue(5, 3, 0)
+0 0 view=Queue(5, 3, Operational)
 5 2 transfer 8=Said(Lost)
 ";
 
-// A notice is told to the door with the run: the notices 0 CLTU radiated, 2 production interrupted, 4 production operational, 5 buffer empty.
+// A notice is told to the door with the run.
 const NOTICES: &str = "\
 5 2 bind 1=Said(Bound)
 5 2 start 7=Said(Started { now: 5 })
@@ -161,17 +161,18 @@ const NOTICES: &str = "\
 8 1 nothing=Said(Nothing)
 8 2 quiet=Said(Nothing)
 8 2 start 7=Said(Lost)
-8 2 nothing=Told(Nothing, 0)
-8 2 transfer 8=Told(Taken { room: Room { next: 9, free: 2 } }, 5)
+8 2 nothing=Told(Nothing, CltuRadiated)
+8 2 transfer 8=Told(Taken { room: Room { next: 9, free: 2 } }, BufferEmpty)
 8 2 nothing=Said(Nothing)
 8 0 take=Radiates(1, 8)
 9 0 interrupted 1 8=Fine
-9 2 transfer 9=Told(Rejected { diagnostic: 0, room: Room { next: 9, free: 3 } }, 2)
+9 2 transfer 9=Told(Rejected { diagnostic: UnableToProcess, room: Room { next: 9, free: 3 } }, \
+    ProductionInterrupted)
 9 0 uplink 0 3=Fine
-9 2 nothing=Told(Nothing, 4)
+9 2 nothing=Told(Nothing, ProductionOperational)
 9 2 stop=Said(Stopped)
 9 0 uplink 3 3=Fine
-9 2 start 1=Said(StartRefused { diagnostic: 0 })
+9 2 start 1=Said(StartRefused { diagnostic: OutOfService })
 ";
 
 // No reading sets the moment back.
@@ -180,7 +181,7 @@ const MOMENTS: &str = "\
 4 0 interrupted 0 0=Fine
 3 0 uplink 0 3=Fine
 2 0 take=Idle
-0 0 view=Queue(9, 3, 0)
+0 0 view=Queue(9, 3, Operational)
 4 1 bind 1=Said(Bound)
 5 1 start 0=Said(Started { now: 9 })
 11 1 stop=Said(Stopped)

@@ -39,8 +39,8 @@ fn a_queue_may_go_to_a_thread(rt: HostRuntime) -> Result<(), Fail> {
 }
 
 const NEW: &str = "
-view = UplinkView { processed: None, ok: None, production: 0, status: 3, received: 0, taken: 0,
-    radiated: 0, free: 1000 };
+view = UplinkView { processed: None, ok: None, production: Operational, status: Nominal,
+    received: 0, taken: 0, radiated: 0, free: 1000 };
 take 0 = idle;
 notice = None;";
 
@@ -53,9 +53,9 @@ send 9 none none 0 quiet 3 0 = next 10 free 991;
 take 10000000 = radiate 1 7 3;
 done 1 7 10000000;
 take 10000000 = expired 8;
-notice = Some(Notice { kind: 1, processed: Some { id: 8, start: None, status: 1 },
-    ok: Some { id: 7, stop: Cds { days: 20000, millis: 0, rest: Micros(10) } }, production: 0,
-    status: 3 });
+notice = Some(Notice { kind: SlduExpired, processed: Some { id: 8, start: None, status: Expired },
+    ok: Some { id: 7, stop: Cds { days: 20000, millis: 0, rest: Micros(10) } },
+    production: Operational, status: Nominal });
 send 10 none none 0 quiet 3 10000000 = refused 0 next 10 free 1000;
 take 10000000 = idle;";
 
@@ -78,7 +78,8 @@ take 0 = radiate 2 5 3;";
 const HALTED: &str = "
 start 1 = ok;
 uplink 3 0;
-notice = Some(Notice { kind: 3, processed: None, ok: None, production: 3, status: 0 });
+notice = Some(Notice { kind: ProductionHalted, processed: None, ok: None, production: Halted,
+    status: UplinkStatusNotAvailable });
 send 1 none none 0 quiet 1 0 = refused 0 next 1 free 1000;
 stop;
 start 1 = refused 0;
@@ -94,8 +95,9 @@ start 7 = ok;
 send 7 none none 0 quiet 3 0 = next 8 free 997;
 take 0 = radiate 1 7 3;
 view = UplinkView { processed: Some { id: 7,
-    start: Some(Cds { days: 20000, millis: 0, rest: Micros(0) }), status: 4 }, ok: None,
-    production: 0, status: 3, received: 1, taken: 1, radiated: 0, free: 1000 };";
+    start: Some(Cds { days: 20000, millis: 0, rest: Micros(0) }), status: RadiationStarted },
+    ok: None, production: Operational, status: Nominal, received: 1, taken: 1, radiated: 0,
+    free: 1000 };";
 
 // Each CLTU breaks the rule of its line and of all later ones, where one CLTU can.
 const DIAGNOSTICS: &str = "

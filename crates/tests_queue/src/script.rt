@@ -4,7 +4,9 @@ ghost use Rattle.cds_time.specs.declared.cds.TheConstants.{MOMENT_END};
 
 use cds_time::{Cds, Rest};
 use cltu_queue::{Cltu, CltuFault, Queue, Room, Taken};
+use fcltu_numbers::{CltuProductionStatus, UplinkStatus};
 use octet_core::Octets;
+use sle_numbers::Numbered;
 use std::alloc::{AllocError, Global};
 use std::process::Abort;
 use std::str::SplitWhitespace;
@@ -50,14 +52,14 @@ fn cltu(alloc: Global, words: &mut SplitWhitespace) -> Result<Cltu, AllocError> 
     let id = number(words);
     let earliest = time(words.next().unwrap_or(""));
     let latest = time(words.next().unwrap_or(""));
-    let delay = number(words);
+    let radiation_delay = number(words);
     let wanted = words.next() == Some("told");
     let octets = OCTETS.get(..number(words) as usize).unwrap_or(&OCTETS);
     Ok(Cltu {
         id,
         earliest,
         latest,
-        delay,
+        radiation_delay,
         wanted,
         octets: Octets::copy_of(alloc, octets)?,
     })
@@ -68,8 +70,10 @@ fn told_room(alloc: Global, room: Result<Room, CltuFault>) -> Result<String, All
         Ok(Room { next, free }) => format!(in alloc; "next {next} free {free}"),
         Err(CltuFault::Refused { diagnostic, room }) => {
             format!(in alloc;
-                "refused {diagnostic} next {} free {}",
-                room.next, room.free
+                "refused {} next {} free {}",
+                diagnostic.number(),
+                room.next,
+                room.free
             )
         }
         Err(CltuFault::Memory) => Err(AllocError),
@@ -93,7 +97,7 @@ fn kinds(alloc: Global, queue: &mut Queue) -> Result<String, AllocError> {
     // No more than these wait in any script.
     for _ in 0..10 {
         if let Some(notice) = queue.notice() {
-            text.push_str(format!(in alloc; "{} ", notice.kind)?.as_str())?;
+            text.push_str(format!(in alloc; "{} ", notice.kind.number())?.as_str())?;
         }
     }
     Ok(text)
@@ -105,7 +109,7 @@ fn start(alloc: Global, queue: &mut Queue, first: u32) -> Result<String, AllocEr
     }
     match queue.start(first) {
         Ok(()) => format!(in alloc; "ok"),
-        Err(diagnostic) => format!(in alloc; "refused {diagnostic}"),
+        Err(diagnostic) => format!(in alloc; "refused {}", diagnostic.number()),
     }
 }
 
@@ -122,6 +126,21 @@ fn send(
     told_room(alloc, queue.transfer(&cltu, now))
 }
 
+// Reads production and uplink; a number that no status has is that of the first.
+fn uplink(queue: &mut Queue, production: u32, status: u32) {
+    queue.uplink(
+        status_of(production, CltuProductionStatus::Operational),
+        status_of(status, UplinkStatus::UplinkStatusNotAvailable),
+    );
+}
+
+fn status_of<T: Numbered>(number: u32, other: T) -> T {
+    match u8::try_from(number) {
+        Ok(number) => T::from_number(number).unwrap_or(other),
+        Err(_) => other,
+    }
+}
+
 // Makes a step that answers nothing.
 fn make(queue: &mut Queue, word: &str, words: &mut SplitWhitespace) {
     let (first, second) = (number(words), number(words));
@@ -129,7 +148,7 @@ fn make(queue: &mut Queue, word: &str, words: &mut SplitWhitespace) {
         "stop" => queue.stop(),
         "done" => queue.done(u64::from(first), second, moment(words)),
         "broken" => queue.interrupted(u64::from(first), second),
-        _ => queue.uplink(first.min(3) as u8, second.min(3) as u8),
+        _ => uplink(queue, first, second),
     }
 }
 

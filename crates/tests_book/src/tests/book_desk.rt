@@ -4,9 +4,11 @@ ghost use Rattle.std.specs.Prelude.{◌≡◌, ◌≤◌, IfOk};
 use super::call::{Answer, Call, What};
 use cds_time::{Cds, Rest};
 use cltu_queue::{Cltu, Taken};
+use fcltu_numbers::{CltuProductionStatus, UplinkStatus};
 use frame_select::{Filter, Glimpse, Selection, Want};
 use octet_core::{Memory, Octets};
 use record_form::{Entries, Entry};
+use sle_numbers::{FrameQuality, RequestedFrameQuality};
 use station_book::{Ask, Book, PublishFault};
 use station_config::Site;
 use std::alloc::{AllocError, Global};
@@ -43,7 +45,11 @@ fn time(millis: u32) -> Cds {
 fn frame(alloc: Global, millis: u32) -> Result<Entry, Memory> {
     Ok(Entry::Frame {
         ert: time(millis),
-        quality: (millis % 2) as u8,
+        quality: if millis % 2 == 0 {
+            FrameQuality::Good
+        } else {
+            FrameQuality::Erred
+        },
         antenna: Octets::copy_of(alloc, b"A")?,
         lost: 0,
         octets: Octets::copy_of(alloc, &[0, 1])?,
@@ -74,7 +80,7 @@ fn cltu(alloc: Global, id: u32) -> Result<Cltu, Memory> {
         id,
         earliest: None,
         latest: None,
-        delay: 0,
+        radiation_delay: 0,
         wanted: true,
         octets: Octets::copy_of(alloc, &[0x55])?,
     })
@@ -112,7 +118,7 @@ fn want_of(call: &Call) -> Want {
         What::Front => Want::Front,
         _ => Want::Items {
             selection: Selection {
-                filter: Filter::Quality(0),
+                filter: Filter::Quality(RequestedFrameQuality::Good),
                 start: None,
                 stop: time(call.reading).moment(),
                 first: 0,
@@ -157,9 +163,12 @@ fn take(book: &mut Book, call: &Call) -> Answer {
 }
 
 fn uplink(book: &mut Book, call: &Call) {
-    let production = (call.first % 4) as u8;
-    let status = (call.second % 4) as u8;
-    book.uplink(production, status, u128::from(call.reading));
+    let production = match call.first {
+        0 => CltuProductionStatus::Operational,
+        1 => CltuProductionStatus::Configured,
+        _ => CltuProductionStatus::Halted,
+    };
+    book.uplink(production, UplinkStatus::Nominal, u128::from(call.reading));
 }
 
 // A call of no answer.

@@ -1,5 +1,6 @@
 // Calls of a book, and what they are answered.
 use cltu_queue::BookReply;
+use fcltu_numbers::{CltuNotificationType, CltuProductionStatus};
 
 // What is called.
 #[derive(Clone, Copy, Debug)]
@@ -39,7 +40,7 @@ pub enum Answer {
     Fine,
     // A reply without a notice, and with one of this kind.
     Said(BookReply),
-    Told(BookReply, u8),
+    Told(BookReply, CltuNotificationType),
     // So many entries are handed back.
     Foreign(usize),
     // The front, how many items there are, the place behind them, whether more remain, and whether
@@ -50,7 +51,7 @@ pub enum Answer {
     Expired(u32),
     Radiates(u64, u32),
     // The latest moment, the free octets and the production status.
-    Queue(u128, u32, u8),
+    Queue(u128, u32, CltuProductionStatus),
 }
 
 fn number(word: Option<&str>) -> u32 {

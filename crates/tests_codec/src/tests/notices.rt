@@ -2,59 +2,58 @@
 
 pub const ASYNC: &str = "
 ac23 8000 8100 a108 020108 8000 020101 a10d 020107 80084e2000000000000a 020100 020103
-    = Async { credentials: Unused, kind: 1, number: None, processed: Some((8, None, 1)),
+    = Async { credentials: Unused, kind: SlduExpired, number: None, processed: Some((8, None, 1)),
       ok: Some((7, Cds { days: 20000, millis: 0, rest: Micros(10) })), production: 0, uplink: 3 };
 ac0e 8000 8300 8000 8000 020103 020100
-    = Async { credentials: Unused, kind: 3, number: None, processed: None, ok: None, production: 3,
-      uplink: 0 };
+    = Async { credentials: Unused, kind: ProductionHalted, number: None, processed: None, ok: None,
+      production: 3, uplink: 0 };
 ac0f 8000 860100 8000 8000 020100 020103
-    = Async { credentials: Unused, kind: 6, number: Some(0), processed: None, ok: None,
-      production: 0, uplink: 3 };
+    = Async { credentials: Unused, kind: ActionListCompleted, number: Some(0), processed: None,
+      ok: None, production: 0, uplink: 3 };
 ac0f 8000 880100 8000 8000 020101 020103
-    = Async { credentials: Unused, kind: 8, number: Some(0), processed: None, ok: None,
-      production: 1, uplink: 3 };
+    = Async { credentials: Unused, kind: EventConditionEvFalse, number: Some(0), processed: None,
+      ok: None, production: 1, uplink: 3 };
 ac0e 8000 8000 8000 8000 020100 020100
-    = Async { credentials: Unused, kind: 0, number: None, processed: None, ok: None, production: 0,
-      uplink: 0 };
-ac0e 8000 8200 8000 8000 020100 020100
-    = Async { credentials: Unused, kind: 2, number: None, processed: None, ok: None, production: 0,
-      uplink: 0 };
-ac0e 8000 8400 8000 8000 020100 020100
-    = Async { credentials: Unused, kind: 4, number: None, processed: None, ok: None, production: 0,
-      uplink: 0 };
-ac0e 8000 8500 8000 8000 020100 020100
-    = Async { credentials: Unused, kind: 5, number: None, processed: None, ok: None, production: 0,
-      uplink: 0 };
-ac13 8000 870500ffffffff 8000 8000 020100 020100
-    = Async { credentials: Unused, kind: 7, number: Some(4294967295), processed: None, ok: None,
+    = Async { credentials: Unused, kind: CltuRadiated, number: None, processed: None, ok: None,
       production: 0, uplink: 0 };
+ac0e 8000 8200 8000 8000 020100 020100
+    = Async { credentials: Unused, kind: ProductionInterrupted, number: None, processed: None,
+      ok: None, production: 0, uplink: 0 };
+ac0e 8000 8400 8000 8000 020100 020100
+    = Async { credentials: Unused, kind: ProductionOperational, number: None, processed: None,
+      ok: None, production: 0, uplink: 0 };
+ac0e 8000 8500 8000 8000 020100 020100
+    = Async { credentials: Unused, kind: BufferEmpty, number: None, processed: None, ok: None,
+      production: 0, uplink: 0 };
+ac13 8000 870500ffffffff 8000 8000 020100 020100
+    = Async { credentials: Unused, kind: ActionListNotCompleted, number: Some(4294967295),
+      processed: None, ok: None, production: 0, uplink: 0 };
 ac56 81080102030405060708 8000 a11f 020500ffffffff a10c 810affffffffffffffffffff
     02088000000000000000 a113 020500ffffffff 810affffffffffffffffffff 02088000000000000000
     02088000000000000000
-    = Async { credentials: Used([1, 2, 3, 4, 5, 6, 7, 8]), kind: 0, number: None,
-      processed: Some((4294967295,
-      Some(Cds { days: 65535, millis: 4294967295, rest: Picos(4294967295) }),
-      -9223372036854775808)), ok: Some((4294967295,
-      Cds { days: 65535, millis: 4294967295, rest: Picos(4294967295) })),
-      production: -9223372036854775808, uplink: -9223372036854775808 };
+    = Async { credentials: Used([1, 2, 3, 4, 5, 6, 7, 8]), kind: CltuRadiated, number: None,
+      processed: Some((4294967295, Some(Cds { days: 65535, millis: 4294967295,
+      rest: Picos(4294967295) }), -9223372036854775808)), ok: Some((4294967295, Cds { days: 65535,
+      millis: 4294967295, rest: Picos(4294967295) })), production: -9223372036854775808,
+      uplink: -9223372036854775808 };
 ac45 8000 8000 a11a 020100 a10a 80080000000000000000 020900ffffffffffffffff a10d 020100
     80080000000000000000 020900ffffffffffffffff 020900ffffffffffffffff
-    = Async { credentials: Unused, kind: 0, number: None, processed: Some((0,
-      Some(Cds { days: 0, millis: 0, rest: Micros(0) }), 18446744073709551615)), ok: Some((0,
-      Cds { days: 0, millis: 0, rest: Micros(0) })), production: 18446744073709551615,
-      uplink: 18446744073709551615 };
+    = Async { credentials: Unused, kind: CltuRadiated, number: None, processed: Some((0, Some(Cds {
+      days: 0, millis: 0, rest: Micros(0) }), 18446744073709551615)), ok: Some((0, Cds { days: 0,
+      millis: 0, rest: Micros(0) })), production: 18446744073709551615, uplink: 18446744073709551615
+      };
 ac13 8000 860500ffffffff 8000 8000 020100 020100
-    = Async { credentials: Unused, kind: 6, number: Some(4294967295), processed: None, ok: None,
-      production: 0, uplink: 0 };
+    = Async { credentials: Unused, kind: ActionListCompleted, number: Some(4294967295),
+      processed: None, ok: None, production: 0, uplink: 0 };
 ac0f 8000 870100 8000 8000 020100 020100
-    = Async { credentials: Unused, kind: 7, number: Some(0), processed: None, ok: None,
-      production: 0, uplink: 0 };
-ac13 8000 880500ffffffff 8000 8000 020100 020100
-    = Async { credentials: Unused, kind: 8, number: Some(4294967295), processed: None, ok: None,
-      production: 0, uplink: 0 };
-ac820110 81820100 256*55 8000 8000 8000 020100 020100
-    = Async { credentials: Used([85, 254*85, 85]), kind: 0, number: None, processed: None,
+    = Async { credentials: Unused, kind: ActionListNotCompleted, number: Some(0), processed: None,
       ok: None, production: 0, uplink: 0 };
+ac13 8000 880500ffffffff 8000 8000 020100 020100
+    = Async { credentials: Unused, kind: EventConditionEvFalse, number: Some(4294967295),
+      processed: None, ok: None, production: 0, uplink: 0 };
+ac820110 81820100 256*55 8000 8000 8000 020100 020100
+    = Async { credentials: Used([85, 254*85, 85]), kind: CltuRadiated, number: None,
+      processed: None, ok: None, production: 0, uplink: 0 };
 ac0e 8000 8900 8000 8000 020100 020100 = another identifier at octet 4, beginning with 0x89;
 ac0e 8000 0400 8000 8000 020100 020100 = another identifier at octet 4, beginning with 0x04;
 ac0f 8000 850100 8000 8000 020100 020100 = no content of its type at octet 6;

@@ -2,45 +2,43 @@
 
 pub const CLTU_TRANSFER: &str = "
 aa17 8000 020100 020107 8000 8000 020100 020101 0403aa0007
-    = CltuTransfer { credentials: Unused, invoke: 0, id: 7, earliest: None, latest: None, delay: 0,
-      wanted: false, octets: [170, 0, 7] };
+    = CltuTransfer { credentials: Unused, invoke: 0, id: 7, earliest: None, latest: None,
+      radiation_delay: 0, wanted: false, octets: [170, 0, 7] };
 aa21 8000 020100 020107 8000 a10a 80084e2000000000000a 020100 020101 0403aa0007
-    = CltuTransfer { credentials: Unused, invoke: 0, id: 7, earliest: None,
-      latest: Some(Cds { days: 20000, millis: 0, rest: Micros(10) }), delay: 0, wanted: false,
-      octets: [170, 0, 7] };
+    = CltuTransfer { credentials: Unused, invoke: 0, id: 7, earliest: None, latest: Some(Cds {
+      days: 20000, millis: 0, rest: Micros(10) }), radiation_delay: 0, wanted: false, octets: [170,
+      0, 7] };
 aa15 8000 020100 020100 8000 8000 020100 020100 0401aa
-    = CltuTransfer { credentials: Unused, invoke: 0, id: 0, earliest: None, latest: None, delay: 0,
-      wanted: true, octets: [170] };
+    = CltuTransfer { credentials: Unused, invoke: 0, id: 0, earliest: None, latest: None,
+      radiation_delay: 0, wanted: true, octets: [170] };
 aa40 81080102030405060708 020300ffff 020500ffffffff a10a 80080000000000000000 a10c
     810affffffffffffffffffff 020500ffffffff 020100 0404eb9055aa
     = CltuTransfer { credentials: Used([1, 2, 3, 4, 5, 6, 7, 8]), invoke: 65535, id: 4294967295,
-      earliest: Some(Cds { days: 0, millis: 0, rest: Micros(0) }),
-      latest: Some(Cds { days: 65535, millis: 4294967295, rest: Picos(4294967295) }),
-      delay: 4294967295, wanted: true, octets: [235, 144, 85, 170] };
+      earliest: Some(Cds { days: 0, millis: 0, rest: Micros(0) }), latest: Some(Cds { days: 65535,
+      millis: 4294967295, rest: Picos(4294967295) }), radiation_delay: 4294967295, wanted: true,
+      octets: [235, 144, 85, 170] };
 aa2b 8000 020100 020100 a10c 810affffffffffffffffffff a10a 80080000000000000000 020100 020101
     0401aa
-    = CltuTransfer { credentials: Unused, invoke: 0, id: 0,
-      earliest: Some(Cds { days: 65535, millis: 4294967295, rest: Picos(4294967295) }),
-      latest: Some(Cds { days: 0, millis: 0, rest: Micros(0) }), delay: 0, wanted: false,
-      octets: [170] };
+    = CltuTransfer { credentials: Unused, invoke: 0, id: 0, earliest: Some(Cds { days: 65535,
+      millis: 4294967295, rest: Picos(4294967295) }), latest: Some(Cds { days: 0, millis: 0,
+      rest: Micros(0) }), radiation_delay: 0, wanted: false, octets: [170] };
 aa2b 8000 020100 020100 a10a 8008ffffffffffffffff a10c 810a0001000000023b9ac9ff 020100 020101
     0401aa
-    = CltuTransfer { credentials: Unused, invoke: 0, id: 0,
-      earliest: Some(Cds { days: 65535, millis: 4294967295, rest: Micros(65535) }),
-      latest: Some(Cds { days: 1, millis: 2, rest: Picos(999999999) }), delay: 0, wanted: false,
-      octets: [170] };
+    = CltuTransfer { credentials: Unused, invoke: 0, id: 0, earliest: Some(Cds { days: 65535,
+      millis: 4294967295, rest: Micros(65535) }), latest: Some(Cds { days: 1, millis: 2,
+      rest: Picos(999999999) }), radiation_delay: 0, wanted: false, octets: [170] };
 aa820117 81820100 256*55 020100 020100 8000 8000 020100 020101 0401aa
     = CltuTransfer { credentials: Used([85, 254*85, 85]), invoke: 0, id: 0, earliest: None,
-      latest: None, delay: 0, wanted: false, octets: [170] };
+      latest: None, radiation_delay: 0, wanted: false, octets: [170] };
 aa83010017 8000 020100 020100 8000 8000 020100 020101 0483010000 65536*55
-    = CltuTransfer { credentials: Unused, invoke: 0, id: 0, earliest: None, latest: None, delay: 0,
-      wanted: false, octets: [85, 65534*85, 85] };
+    = CltuTransfer { credentials: Unused, invoke: 0, id: 0, earliest: None, latest: None,
+      radiation_delay: 0, wanted: false, octets: [85, 65534*85, 85] };
 aa3b 81080102030405060708 02020080 020200ff a10a 80084e20000003e80007 a10c 810a0001000000023b9ac9ff
     020423c34600 020100 0404eb9055aa
     = CltuTransfer { credentials: Used([1, 2, 3, 4, 5, 6, 7, 8]), invoke: 128, id: 255,
-      earliest: Some(Cds { days: 20000, millis: 1000, rest: Micros(7) }),
-      latest: Some(Cds { days: 1, millis: 2, rest: Picos(999999999) }), delay: 600000000,
-      wanted: true, octets: [235, 144, 85, 170] };
+      earliest: Some(Cds { days: 20000, millis: 1000, rest: Micros(7) }), latest: Some(Cds {
+      days: 1, millis: 2, rest: Picos(999999999) }), radiation_delay: 600000000, wanted: true,
+      octets: [235, 144, 85, 170] };
 aa15 8200 020100 020100 8000 8000 020100 020101 0401aa
     = another identifier at octet 2, beginning with 0x82;
 aa15 8000 0201ff 020100 8000 8000 020100 020101 0401aa = no content of its type at octet 6;
