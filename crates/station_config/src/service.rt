@@ -3,8 +3,7 @@ ghost use Rattle.std.specs.Prelude.{◌≡◌};
 ghost use Rattle.station_config.specs.Validity.{is_forward, service_type};
 
 use crate::channels::Channels;
-use sle_numbers::ReturnDeliveryMode;
-use sle_numbers::ServiceType;
+use sle_numbers::{ReturnDeliveryMode, ServiceType};
 
 /// What a service instance offers.
 #[derive(Clone, Debug, Drop)]
