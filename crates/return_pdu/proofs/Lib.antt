@@ -1,3 +1,4 @@
 pub mod Frames
 pub mod Fitting
 pub mod Plain
+pub mod Rooms

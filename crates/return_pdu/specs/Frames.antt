@@ -10,7 +10,10 @@ use Rattle.sle_common.specs.Credentials.{credentials}
 use Rattle.sle_common.specs.Time.{time}
 use Rattle.sle_common.specs.Antenna.{Antenna, antenna}
 use Rattle.sle_common.specs.Annotation.{annotation}
-use Rattle.return_pdu.specs.Quality.{quality}
+use Rattle.sle_common.specs.InTable.{in_table}
+use Rattle.sle_numbers.specs.FrameQuality as frame_quality
+use Rattle.sle_numbers.specs.declared.frame_quality.FrameQuality.{FrameQuality}
+use Rattle.sle_numbers.specs.declared.frame_quality.FrameQuality.TheVariants.{Good}
 
 -- -1 where it isn't known, 0 where no frame is missing before it, else how many are at most
 abbrev pub continuity : Element ℤ
@@ -19,6 +22,9 @@ continuity = simple (0x02 ∷ []) (integer (negsuc 0) (pos 16777215)) refl
 abbrev pub frame_octets : Element (List ℕ)
 frame_octets = simple (0x04 ∷ []) (octet_string 1 65536) refl
 
+abbrev pub quality : Element FrameQuality
+quality = in_table frame_quality.number_of frame_quality.all frame_quality.each
+
 -- who sends, the earth receive time, the antenna, the continuity, the quality for RAF alone, the
 -- annotation, the frame
 pub record FrameContent : Type 0 where
@@ -26,14 +32,14 @@ pub record FrameContent : Type 0 where
   pub ert : Cds
   pub antenna : Antenna
   pub continuity : ℤ
-  pub quality : Option ℕ
+  pub quality : Option FrameQuality
   pub note : Option (List ℕ)
   pub octets : List ℕ
 
 -- ---- of RAF
 
 abbrev pub RafParts : Type 0
-RafParts = Option (List ℕ) × (Cds × (Antenna × (ℤ × (ℕ × (Option (List ℕ) × List ℕ)))))
+RafParts = Option (List ℕ) × (Cds × (Antenna × (ℤ × (FrameQuality × (Option (List ℕ) × List ℕ)))))
 
 abbrev pub raf_parts : Members RafParts
 raf_parts = credentials ▸ time ▸ antenna ▸ continuity ▸ quality ▸ annotation ▸ last frame_octets
@@ -52,7 +58,7 @@ of_raf_parts p = record {
 abbrev pub parts_of_raf : FrameContent → RafParts
 parts_of_raf f = (
   f.credentials,
-  (f.ert, (f.antenna, (f.continuity, (unwrap_or f.quality 0, (f.note, f.octets))))),
+  (f.ert, (f.antenna, (f.continuity, (unwrap_or f.quality Good, (f.note, f.octets))))),
 )
 
 -- the fields are in their ranges, and there is a quality
@@ -60,8 +66,8 @@ pub record FitsRaf (f : FrameContent) : Type 0 where
   pub fields : raf_parts.Fits (parts_of_raf f)
   pub has_quality : is_some f.quality ≡ true
 
-some_again : (o : Option ℕ) → is_some o ≡ true → Some (unwrap_or o 0) ≡ o
-some_again (Some n) is = refl
+some_again : (o : Option FrameQuality) → is_some o ≡ true → Some (unwrap_or o Good) ≡ o
+some_again (Some q) is = refl
 some_again None is = cc
 
 pub raf_there : (f : FrameContent) → FitsRaf f

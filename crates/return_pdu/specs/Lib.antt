@@ -1,6 +1,5 @@
 pub mod Items
 pub mod Fields
-pub mod Quality
 pub mod Starting
 pub mod Stopping
 pub mod Scheduling

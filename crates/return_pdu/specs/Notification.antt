@@ -5,17 +5,18 @@ use Rattle.ber_shape.specs.Element.{Element, simple}
 use Rattle.ber_shape.specs.Members.{Members, structured, last, ◌▸◌}
 use Rattle.ber_shape.specs.Same.{element_as, members_as}
 use Rattle.ber_shape.specs.Choice.{either}
-use Rattle.sle_common.specs.Natural.{natural}
+use Rattle.sle_common.specs.InTable.{in_table}
 use Rattle.sle_common.specs.Credentials.{credentials}
 use Rattle.sle_common.specs.Time.{time}
+use Rattle.sle_numbers.specs.LockStatus as lock_status
+use Rattle.sle_numbers.specs.declared.lock_status.LockStatus.{LockStatus}
 use Rattle.return_pdu.specs.declared.lock_loss.LockLoss.{LockLoss}
 use Rattle.return_pdu.specs.declared.notification.Notification.{Notification}
 use Rattle.return_pdu.specs.declared.notification.Notification.TheVariants.{Loss, Production}
 use Rattle.return_pdu.specs.declared.notification.Notification.TheVariants.{Backlog, EndOfData}
 
--- in lock 0, out of lock 1, not in use 2, not known 3
-abbrev pub lock : Element ℕ
-lock = natural (0x02 ∷ []) 0 3 refl refl
+abbrev pub lock : Element LockStatus
+lock = in_table lock_status.number_of lock_status.all lock_status.each
 
 -- when the lock was lost, and the locks of carrier, subcarrier and symbols
 abbrev pub loss_fields : Members LockLoss

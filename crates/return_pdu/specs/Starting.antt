@@ -11,7 +11,9 @@ use Rattle.sle_common.specs.Credentials.{credentials}
 use Rattle.sle_common.specs.Time.{conditional_time}
 use Rattle.sle_common.specs.Gvcid.{gvcid}
 use Rattle.sle_common.specs.Answer.{confirmation}
-use Rattle.return_pdu.specs.Quality.{quality}
+use Rattle.sle_common.specs.InTable.{in_table}
+use Rattle.sle_numbers.specs.RequestedFrameQuality as requested
+use Rattle.sle_numbers.specs.declared.requested_frame_quality.RequestedFrameQuality.{RequestedFrameQuality}
 
 -- who sends, its number, the times that the frames asked for lie between, and their quality
 pub record RafStartContent : Type 0 where
@@ -19,11 +21,14 @@ pub record RafStartContent : Type 0 where
   pub invoke : ℕ
   pub start : Option Cds
   pub stop : Option Cds
-  pub quality : ℕ
+  pub quality : RequestedFrameQuality
+
+abbrev pub requested_quality : Element RequestedFrameQuality
+requested_quality = in_table requested.number_of requested.all requested.each
 
 abbrev pub raf_start_fields : Members RafStartContent
 raf_start_fields = members_as (credentials ▸ invoke_id ▸ conditional_time ▸ conditional_time ▸ last
-    quality) (record {
+    requested_quality) (record {
       to = λ p. record {
         credentials = p.0;
         invoke = p.1.0;

@@ -14,7 +14,6 @@
 mod continuity;
 mod frame_fields;
 mod frame_octets;
-mod frame_quality;
 mod get_parameter;
 mod item;
 pub mod laws;

@@ -6,17 +6,17 @@ use crate::number_range::{GREATEST, LEAST};
 use ber_core::{BerFault, Reader, Writer, element_length, integer_length};
 use ber_shape::{Element, read_within, size_within, write_within};
 use cds_time::Cds;
+use sle_numbers::LockStatus;
 
 /// What a station tells between frames (CCSDS 911.1-B, annex A).
 #[derive(Clone, Copy, Debug, PartialEq, Eq)]
 pub enum Notification {
-    /// The frame synchroniser lost its lock: when, and the statuses of the other locks: in lock 0,
-    /// out of lock 1, not in use 2, not known 3.
+    /// The frame synchroniser lost its lock: when, and the statuses of the other locks.
     Loss {
         at: Cds,
-        carrier: u8,
-        subcarrier: u8,
-        symbol: u8,
+        carrier: LockStatus,
+        subcarrier: LockStatus,
+        symbol: LockStatus,
     },
     /// The production status: running 0, interrupted 1, halted 2; any INTEGER of at most 64 bits,
     /// signed or unsigned, is read.
@@ -103,7 +103,7 @@ fn notice_of(loss: LockLoss) -> Notification
     }
 }
 
-fn lock_loss(at: Cds, carrier: u8, subcarrier: u8, symbol: u8) -> LockLoss
+fn lock_loss(at: Cds, carrier: LockStatus, subcarrier: LockStatus, symbol: LockStatus) -> LockLoss
     ensures { result ≡ record {
       at = at;
       carrier = carrier;

@@ -1,10 +1,12 @@
 use crate::continuity::Continuity;
 use crate::frame_fields::FrameFields;
 use crate::frame_octets::FrameOctets;
-use crate::frame_quality::FrameQuality;
 use ber_core::{BerFault, Reader, Writer};
 use ber_shape::{Element, Members};
-use sle_common::{Annotation, AntennaId, Credentials, Time};
+use sle_common::{Annotation, AntennaId, Credentials, InTable, Time};
+use sle_numbers::FrameQuality;
+
+type Quality = InTable<FrameQuality>;
 
 /// A frame of RAF, which has a quality (CCSDS 911.1-B, annex A).
 pub(crate) struct RafFrameFields;
@@ -31,7 +33,7 @@ impl<'a> Members<'a> for RafFrameFields {
             ert: Time::read(reader)?,
             antenna: AntennaId::read(reader)?,
             continuity: Continuity::read(reader)?,
-            quality: Some(FrameQuality::read(reader)?),
+            quality: Some(Quality::read(reader)?),
             note: Annotation::read(reader)?,
             octets: FrameOctets::read(reader)?,
         })
@@ -43,7 +45,7 @@ impl<'a> Members<'a> for RafFrameFields {
             + Time::size(&value.ert)
             + AntennaId::size(&value.antenna)
             + Continuity::size(&value.continuity)
-            + FrameQuality::size(&value.quality.unwrap_or(0))
+            + Quality::size(&value.quality.unwrap_or(FrameQuality::Good))
             + Annotation::size(&value.note)
             + FrameOctets::size(&value.octets)
     }
@@ -54,7 +56,7 @@ impl<'a> Members<'a> for RafFrameFields {
         Time::write(&value.ert, writer);
         AntennaId::write(&value.antenna, writer);
         Continuity::write(&value.continuity, writer);
-        FrameQuality::write(&value.quality.unwrap_or(0), writer);
+        Quality::write(&value.quality.unwrap_or(FrameQuality::Good), writer);
         Annotation::write(&value.note, writer);
         FrameOctets::write(&value.octets, writer);
     }

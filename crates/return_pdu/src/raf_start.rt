@@ -1,8 +1,10 @@
-use crate::frame_quality::FrameQuality;
 use ber_core::{BerFault, Reader, Writer};
 use ber_shape::{Element, Members, Pdu};
 use cds_time::Cds;
-use sle_common::{ConditionalTime, Credentials, InvokeId};
+use sle_common::{ConditionalTime, Credentials, InTable, InvokeId};
+use sle_numbers::RequestedFrameQuality;
+
+type Quality = InTable<RequestedFrameQuality>;
 
 /// START of return all frames (CCSDS 911.1-B, annex A): a SEQUENCE under the context tag 0.
 #[derive(Clone, Copy, Debug, PartialEq, Eq)]
@@ -13,8 +15,8 @@ pub struct RafStart<'a> {
     pub start: Option<Cds>,
     /// Frames up to this earth receive time, where one is given.
     pub stop: Option<Cds>,
-    /// The frames that are asked for: good 0, erred 1, all 2.
-    pub quality: u8,
+    /// The frames that are asked for.
+    pub quality: RequestedFrameQuality,
 }
 
 impl<'a> Members<'a> for RafStart<'a> {
@@ -38,7 +40,7 @@ impl<'a> Members<'a> for RafStart<'a> {
             invoke: InvokeId::read(reader)?,
             start: ConditionalTime::read(reader)?,
             stop: ConditionalTime::read(reader)?,
-            quality: FrameQuality::read(reader)?,
+            quality: Quality::read(reader)?,
         })
     }
 
@@ -48,7 +50,7 @@ impl<'a> Members<'a> for RafStart<'a> {
             + InvokeId::size(&value.invoke)
             + ConditionalTime::size(&value.start)
             + ConditionalTime::size(&value.stop)
-            + FrameQuality::size(&value.quality)
+            + Quality::size(&value.quality)
     }
 
     #[tactic(auto, unfolding(ber_core::specs::Spelling::canonical))]
@@ -57,7 +59,7 @@ impl<'a> Members<'a> for RafStart<'a> {
         InvokeId::write(&value.invoke, writer);
         ConditionalTime::write(&value.start, writer);
         ConditionalTime::write(&value.stop, writer);
-        FrameQuality::write(&value.quality, writer);
+        Quality::write(&value.quality, writer);
     }
 }
 

@@ -1,6 +1,7 @@
 ghost use Rattle.std.specs.Prelude.{◌≡◌, ◌+◌, ◌≤◌, length};
 ghost use Rattle.ber_core.specs.Spelling.{canonical};
 ghost use Rattle.ber_core.specs.Written.{HasRoom, Appends};
+ghost use Rattle.sle_numbers.specs.FrameQuality.{number_of};
 ghost use Rattle.return_pdu.specs.TransferItem.{ItemFits, item_tree};
 ghost use Rattle.return_pdu.specs.Items.{frame, frame_of, end_of_data};
 ghost use Rattle.return_pdu.specs.Fields.{IsFrame};
@@ -14,6 +15,7 @@ use crate::told_fields::ToldFields;
 use ber_core::Writer;
 use cds_time::Cds;
 use sle_common::{AntennaId, Credentials};
+use sle_numbers::FrameQuality;
 
 /// An item of a transfer buffer (CCSDS 911.1-B and 911.2-B, annex A), lent from its octets.
 #[derive(Clone, Copy, Debug, PartialEq, Eq)]
@@ -26,8 +28,8 @@ pub enum TransferItem<'a> {
         antenna: AntennaId<'a>,
         /// -1 where it isn't known, else how many frames are missing before it, 0 to 16777215.
         continuity: i32,
-        /// Good 0, erred 1, not known 2; none exactly for RCF.
-        quality: Option<u8>,
+        /// How it was received; none exactly for RCF.
+        quality: Option<FrameQuality>,
         /// What the station notes of it: 1 to 128 octets.
         note: Option<&'a [u8]>,
         /// The frame: 1 to 65536 octets (this product's own).
@@ -42,24 +44,24 @@ pub enum TransferItem<'a> {
 
 impl<'a> TransferItem<'a> {
     /// A frame of RAF with unused credentials, the local form of its antenna and no annotation.
-    #[tactic(auto, using(crate::proofs::Plain::frames_are_plain, crate::proofs::Frames::frames_short))]
+    #[tactic(auto, using(crate::proofs::Plain::fits_with, crate::proofs::Frames::frames_short))]
     pub fn plain_frame(
         ert: Cds,
         antenna: &'a [u8],
         continuity: i32,
-        quality: u8,
+        quality: FrameQuality,
         octets: &'a [u8],
     ) -> TransferItem<'a>
-        requires { IsFrame (frame_of ert antenna.now continuity quality octets.now) }
+        requires { IsFrame (frame_of ert antenna.now continuity (number_of quality) octets.now) }
         ensures content { item_of result ≡ plain_item
-            (frame_of ert antenna.now continuity quality octets.now) }
+            (frame_of ert antenna.now continuity (number_of quality) octets.now) }
         ensures fits { ItemFits (item_of result) }
         ensures tree { item_tree (item_of result)
-            ≡ frame (frame_of ert antenna.now continuity quality octets.now) }
+            ≡ frame (frame_of ert antenna.now continuity (number_of quality) octets.now) }
 
         // A bound for callers that add lengths up.
         ensures small { length (canonical (frame
-            (frame_of ert antenna.now continuity quality octets.now))) ≤ length octets.now + 300 }
+            (frame_of ert antenna.now continuity (number_of quality) octets.now))) ≤ length octets.now + 300 }
     {
         TransferItem::Frame {
             credentials: Credentials::Unused,
