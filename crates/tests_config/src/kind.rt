@@ -1,12 +1,11 @@
 // What a text is read as, as a text.
-use crate::site_text::{bad_line, full, site_text};
+use crate::site_text::{bad_line, behind_full, site_text};
 use crate::word_text::{
     Two, Versions, at_most_row, counted_line, instance_text, parts_text, plain_line, row_fault,
     word_text,
 };
 use sle_common::Attribute;
-use std::alloc::Global;
-use std::test::Fail;
+use std::alloc::{AllocError, Global};
 use words::{
     ChannelWord, Hex, Identifier, Long, Name, Nothing, Number, Octet, OneOf, PartWord, Short, Time,
     ValueWord, When,
@@ -52,11 +51,11 @@ pub enum Kind {
 const PEER: &[u8] = b"peer MOC none sha1 60 000000000000\n";
 
 /// What is said of a text: nothing where it is of its kind and is written as it was read.
-pub fn told(alloc: Global, kind: Kind, text: &[u8]) -> Result<String, Fail> {
+pub fn told(alloc: Global, kind: Kind, text: &[u8]) -> Result<String, AllocError> {
     match kind {
         Kind::Config => bad_line(alloc, b"", text),
         Kind::BehindPeer => bad_line(alloc, PEER, text),
-        Kind::BehindFull => bad_line(alloc, &full(alloc)?, text),
+        Kind::BehindFull => behind_full(alloc, text),
         Kind::Site => site_text(alloc, text),
         Kind::InstanceText => instance_text(alloc, text),
         Kind::InstanceParts => parts_text(alloc, text),
@@ -70,7 +69,7 @@ pub fn told(alloc: Global, kind: Kind, text: &[u8]) -> Result<String, Fail> {
     }
 }
 
-fn told_word(alloc: Global, kind: Kind, word: &[u8]) -> Result<String, Fail> {
+fn told_word(alloc: Global, kind: Kind, word: &[u8]) -> Result<String, AllocError> {
     match kind {
         Kind::Number => word_text::<Number<3, 16_777_215>>(alloc, word),
         Kind::AnyNumber => word_text::<Number<0, 4_294_967_295>>(alloc, word),
@@ -86,6 +85,6 @@ fn told_word(alloc: Global, kind: Kind, word: &[u8]) -> Result<String, Fail> {
         Kind::Value => word_text::<ValueWord>(alloc, word),
         Kind::Attribute => word_text::<OneOf<Attribute>>(alloc, word),
         Kind::Part => word_text::<PartWord>(alloc, word),
-        _ => Ok(String::from_str(alloc, "of no kind of word")?),
+        _ => String::from_str(alloc, "of no kind of word"),
     }
 }

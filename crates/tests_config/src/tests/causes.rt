@@ -1,23 +1,9 @@
 // The causes, and which of two comes first.
-use crate::kind::Kind;
-use crate::rows::check;
-use crate::site_text::full;
-use station_config::Site;
+use crate::site_text::full_counts;
 use std::process::Abort;
-use std::test::Fail;
-
-#[test]
-fn each_line_has_the_first_cause(rt: HostRuntime) -> Result<(), Fail> {
-    check(&rt, rt.alloc(), Kind::Config, FIRST_WORDS)?;
-    check(&rt, rt.alloc(), Kind::Config, COUNTS)?;
-    check(&rt, rt.alloc(), Kind::Config, SETTINGS_GIVEN_TWICE)?;
-    check(&rt, rt.alloc(), Kind::Config, NAMES_GIVEN_TWICE)?;
-    check(&rt, rt.alloc(), Kind::Config, OWNERS)?;
-    check(&rt, rt.alloc(), Kind::Config, SECOND_FORWARD)
-}
 
 // A first word that begins no line is cause 1.
-const FIRST_WORDS: &str = "
+pub const FIRST_WORDS: &str = "
 Provider STATION = line 1: cause 1|
 providers STATION = line 1: cause 1|
 site = line 1: cause 1|
@@ -29,7 +15,7 @@ rocf rocf=a MOC complete 1 5 60 1/0/1 = line 1: cause 1|
 63 = line 1: cause 1|";
 
 // A wrong number of words is cause 2, before a bad word.
-const COUNTS: &str = "
+pub const COUNTS: &str = "
 provider = line 1: cause 2|
 provider A B = line 1: cause 2|
 password = line 1: cause 2|
@@ -50,7 +36,7 @@ cltu cltu=a MOC 0 1 = line 1: cause 2|
 cltu cltu=a NOBODY 1 1 1 1 = line 1: cause 2|";
 
 // A setting given twice is cause 4, behind what its words have.
-const SETTINGS_GIVEN_TWICE: &str = "
+pub const SETTINGS_GIVEN_TWICE: &str = "
 provider ABC
 provider ABC = line 2: cause 4|
 provider ABC
@@ -75,7 +61,7 @@ versions 4
 versions = line 2: cause 2|";
 
 // A name or an identifier given twice is cause 4.
-const NAMES_GIVEN_TWICE: &str = "
+pub const NAMES_GIVEN_TWICE: &str = "
 peer ABC none sha1 1 000000000000
 peer ABC all sha256 2 000000000001 = line 2: cause 4|
 peer ABC none sha1 1 000000000000
@@ -100,7 +86,7 @@ raf raf=b ABC timely 1 1 1
 peer abc none sha1 1 000000000000|";
 
 // An owner that no earlier line names is cause 5.
-const OWNERS: &str = "
+pub const OWNERS: &str = "
 raf raf=a MOC timely 1 1 1
 peer MOC none sha1 1 000000000000 = line 1: cause 5|
 raf raf=a M timely 1 1 1 = line 1: cause 5|
@@ -113,7 +99,7 @@ cltu cltu=a MOC 1 1 1
 cltu cltu=b NOBODY 1 1 1 = line 3: cause 5|";
 
 // A second forward instance is cause 6.
-const SECOND_FORWARD: &str = "
+pub const SECOND_FORWARD: &str = "
 peer MOC none sha1 1 000000000000
 cltu cltu=a MOC 1 1 1
 cltu cltu=b MOC 1 1 1 = line 3: cause 6|
@@ -130,18 +116,12 @@ cltu cltu=c MOC 1 1 1
 end = line 4: cause 6|";
 
 #[test]
-fn a_site_has_32_peers_and_32_instances(rt: HostRuntime) -> Result<(), Fail> {
-    let site = Site::parse(rt.alloc(), &full(rt.alloc())?)?;
-    assert_eq!(rt; (site.peers.len(), site.instances.len()), (32, 32));
-    let Some(last) = site.instances.as_slice().last() else {
-        return Err(Fail::from("no instance"));
-    };
-    assert_eq!(rt; last.owner, 31);
-    check(&rt, rt.alloc(), Kind::BehindFull, THIRTY_THIRD)
+fn a_site_has_32_peers_and_32_instances(rt: HostRuntime) {
+    assert_eq!(rt; full_counts(rt.alloc()), Some((32, 32, 31)));
 }
 
 // A thirty-third is cause 6, behind 4 and 5.
-const THIRTY_THIRD: &str = "
+pub const THIRTY_THIRD: &str = "
 peer P32 none sha1 60 000000000000 = line 65: cause 6|
 peer P31 none sha1 60 000000000000 = line 65: cause 4|
 raf raf=P32 P00 timely 1 1 1 = line 65: cause 6|

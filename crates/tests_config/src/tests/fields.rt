@@ -1,33 +1,6 @@
 // Each field of each line at both ends of its range and one past.
-use crate::kind::{Kind, told};
-use crate::rows::check;
-use std::alloc::Global;
-use std::process::Abort;
-use std::test::Fail;
 
-// Of an instance behind a peer, with a value of so many characters.
-fn of_value(alloc: Global, length: usize) -> Result<String, Fail> {
-    let mut line = Vec::from_slice(alloc, b"raf raf=")?;
-    for _ in 0..length {
-        line.push(b'v')?;
-    }
-    line.extend_from_slice(b" MOC timely 1 1 1")?;
-    told(alloc, Kind::BehindPeer, &line)
-}
-
-#[test]
-fn each_field_is_taken_within_its_range(rt: HostRuntime) -> Result<(), Fail> {
-    check(&rt, rt.alloc(), Kind::Config, SETTINGS)?;
-    check(&rt, rt.alloc(), Kind::Config, PEERS)?;
-    check(&rt, rt.alloc(), Kind::BehindPeer, RETURN)?;
-    check(&rt, rt.alloc(), Kind::BehindPeer, FORWARD)?;
-    // A value has 256 characters at most.
-    assert_eq!(rt; of_value(rt.alloc(), 256)?.as_str(), "");
-    assert_eq!(rt; of_value(rt.alloc(), 257)?.as_str(), "line 2: cause 3");
-    Ok(())
-}
-
-const SETTINGS: &str = "
+pub const SETTINGS: &str = "
 provider !~A|
 provider ABCDEFGHIJKLMNOP|
 password 0aF1ff00FF99|
@@ -61,7 +34,7 @@ heartbeat 1 1 2 101 = line 1: cause 3|
 versions 3 = line 1: cause 3|
 versions 4 10 = line 1: cause 3|";
 
-const PEERS: &str = "
+pub const PEERS: &str = "
 peer MOC none sha1 1 000000000000|
 peer ABCDEFGHIJKLMNOP bind sha256 86400 000000000000|
 peer !~! all sha1 60 00112233445566778899AABBCCDDEEFF|
@@ -77,10 +50,13 @@ peer MOC none sha1 060 000000000000 = line 1: cause 3|
 peer MOC none sha1 60 0000000000 = line 1: cause 3|
 peer MOC none sha1 60 00112233445566778899aabbccddeeff00 = line 1: cause 3|";
 
-const RETURN: &str = "
+// A value has 256 characters at most.
+pub const RETURN: &str = "
 raf raf=a MOC timely 1 1 1|
 raf raf=a MOC complete 1000 3600 600|
 raf raf=a MOC offline 1 0 1|
+raf raf=%256*v% MOC timely 1 1 1|
+raf raf=%257*v% MOC timely 1 1 1 = line 2: cause 3|
 raf sagr=1.sagr=1.spack=!.rsl-fg=~.fsl-fg=a.rcf=b.rocf=c.cltu=d MOC timely 1 1 1|
 rcf rcf=a MOC timely 1 1 1 0/0/0|
 rcf rcf=a MOC complete 1000 3600 600 1023/3/63 1023/3/*|
@@ -111,7 +87,7 @@ rcf rcf=a MOC timely 1 1 1 0/4/0 = line 2: cause 3|
 rcf rcf=a MOC timely 1 1 1 0/0/64 = line 2: cause 3|
 rcf rcf=a MOC timely 1 1 1 0/0/0 0/0/** = line 2: cause 3|";
 
-const FORWARD: &str = "
+pub const FORWARD: &str = "
 cltu cltu=a MOC 1 1 1|
 cltu cltu=a MOC 16777216 65536 600|
 cltu cltu MOC 1 1 1 = line 2: cause 3|

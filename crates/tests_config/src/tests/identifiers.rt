@@ -1,42 +1,20 @@
 // Texts of service instance identifiers (CCSDS 911.1-B, annex A).
-use crate::kind::{Kind, told};
-use crate::rows::check;
-use std::process::Abort;
-use std::test::Fail;
-
-#[test]
-fn texts_of_the_grammar_are_taken_and_each_fault_has_its_place(
-    rt: HostRuntime,
-) -> Result<(), Fail> {
-    check(&rt, rt.alloc(), Kind::InstanceParts, PARTS)?;
-    check(&rt, rt.alloc(), Kind::InstanceText, TEXTS)?;
-    check(&rt, rt.alloc(), Kind::InstanceText, FAULTS)?;
-    // A value has 256 characters at most.
-    let mut text = Vec::from_slice(rt.alloc(), b"sagr=")?;
-    text.extend_from_slice(&[b'v'; 256])?;
-    assert_eq!(rt; told(rt.alloc(), Kind::InstanceText, &text)?.as_str(), "");
-    text.push(b'v')?;
-    assert_eq!(rt;
-        told(rt.alloc(), Kind::InstanceText, &text)?.as_str(),
-        "no identifier from octet 261 on"
-    );
-    Ok(())
-}
 
 // Its attributes and values.
-const PARTS: &str = "
+pub const PARTS: &str = "
 sagr=1.spack=P.rsl-fg=1.raf=onlc1 = Sagr 1 Spack P RslFg 1 Raf onlc1|";
 
-// Each attribute, repeated attributes, and both ends of a value's characters.
-const TEXTS: &str = "
+// Each attribute, repeated attributes, both ends of a value's characters, and the longest value.
+pub const TEXTS: &str = "
 sagr=1.spack=P.rsl-fg=1.raf=onlc1|
 sagr=1|
+sagr=%256*v%|
 fsl-fg=!.cltu=~|
 rcf=a.rcf=a.rocf=-/:<>|
 raf=1.raf=2.raf=3.raf=4.raf=5.raf=6.raf=7.raf=8|";
 
 // The places are counted by hand: the length of the longest prefix with which some text begins.
-const FAULTS: &str = "
+pub const FAULTS: &str = "
  = no identifier from octet 0 on|
 x = no identifier from octet 0 on|
 Sagr=1 = no identifier from octet 0 on|
@@ -51,6 +29,7 @@ sagr= 1 = no identifier from octet 5 on|
 sagr=1= = no identifier from octet 6 on|
 sagr=1  = no identifier from octet 6 on|
 sagr=1\x7f = no identifier from octet 6 on|
+sagr=%257*v% = no identifier from octet 261 on|
 sagr=1. = no identifier from octet 7 on|
 sagr=1.. = no identifier from octet 7 on|
 sagr=1.sagr = no identifier from octet 11 on|

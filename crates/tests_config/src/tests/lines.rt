@@ -1,27 +1,12 @@
 // Lines and rows of words, and why they are none.
-use crate::kind::Kind;
-use crate::rows::check;
 use crate::word_text::{At, Counted, Plain, Versions};
 use station_config::SiteFault;
 use std::process::Abort;
 use std::test::Fail;
 use words::{Cause, LineFault, Unread, Words, laws, read_row};
 
-#[test]
-fn words_are_one_blank_apart_and_a_row_has_as_many_as_it_may(rt: HostRuntime) -> Result<(), Fail> {
-    check(&rt, rt.alloc(), Kind::PlainLine, PLAIN)?;
-    check(&rt, rt.alloc(), Kind::CountedLine, COUNTED)?;
-    check(&rt, rt.alloc(), Kind::TwoRow, TWO)?;
-    check(&rt, rt.alloc(), Kind::NoRow, NO)?;
-    check(&rt, rt.alloc(), Kind::AtMostRow, AT_MOST)?;
-    check(&rt, rt.alloc(), Kind::ManyRow, MANY)?;
-    let versions = read_row::<Versions>(rt.alloc(), Some(b"9 4 4 5"))?;
-    assert_eq!(rt; versions.as_slice(), [9, 4, 4, 5].as_slice());
-    Ok(())
-}
-
 // A line `mark`.
-const PLAIN: &str = "
+pub const PLAIN: &str = "
 mark|
  = bad|
 mark  = bad|
@@ -33,7 +18,7 @@ mark\n = bad|
 mark 1/2/3 = bad|";
 
 // A line `mark TIME N`, of a number up to 2.
-const COUNTED: &str = "
+pub const COUNTED: &str = "
 mark 1/2/3 2|
 mark 20000/1000/5p 2|
 mark 1/2/3  2 = bad|
@@ -46,7 +31,7 @@ mark 1/2/3 2 2 = bad|
 
 // What stands behind a line's first word: a time and a number up to 2. The number of words is told
 // before a bad word.
-const TWO: &str = "
+pub const TWO: &str = "
  = wrong number of words|
 \x20x = wrong number of words|
 \x20x y z = wrong number of words|
@@ -55,55 +40,60 @@ const TWO: &str = "
 \x20\x20 = a word malformed or out of range|
 \x200/0/0 2|";
 
-const NO: &str = "
+pub const NO: &str = "
 |
 \x20 = wrong number of words|";
 
 // One word `mark` at most.
-const AT_MOST: &str = "
+pub const AT_MOST: &str = "
 |
 \x20mark|
 \x20 = a word malformed or out of range|
 \x20mark mark = wrong number of words|";
 
 // One to four numbers from 4 to 9.
-const MANY: &str = "
+pub const MANY: &str = "
 \x204|
  = wrong number of words|
 \x204 4 4 4 4 = wrong number of words|
 \x204 10 = a word malformed or out of range|";
 
 #[test]
-fn a_row_knows_how_many_words_it_has(rt: HostRuntime) -> Result<(), Fail> {
+fn a_row_knows_how_many_words_it_has(rt: HostRuntime) {
     assert!(rt; Plain::takes(1) && !Plain::takes(0) && !Plain::takes(2));
     assert!(rt; Counted::takes(3) && !Counted::takes(2) && !Counted::takes(4));
     assert!(rt;
         Versions::takes(1) && Versions::takes(4) && !Versions::takes(0) && !Versions::takes(5)
     );
+}
+
+#[test]
+fn numbers_come_in_their_order(rt: HostRuntime) -> Result<(), Fail> {
+    let versions = read_row::<Versions>(rt.alloc(), Some(b"9 4 4 5"))?;
+    assert_eq!(rt; versions.as_slice(), [9, 4, 4, 5].as_slice());
     Ok(())
 }
+
+const FAULT_WORDS: &str = "unknown first word, wrong number of words, a word malformed or out of \
+    range, out of memory; outside the grammar, out of memory; line 2: cause 3, out of memory";
 
 #[test]
 fn faults_have_words_of_their_own(rt: HostRuntime) -> Result<(), Fail> {
     let told = format!(in rt.alloc();
-        "{}, {}, {}, {}",
+        "{}, {}, {}, {}; {}, {}; {}, {}",
         LineFault::Line(Cause::FirstWord),
         LineFault::Line(Cause::Count),
         LineFault::Line(Cause::Word),
-        LineFault::Memory
+        LineFault::Memory,
+        Unread::Bad,
+        Unread::Memory,
+        SiteFault::BadLine {
+            number: 2,
+            cause: 3,
+        },
+        SiteFault::Memory
     )?;
-    assert_eq!(rt;
-        told.as_str(),
-        "unknown first word, wrong number of words, a word malformed or out of range, out of memory"
-    );
-    let unread = format!(in rt.alloc(); "{}, {}", Unread::Bad, Unread::Memory)?;
-    assert_eq!(rt; unread.as_str(), "outside the grammar, out of memory");
-    let fault = SiteFault::BadLine {
-        number: 2,
-        cause: 3,
-    };
-    let told = format!(in rt.alloc(); "{fault}, {}", SiteFault::Memory)?;
-    assert_eq!(rt; told.as_str(), "line 2: cause 3, out of memory");
+    assert_eq!(rt; told.as_str(), FAULT_WORDS);
     Ok(())
 }
 

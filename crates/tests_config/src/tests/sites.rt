@@ -1,17 +1,7 @@
 // Whole sites.
-use crate::kind::Kind;
-use crate::rows::check;
-use std::test::Fail;
-
-#[test]
-fn a_site_is_as_its_lines_give_it(rt: HostRuntime) -> Result<(), Fail> {
-    check(&rt, rt.alloc(), Kind::Site, SITES)?;
-    check(&rt, rt.alloc(), Kind::Site, STATION)?;
-    check(&rt, rt.alloc(), Kind::Site, EXAMPLE)
-}
 
 // What no line gives has its default; each setting, in another order; owners by their places.
-const SITES: &str = "
+pub const SITES: &str = "
 # nothing
  = provider STATION [0, 0, 0, 0, 0, 0], capacity 268435456, intervals 5 to 3600, factors 2 to 100,
     versions [4, 5]|
@@ -34,7 +24,7 @@ raf raf=b ABC timely 1 1 1 = provider STATION [0, 0, 0, 0, 0, 0], capacity 26843
     return instance raf=b of 0, 1 seconds: Raf { mode: 0, size: 1, latency: 1 }|";
 
 // A station with an instance of each kind.
-const STATION: &str = "
+pub const STATION: &str = "
 peer MOC none sha1 60 000000000000
 peer OTHER none sha1 60 000000000000
 peer SEC bind sha1 60 000000000000
@@ -64,7 +54,7 @@ cltu sagr=1.spack=P.fsl-fg=1.cltu=cltu1 MOC 1000 100 60
         Cltu { room: 1000, longest: 100 }|";
 
 // The text of `examples/station.conf`, and what it says.
-const EXAMPLE: &str = "
+pub const EXAMPLE: &str = "
 # A station's configuration. Words are one blank apart; empty lines and comments say nothing.
 
 # The name that our returns carry, and our password: 6 to 16 octets in hexadecimal digits.
