@@ -1,8 +1,8 @@
 -- The calls of a link with their answers, and the parts of them that a reader wants: what was
 -- heard, which octets arrived, and which blocks were handed over. This product's own rule.
-use Rattle.std.specs.Prelude.{ℕ, ◌≡◌, ◌<◌, ◌≤◌, Option, Some, None, IfSome, IsSomeAnd}
-use Rattle.std.specs.Prelude.{List, [], ◌++◌, take}
+use Rattle.std.specs.Prelude.{ℕ, ◌<◌, ◌≤◌, Option, Some, None, List, [], take}
 use Rattle.std.specs.List.{filter_map, flat_map}
+pub use Rattle.octet_core.specs.Told.{Tells}
 use Rattle.octet_core.specs.declared.offer.Offer.TheVariants.{Whole, Stalled, Failed as Refused}
 use Rattle.link_model.specs.declared.call.Heard.{Heard}
 use Rattle.link_model.specs.declared.call.Heard.TheVariants.{Arrived, Nothing, Closed, Failed}
@@ -27,12 +27,6 @@ IsWithin (ArrivedPoll n) space = (0 < n) × (n ≤ space)
 IsWithin NothingPoll space = Unit {0}
 IsWithin ClosedPoll space = Unit {0}
 IsWithin FailedPoll space = Unit {0}
-
--- A link that tells has told before, and made these calls in between. One that has stopped telling
--- never tells again.
-abbrev pub Tells : Option (List Call) → Option (List Call) → List Call → Type 0
-Tells before after own =
-    IfSome after (λ told. IsSomeAnd before (λ earlier. told ≡ earlier ++ own))
 
 -- ---- the parts
 

@@ -1,6 +1,6 @@
--- The counts of a link: of faults and of stalls. This product's own rule.
-use Rattle.std.specs.Prelude.{ℕ, ◌≤◌, ◌≡◌, Bool, true, false, IsTrue, IsFalse}
-use Rattle.octet_core.specs.Fault.{count_up, Rose}
+-- What a link counts: faults and stalls. This product's own rule.
+use Rattle.std.specs.Prelude.{Bool, true, false}
+pub use Rattle.octet_core.specs.Told.{CountsWhere}
 use Rattle.octet_core.specs.declared.offer.Offer.{Offer}
 use Rattle.octet_core.specs.declared.offer.Offer.TheVariants.{Whole, Stalled, Failed as Refused}
 use Rattle.link_model.specs.declared.poll.Poll.{Poll}
@@ -21,11 +21,3 @@ abbrev pub offer_stalled : Offer → Bool
 offer_stalled Whole = false
 offer_stalled Stalled = true
 offer_stalled Refused = false
-
--- A call is counted exactly where this holds of its answer: there the count goes up by one, and
--- elsewhere it stays.
-pub record CountsWhere (counted : Bool) (before now : ℕ) : Type 0 where
-  pub never_falls : before ≤ now
-  pub rose : IsTrue counted → Rose before now
-  pub raised : IsTrue counted → now ≡ count_up before
-  pub kept : IsFalse counted → now ≡ before

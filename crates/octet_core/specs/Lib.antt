@@ -1,4 +1,5 @@
 pub mod Fault
+pub mod Told
 pub mod FailingCalls
 pub mod Taken
 pub mod Written

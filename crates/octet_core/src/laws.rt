@@ -1,8 +1,10 @@
-// Laws of counts of faults and of what was written: what the definitions mean over several calls.
+// Laws of counts of faults, of what is told and of what was written: what the definitions mean over
+// several calls.
 //
 // Each is the contract of a function with no body: a crate above uses a law by calling it.
-ghost use Rattle.std.specs.Prelude.{◌≤◌, ℕ, List, Option};
+ghost use Rattle.std.specs.Prelude.{◌≤◌, ◌++◌, ℕ, List, Option};
 ghost use Rattle.octet_core.specs.Fault.{Rose};
+ghost use Rattle.octet_core.specs.Told.{Tells};
 ghost use Rattle.octet_core.specs.Written.{Gains, GainsFront, Continues};
 
 /// A count that rose stays risen over further calls, and it rose since each earlier moment too.
@@ -10,6 +12,13 @@ pub fn a_count_that_rose_stays_risen()
     ensures later { (before now later : ℕ) → Rose before now → now ≤ later → Rose before later }
     ensures earlier { (earlier before now : ℕ) → earlier ≤ before → Rose before now
         → Rose earlier now }
+{}
+
+/// What is told of one run and of the next is told of both, in that order.
+pub fn tellings_of_two_runs_join<A>()
+    ensures { (before mid after : Option (List A)) (first second : List A)
+        → Tells before mid first → Tells mid after second
+        → Tells before after (first ++ second) }
 {}
 
 /// What was written before begins what is written later, whether the calls between succeed or fail.

@@ -1,7 +1,8 @@
 -- What was told before, and then more.
 use Rattle.std.proofs.Common.{ℕ, List, [], ◌++◌, Option, Some, None, ap, sym, ◌∙◌, append_assoc}
 use Rattle.std.proofs.Common.{append-nil}
-use Rattle.sample_lock.specs.DeskReport.{Tells, DeskReport, Adds}
+use Rattle.octet_core.specs.Told.{Tells}
+use Rattle.sample_lock.specs.DeskReport.{DeskReport, Adds}
 use Rattle.sample_lock.specs.declared.order.Order.{Order}
 use Rattle.sample_lock.specs.declared.order.Reply.{Reply}
 

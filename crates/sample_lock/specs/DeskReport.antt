@@ -1,12 +1,8 @@
 -- What objects of the outside tell of what they gave and took. This product's own.
-use Rattle.std.specs.Prelude.{◌≡◌, ℕ, List, [], ◌∷◌, ◌++◌, Option, Some, None, IfSome, IsSomeAnd}
+use Rattle.std.specs.Prelude.{ℕ, List, [], ◌∷◌, Option, Some, None}
+use Rattle.octet_core.specs.Told.{Tells}
 use Rattle.sample_lock.specs.declared.order.Order.{Order}
 use Rattle.sample_lock.specs.declared.order.Reply.{Reply}
-
--- an object that still tells has told what it told before, and then this
-abbrev pub Tells : {A : Type 0} → Option (List A) → Option (List A) → List A → Type 0
-Tells before after more = IfSome after (λ told.
-    IsSomeAnd before (λ earlier. told ≡ earlier ++ more))
 
 -- what a desk tells of its answers to who asks for an order, of its clock's readings, and of the
 -- replies that it took

@@ -1,6 +1,7 @@
 // Where orders come from, and what a clerk works at.
 ghost use Rattle.std.specs.Prelude.{[], ◌∷◌};
-ghost use Rattle.sample_lock.specs.DeskReport.{Tells, Adds, order_of, reading_of, told_of};
+ghost use Rattle.octet_core.specs.Told.{Tells};
+ghost use Rattle.sample_lock.specs.DeskReport.{Adds, order_of, reading_of, told_of};
 
 use crate::order::{Order, Reply};
 
