@@ -1,7 +1,9 @@
 // The words that name an owner.
-ghost use Rattle.std.specs.Prelude.{◌≡◌};
+ghost use Rattle.std.specs.Prelude.{◌≡◌, false, IsErrOf};
 ghost use Rattle.std.specs.List.{list_all};
 ghost use Rattle.words.specs.Names.{is_graphic};
+ghost use Rattle.words.specs.Reading.{Gives};
+ghost use Rattle.station_config.specs.Kinds.{is_owner, owner};
 
 use octet_core::Octets;
 use std::alloc::{AllocError, Global};
@@ -22,7 +24,12 @@ impl Word for OwnerWord {
 
     ghost seen = { λ octets. octets };
 
-    fn read(alloc: Global, word: &[u8]) -> Result<Octets, Unread> {
+    /// The octets of a word. One that names no owner is refused as such, and not for want of
+    /// memory: nothing is copied for it.
+    fn read(alloc: Global, word: &[u8]) -> Result<Octets, Unread>
+        ensures exact { Gives (λ octets. octets) result (owner.read word.now) }
+        ensures bad { is_owner word.now ≡ false → IsErrOf result Unread.Bad }
+    {
         if !word.is_empty() && is_graphic(word) {
             Ok(Octets::copy_of(alloc, word)?)
         } else {
