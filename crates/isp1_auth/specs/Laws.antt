@@ -18,15 +18,15 @@ OneAnswer =
     → IsSlice octets
     → IsAnswerTo octets secret now answer ↔ (answer ≡ auth secret (Some octets) now)
 
--- Credentials with the secret's digest are accepted exactly while their time is at most the delay
--- from now, either way.
+-- Credentials with the secret's digest are accepted exactly while their time is at most the age from
+-- now that is allowed, either way.
 abbrev pub AcceptedWhileNear : Type 0
 AcceptedWhileNear =
     (octets : List ℕ) (secret : Secret) (claim : Claim) (moment now : ℕ) → Says octets claim moment
     → IsProtected secret claim
     → (auth secret (Some octets) now ≡ Ok tt) ↔ (abs_diff now moment ≤ allowed secret)
 
--- What is signed at a moment is accepted at that moment, where a delay of a second or more is
+-- What is signed at a moment is accepted at that moment, where an age of a second or more is
 -- allowed.
 abbrev pub SignedIsAccepted : Type 0
 SignedIsAccepted =
@@ -34,10 +34,10 @@ SignedIsAccepted =
     → 1 ≤ secret.credential_age
     → auth secret (Some (signed secret (octets_of (in_micros now)) number)) now ≡ Ok tt
 
--- With a delay of 60, so many picoseconds are between now and the time that the credentials say,
+-- With a credential age of 60, so many picoseconds are between now and the time that the credentials say,
 -- which have the secret's digest.
 pub record IsAway (octets : List ℕ) (secret : Secret) (now picos : ℕ) : Type 0 where
-  pub delay : secret.delay ≡ 60
+  pub age : secret.credential_age ≡ 60
   pub claim : Claim
   pub moment : ℕ
   pub says : Says octets claim moment

@@ -9,7 +9,7 @@ pub fn one_answer()
 {}
 
 /// Credentials with the right digest are accepted exactly while the time that they say is at most
-/// the delay from now, before it or behind it.
+/// the credential age from now, before it or behind it.
 pub fn accepted_while_near()
     ensures { AcceptedWhileNear }
 {}
