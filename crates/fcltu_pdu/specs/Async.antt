@@ -4,6 +4,7 @@ use Rattle.ber_shape.specs.Element.{Element}
 use Rattle.ber_shape.specs.Members.{Members, structured, last, ◌▸◌}
 use Rattle.ber_shape.specs.Same.{members_as}
 use Rattle.cds_time.specs.declared.cds.Cds.{Cds}
+use Rattle.fcltu_numbers.specs.declared.cltu_notification_type.CltuNotificationType.{CltuNotificationType}
 use Rattle.sle_common.specs.Credentials.{credentials, credentials_of}
 use Rattle.sle_common.specs.Numbers.{number}
 use Rattle.fcltu_pdu.specs.declared.async_.Async.{Async}
@@ -14,7 +15,7 @@ use Rattle.fcltu_pdu.specs.Processed.{Processed, last_processed, last_ok}
 -- CLTUs taken and radiated, and the statuses of production and uplink
 pub record Notice : Type 0 where
   pub credentials : Option (List ℕ)
-  pub kind : ℕ
+  pub kind : CltuNotificationType
   pub number : Option ℕ
   pub processed : Option Processed
   pub ok : Option (ℕ × Cds)

@@ -1,6 +1,6 @@
 -- The kinds of notices (CCSDS 912.1-B, annex A): each has a context tag of its own.
-use Rattle.std.proofs.Common.{◌≡◌, ℕ, zero, suc, pos, ◌+◌, ◌≤◌, Option, Some, None, List, [], ◌∷◌}
-use Rattle.std.proofs.Common.{◌⊎◌, inl, inr, refl, arith}
+use Rattle.std.proofs.Common.{◌≡◌, ℕ, pos, ◌+◌, Option, Some, None, List, [], ◌∷◌}
+use Rattle.std.proofs.Common.{◌⊎◌, inl, inr, refl, Bool, true, false, IsTrue, IsFalse}
 use Rattle.ber_core.specs.Integer.{integer_octets}
 use Rattle.ber_core.specs.Tree.{primitive}
 use Rattle.ber_shape.specs.Content.{null}
@@ -8,12 +8,22 @@ use Rattle.ber_shape.specs.Element.{Element, simple}
 use Rattle.ber_shape.specs.Same.{element_where}
 use Rattle.ber_shape.specs.Choice.{either}
 use Rattle.sle_common.specs.Natural.{natural, IsBetween}
+use Rattle.fcltu_numbers.specs.CltuNotificationType.{number_of}
+use Rattle.fcltu_numbers.specs.declared.cltu_notification_type.CltuNotificationType.{CltuNotificationType}
+use Rattle.fcltu_numbers.specs.declared.cltu_notification_type.CltuNotificationType.TheVariants as kind
 use Rattle.fcltu_pdu.specs.declared.notice_kind.NoticeKind.{NoticeKind}
 
--- the kinds 6 to 8 carry the number of an event's invocation, the kinds 0 to 5 nothing
-abbrev pub HasNumber : ℕ → Option ℕ → Type 0
-HasNumber kind None = kind ≤ 5
-HasNumber kind (Some number) = IsBetween 6 8 kind × IsBetween 0 4294967295 number
+-- what is told of an event
+abbrev pub is_of_event : CltuNotificationType → Bool
+is_of_event kind.ActionListCompleted = true
+is_of_event kind.ActionListNotCompleted = true
+is_of_event kind.EventConditionEvFalse = true
+is_of_event _ = false
+
+-- a kind of an event carries the number of its invocation, another one nothing
+abbrev pub HasNumber : CltuNotificationType → Option ℕ → Type 0
+HasNumber kind None = IsFalse (is_of_event kind)
+HasNumber kind (Some number) = IsTrue (is_of_event kind) × IsBetween 0 4294967295 number
 
 -- the content of the element
 abbrev pub content : Option ℕ → List ℕ
@@ -60,95 +70,85 @@ from_2 = either (0x82 ∷ []) (simple (0x82 ∷ []) null refl) from_3 refl refl
 abbrev pub kinds : Element Kinds
 kinds = either (0x81 ∷ []) (simple (0x81 ∷ []) null refl) from_2 refl refl
 
-abbrev pub plain : ℕ → NoticeKind
+abbrev pub plain : CltuNotificationType → NoticeKind
 plain kind = record { kind = kind; number = None }
 
-abbrev pub numbered : ℕ → ℕ → NoticeKind
+abbrev pub numbered : CltuNotificationType → ℕ → NoticeKind
 numbered kind number = record { kind = kind; number = Some number }
 
 abbrev pub kind_of : Kinds → NoticeKind
-kind_of (inl expired) = plain 1
-kind_of (inr (inl interrupted)) = plain 2
-kind_of (inr (inr (inl halted))) = plain 3
-kind_of (inr (inr (inr (inl operational)))) = plain 4
-kind_of (inr (inr (inr (inr (inl empty))))) = plain 5
-kind_of (inr (inr (inr (inr (inr (inl number)))))) = numbered 6 number
-kind_of (inr (inr (inr (inr (inr (inr (inl number))))))) = numbered 7 number
-kind_of (inr (inr (inr (inr (inr (inr (inr (inl number)))))))) = numbered 8 number
-kind_of (inr (inr (inr (inr (inr (inr (inr (inr radiated)))))))) = plain 0
+kind_of (inl expired) = plain kind.SlduExpired
+kind_of (inr (inl interrupted)) = plain kind.ProductionInterrupted
+kind_of (inr (inr (inl halted))) = plain kind.ProductionHalted
+kind_of (inr (inr (inr (inl operational)))) = plain kind.ProductionOperational
+kind_of (inr (inr (inr (inr (inl empty))))) = plain kind.BufferEmpty
+kind_of (inr (inr (inr (inr (inr (inl number)))))) = numbered kind.ActionListCompleted number
+kind_of (inr (inr (inr (inr (inr (inr (inl number))))))) =
+    numbered kind.ActionListNotCompleted number
+kind_of (inr (inr (inr (inr (inr (inr (inr (inl number)))))))) =
+    numbered kind.EventConditionEvFalse number
+kind_of (inr (inr (inr (inr (inr (inr (inr (inr radiated)))))))) = plain kind.CltuRadiated
 
-abbrev pub of_plain : ℕ → Kinds
-of_plain (suc zero) = inl tt
-of_plain (suc (suc zero)) = inr (inl tt)
-of_plain (suc (suc (suc zero))) = inr (inr (inl tt))
-of_plain (suc (suc (suc (suc zero)))) = inr (inr (inr (inl tt)))
-of_plain (suc (suc (suc (suc (suc zero))))) = inr (inr (inr (inr (inl tt))))
-of_plain other = inr (inr (inr (inr (inr (inr (inr (inr tt)))))))
+abbrev pub of_plain : CltuNotificationType → Kinds
+of_plain kind.SlduExpired = inl tt
+of_plain kind.ProductionInterrupted = inr (inl tt)
+of_plain kind.ProductionHalted = inr (inr (inl tt))
+of_plain kind.ProductionOperational = inr (inr (inr (inl tt)))
+of_plain kind.BufferEmpty = inr (inr (inr (inr (inl tt))))
+of_plain _ = inr (inr (inr (inr (inr (inr (inr (inr tt)))))))
 
-abbrev pub of_numbered : ℕ → ℕ → Kinds
-of_numbered (suc (suc (suc (suc (suc (suc zero)))))) number =
-    inr (inr (inr (inr (inr (inl number)))))
-of_numbered (suc (suc (suc (suc (suc (suc (suc zero))))))) number =
-    inr (inr (inr (inr (inr (inr (inl number))))))
-of_numbered other number = inr (inr (inr (inr (inr (inr (inr (inl number)))))))
+abbrev pub of_numbered : CltuNotificationType → ℕ → Kinds
+of_numbered kind.ActionListCompleted number = inr (inr (inr (inr (inr (inl number)))))
+of_numbered kind.ActionListNotCompleted number = inr (inr (inr (inr (inr (inr (inl number))))))
+of_numbered _ number = inr (inr (inr (inr (inr (inr (inr (inl number)))))))
 
-abbrev pub of_parts : ℕ → Option ℕ → Kinds
+abbrev pub of_parts : CltuNotificationType → Option ℕ → Kinds
 of_parts kind None = of_plain kind
 of_parts kind (Some number) = of_numbered kind number
 
 -- what holds of a kind with the number that it carries
-pub record IsKind (kind : ℕ) (number : Option ℕ) : Type 0 where
+pub record IsKind (kind : CltuNotificationType) (number : Option ℕ) : Type 0 where
   pub fits : kinds.Fits (of_parts kind number)
   pub again : kind_of (of_parts kind number) ≡ record { kind = kind; number = number }
   -- the identifier is of that context tag
-  pub tree : kinds.tree (of_parts kind number) ≡ primitive ((0x80 + kind) ∷ []) (content number)
+  pub tree : kinds.tree (of_parts kind number)
+      ≡ primitive ((0x80 + number_of kind) ∷ []) (content number)
 
-is_plain : (kind : ℕ) → kind ≤ 5 → IsKind kind None
-is_plain zero few = record { fits = tt; again = refl; tree = refl }
-is_plain (suc zero) few = record { fits = tt; again = refl; tree = refl }
-is_plain (suc (suc zero)) few = record { fits = tt; again = refl; tree = refl }
-is_plain (suc (suc (suc zero))) few = record { fits = tt; again = refl; tree = refl }
-is_plain (suc (suc (suc (suc zero)))) few = record { fits = tt; again = refl; tree = refl }
-is_plain (suc (suc (suc (suc (suc zero))))) few = record { fits = tt; again = refl; tree = refl }
-is_plain (suc (suc (suc (suc (suc (suc kind)))))) few = absurd (omega (arith, few))
-
-is_numbered : (kind number : ℕ) → IsBetween 6 8 kind → IsBetween 0 4294967295 number
-    → IsKind kind (Some number)
-is_numbered (suc (suc (suc (suc (suc (suc zero)))))) number between fits =
-    record { fits = fits; again = refl; tree = refl }
-is_numbered (suc (suc (suc (suc (suc (suc (suc zero))))))) number between fits =
-    record { fits = fits; again = refl; tree = refl }
-is_numbered (suc (suc (suc (suc (suc (suc (suc (suc zero)))))))) number between fits =
-    record { fits = fits; again = refl; tree = refl }
-is_numbered kind number between fits = absurd (omega (arith, between.least_so, between.greatest_so))
-
-is_kind : (kind : ℕ) (number : Option ℕ) → HasNumber kind number → IsKind kind number
-is_kind kind None few = is_plain kind few
-is_kind kind (Some number) has = is_numbered kind number has.0 has.1
+is_kind : (kind : CltuNotificationType) (number : Option ℕ) → HasNumber kind number
+    → IsKind kind number
+is_kind kind.CltuRadiated None has = record { fits = tt; again = refl; tree = refl }
+is_kind kind.SlduExpired None has = record { fits = tt; again = refl; tree = refl }
+is_kind kind.ProductionInterrupted None has = record { fits = tt; again = refl; tree = refl }
+is_kind kind.ProductionHalted None has = record { fits = tt; again = refl; tree = refl }
+is_kind kind.ProductionOperational None has = record { fits = tt; again = refl; tree = refl }
+is_kind kind.BufferEmpty None has = record { fits = tt; again = refl; tree = refl }
+is_kind kind.ActionListCompleted (Some number) has =
+    record { fits = has.1; again = refl; tree = refl }
+is_kind kind.ActionListNotCompleted (Some number) has =
+    record { fits = has.1; again = refl; tree = refl }
+is_kind kind.EventConditionEvFalse (Some number) has =
+    record { fits = has.1; again = refl; tree = refl }
+is_kind _ _ has = cc
 
 pub kind_there : (k : NoticeKind) → HasNumber k.kind k.number
     → kinds.Fits (of_parts k.kind k.number) × (kind_of (of_parts k.kind k.number) ≡ k)
 kind_there k has = let is = is_kind k.kind k.number has in (is.fits, is.again)
 
-event : (kind number : ℕ) → 6 ≤ kind → kind ≤ 8 → IsBetween 0 4294967295 number
-    → HasNumber kind (Some number)
-event kind number low high fits = (record { least_so = low; greatest_so = high }, fits)
-
 pub kind_back : (z : Kinds) → kinds.Fits z
     → HasNumber (kind_of z).kind (kind_of z).number
     × (of_parts (kind_of z).kind (kind_of z).number ≡ z)
-kind_back (inl expired) fits = (omega arith, refl)
-kind_back (inr (inl interrupted)) fits = (omega arith, refl)
-kind_back (inr (inr (inl halted))) fits = (omega arith, refl)
-kind_back (inr (inr (inr (inl operational)))) fits = (omega arith, refl)
-kind_back (inr (inr (inr (inr (inl empty))))) fits = (omega arith, refl)
+kind_back (inl expired) fits = (refl, refl)
+kind_back (inr (inl interrupted)) fits = (refl, refl)
+kind_back (inr (inr (inl halted))) fits = (refl, refl)
+kind_back (inr (inr (inr (inl operational)))) fits = (refl, refl)
+kind_back (inr (inr (inr (inr (inl empty))))) fits = (refl, refl)
 kind_back (inr (inr (inr (inr (inr (inl number)))))) fits =
-    (event 6 number (omega arith) (omega arith) fits, refl)
+    ((refl, fits), refl)
 kind_back (inr (inr (inr (inr (inr (inr (inl number))))))) fits =
-    (event 7 number (omega arith) (omega arith) fits, refl)
+    ((refl, fits), refl)
 kind_back (inr (inr (inr (inr (inr (inr (inr (inl number)))))))) fits =
-    (event 8 number (omega arith) (omega arith) fits, refl)
-kind_back (inr (inr (inr (inr (inr (inr (inr (inr radiated)))))))) fits = (omega arith, refl)
+    ((refl, fits), refl)
+kind_back (inr (inr (inr (inr (inr (inr (inr (inr radiated)))))))) fits = (refl, refl)
 
 abbrev pub notice_kind : Element NoticeKind
 notice_kind = element_where kinds (record {
@@ -161,5 +161,5 @@ notice_kind = element_where kinds (record {
 
 -- the element of a kind: its identifier is of the kind's context tag
 pub tree_of_kind : (kind : NoticeKind) → notice_kind.Fits kind
-    → notice_kind.tree kind ≡ primitive ((0x80 + kind.kind) ∷ []) (content kind.number)
+    → notice_kind.tree kind ≡ primitive ((0x80 + number_of kind.kind) ∷ []) (content kind.number)
 tree_of_kind kind has = (is_kind kind.kind kind.number has).tree

@@ -56,7 +56,7 @@ pub record Transfer : Type 0 where
   pub id : ℕ
   pub earliest : Option Cds
   pub latest : Option Cds
-  pub delay : ℕ
+  pub radiation_delay : ℕ
   pub wanted : Bool
   pub octets : List ℕ
 
@@ -67,7 +67,7 @@ transfer_of t = record {
   id = t.id;
   earliest = t.earliest;
   latest = t.latest;
-  delay = t.delay;
+  radiation_delay = t.radiation_delay;
   wanted = t.wanted;
   octets = t.octets.now;
 }
@@ -83,7 +83,7 @@ transfer_fields = members_as
         id = p.1.1.0;
         earliest = p.1.1.1.0;
         latest = p.1.1.1.1.0;
-        delay = p.1.1.1.1.1.0;
+        radiation_delay = p.1.1.1.1.1.0;
         wanted = p.1.1.1.1.1.1.0;
         octets = p.1.1.1.1.1.1.1;
       };
@@ -93,7 +93,7 @@ transfer_fields = members_as
           t.invoke,
           (
             t.id,
-            (t.earliest, (t.latest, (t.delay, (t.wanted, t.octets)))),
+            (t.earliest, (t.latest, (t.radiation_delay, (t.wanted, t.octets)))),
           ),
         ),
       );

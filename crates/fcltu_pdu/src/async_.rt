@@ -6,6 +6,7 @@ use crate::notice_kind::NoticeKind;
 use ber_core::{BerFault, Reader, Writer};
 use ber_shape::{Element, Members, Pdu};
 use cds_time::Cds;
+use fcltu_numbers::CltuNotificationType;
 use sle_common::{Credentials, Number};
 
 /// ASYNC-NOTIFY (CCSDS 912.1-B, annex A): a SEQUENCE under the context tag 12. Its statuses are
@@ -13,10 +14,9 @@ use sle_common::{Credentials, Number};
 #[derive(Clone, Copy, Debug, PartialEq, Eq)]
 pub struct Async<'a> {
     pub credentials: Credentials<'a>,
-    /// Radiated 0, expired 1, production interrupted 2, halted 3, operational 4, buffer empty 5,
-    /// action list completed 6, not completed 7, condition of an event false 8.
-    pub kind: u8,
-    /// The number of the event's invocation, for the kinds 6 to 8 alone.
+    /// What it tells.
+    pub kind: CltuNotificationType,
+    /// The number of the event's invocation, for the three kinds of an event alone.
     pub number: Option<u32>,
     /// The last CLTU that was taken to radiate: its identification, when its radiation started, and
     /// its status: radiated 0, expired 1, interrupted 2, started 4.

@@ -20,7 +20,7 @@ pub struct CltuTransfer<'a> {
     /// After it radiation may not start, where one is known.
     pub latest: Option<Cds>,
     /// Microseconds between its radiation and the next one.
-    pub delay: u32,
+    pub radiation_delay: u32,
     /// Whether a notice of its radiation is wanted.
     pub wanted: bool,
     /// The CLTU: 1 to 65536 octets (this product's own).
@@ -48,7 +48,7 @@ impl<'a> Members<'a> for CltuTransfer<'a> {
             id: UnsignedLong::read(reader)?,
             earliest: ConditionalTime::read(reader)?,
             latest: ConditionalTime::read(reader)?,
-            delay: UnsignedLong::read(reader)?,
+            radiation_delay: UnsignedLong::read(reader)?,
             wanted: Notification::read(reader)?,
             octets: CltuOctets::read(reader)?,
         })
@@ -61,7 +61,7 @@ impl<'a> Members<'a> for CltuTransfer<'a> {
             + UnsignedLong::size(&value.id)
             + ConditionalTime::size(&value.earliest)
             + ConditionalTime::size(&value.latest)
-            + UnsignedLong::size(&value.delay)
+            + UnsignedLong::size(&value.radiation_delay)
             + Notification::size(&value.wanted)
             + CltuOctets::size(&value.octets)
     }
@@ -73,7 +73,7 @@ impl<'a> Members<'a> for CltuTransfer<'a> {
         UnsignedLong::write(&value.id, writer);
         ConditionalTime::write(&value.earliest, writer);
         ConditionalTime::write(&value.latest, writer);
-        UnsignedLong::write(&value.delay, writer);
+        UnsignedLong::write(&value.radiation_delay, writer);
         Notification::write(&value.wanted, writer);
         CltuOctets::write(&value.octets, writer);
     }
