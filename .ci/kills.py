@@ -7,11 +7,15 @@ STORE PATH MOST stores the entry of each number, one after the other, and writes
 acknowledged after each. After a kill, `PROVIDER list PATH` must show the entries of the first
 numbers: all that were acknowledged, and one more at most, which was being stored. The file is new
 in every tenth round; in the others the store goes on where it was. A killed program leaves to the
-system what it has written, so this says nothing of a cut of power. The last line says how many
-checks passed.
+system what it has written, so this says nothing of a cut of power.
+
+And it lets stores run into a limit on the size of their file, at which the system takes a part of
+the octets alone: a list shows all that was acknowledged, and a store without the limit goes on
+behind it. The last line says how many checks passed.
 """
 import os
 import random
+import resource
 import signal
 import subprocess
 import sys
@@ -23,6 +27,8 @@ PROVIDER, STORE = sys.argv[1:3]
 SEED = int(sys.argv[3]) if len(sys.argv) > 3 else random.SystemRandom().randrange(1_000_000)
 ROUNDS = 100
 ROUNDS_A_FILE = 10
+# How many stores run into a limit.
+FULL_FILES = 10
 MOST_ENTRIES = b"500000"
 # A program that runs for longer is stopped, in seconds.
 PATIENCE = 20
@@ -122,8 +128,34 @@ def whole_runs(folder):
     check("a list of all", listed(path), (0, lines_of(70), b""))
 
 
+def short_of_room(folder):
+    """Stores whose file may have so many octets: the write that crosses that is a short one."""
+    choices = random.Random(SEED)
+    for turn in range(FULL_FILES):
+        most = choices.randrange(9, 40_000)
+
+        def limit():
+            signal.signal(signal.SIGXFSZ, signal.SIG_IGN)
+            resource.setrlimit(resource.RLIMIT_FSIZE, (most, most))
+
+        path = os.path.join(folder, f"full-{turn}").encode()
+        name = f"a file of at most {most} octets"
+        done = subprocess.run([STORE, path, MOST_ENTRIES], capture_output=True, timeout=PATIENCE,
+                              preexec_fn=limit)
+        count = done.stdout.count(b"\n")
+        check(f"{name}, end", (done.returncode, done.stdout, done.stderr),
+              (1, counts_from(0, count), b"kill_store: disk fault\n"))
+        check(f"{name}, size", os.path.getsize(path), most)
+        check(f"{name}, list", listed(path), (0, lines_of(count), b""))
+        done = subprocess.run([STORE, path, b"%d" % (count + 3)], capture_output=True,
+                              timeout=PATIENCE)
+        check(f"{name}, more", (done.returncode, done.stdout), (0, counts_from(count, 3)))
+        check(f"{name}, list of more", listed(path), (0, lines_of(count + 3), b""))
+
+
 with tempfile.TemporaryDirectory() as place:
     whole_runs(place)
+    short_of_room(place)
     more = rounds(place)
 print(f"kills: seed {SEED}; in {more} of {ROUNDS} rounds the file held one entry more than was"
       " acknowledged")
