@@ -1,21 +1,21 @@
 -- An element is cut exactly where it is the outermost one and ends behind the input.
-use Rattle.std.proofs.Common.{◌≡◌, ◌⊎◌, ◌↔◌, ℕ, zero, suc, ◌+◌, ◌-◌, ◌<◌, ◌≤◌, inl, inr, Bool, true, false, ◌==◌, ◌||◌}
-use Rattle.std.proofs.Common.{List, [], ◌∷◌, ◌++◌, length, take, drop, replicate, nat_eq, nat_lt}
-use Rattle.std.proofs.Common.{slice_index, if◌then◌else◌, Result, Ok, Err, refl, sym, ap, subst}
-use Rattle.std.proofs.Common.{◌∙◌, arith, append-nil}
+use Rattle.std.proofs.Common.{◌≡◌, ◌⊎◌, ◌↔◌, ℕ, zero, suc, ◌+◌, ◌-◌, ◌<◌, ◌≤◌, inl, inr, Bool, true}
+use Rattle.std.proofs.Common.{false, ◌==◌, ◌||◌, List, [], ◌∷◌, ◌++◌, length, take, drop, replicate}
+use Rattle.std.proofs.Common.{nat_eq, nat_lt, slice_index, if◌then◌else◌, Result, Ok, Err, refl}
+use Rattle.std.proofs.Common.{sym, ap, subst, ◌∙◌, arith, append-nil}
 use Rattle.std.specs.List.{starts_with}
 use Rattle.std.specs.Cmp.Lexicographic.{pointwise}
 use Rattle.std.proofs.lemmas.Bool.{ltb-true, ltb-false, eqb-true}
-use Rattle.std.proofs.lemmas.List.{append_assoc, drop-append-le, take_rest, take-append-drop, length-append}
-use Rattle.std.proofs.lemmas.List.{length-replicate, length-take}
+use Rattle.std.proofs.lemmas.List.{append_assoc, drop-append-le, take_rest, take-append-drop}
+use Rattle.std.proofs.lemmas.List.{length-append, length-replicate, length-take}
 use Rattle.ber_core.specs.declared.fault.BerFault.{BerFault}
 use Rattle.ber_core.specs.declared.fault.BerFault.TheVariants.{Cut, WrongTag, BadLength, BadContent}
 use Rattle.ber_core.specs.declared.fault.BerFault.TheVariants.{Wide}
 use Rattle.ber_core.specs.Length.{IsOctets, IsLength, number_of}
 use Rattle.ber_core.specs.Tree.{Tree, Trees, primitive, constructed, no_trees, tree_and}
 use Rattle.ber_core.specs.View.{View, view_before, end_of, left, IsInside}
-use Rattle.ber_core.specs.Reading.{is_full, missing, content_from, content_behind, content_at, next_content}
-use Rattle.ber_core.specs.Reading.{◌>>=◌, leave, inside}
+use Rattle.ber_core.specs.Reading.{is_full, missing, content_from, content_behind, content_at}
+use Rattle.ber_core.specs.Reading.{next_content, ◌>>=◌, leave, inside}
 use Rattle.ber_core.specs.Whole.{exactly, read_tree, read_trees}
 use Rattle.ber_core.specs.Longer.{longer, IsUncut, IsWithin, EndsBehind, tag_of}
 use Rattle.ber_core.specs.Facts.Found.{front_of, long_counts, IsOctets-take, IsOctets-drop}
@@ -43,8 +43,8 @@ missing_uncut octets place end ends at =
     [ true ↦ λ e. absurd (omega (arith, eqb-true _ 0 e)) | false ↦ λ e. tt ] refl
 
 from_uncut : (octets : List ℕ) (place end : ℕ) (ends : List ℕ) (at start n : ℕ) (rest : List ℕ)
-    → IsUncut (content_from (record { octets = octets; place = place; ends = end ∷ ends }) at start n
-    rest)
+    → IsUncut (content_from (record { octets = octets; place = place; ends = end ∷ ends }) at start
+    n rest)
 from_uncut octets place end ends at start n rest =
     if_uncut (nat_lt (length rest) n) _ _ (missing_uncut octets place end ends at) tt
 
@@ -169,8 +169,8 @@ same_cut p q e = cc
 ok_cut : {A : Type 0} (x : A) (p : ℕ) → ◌≡◌ {A = Result A BerFault} (Ok x) (Err (Cut p)) → ⊥
 ok_cut x p e = cc
 
-length_cut : {A : Type 0} (at p : ℕ) → ◌≡◌ {A = Result A BerFault} (Err (BadLength at)) (Err (Cut p))
-    → ⊥
+length_cut : {A : Type 0} (at p : ℕ)
+    → ◌≡◌ {A = Result A BerFault} (Err (BadLength at)) (Err (Cut p)) → ⊥
 length_cut at p e = cc
 
 tag_cut : {A : Type 0} (at found p : ℕ)

@@ -123,7 +123,8 @@ module _ (octets : List ℕ) (place : ℕ) where
       → Uncut (if b then content_at outer (place + length tag) (drop (length tag) x)
       else if starts_with nat_eq tag x then Err (Cut place)
       else Err (WrongTag place (slice_index x 0)))
-      → from tag (x ++ more) ≡ (if b then content_at outer (place + length tag) (drop (length tag) x)
+      → from tag (x ++ more)
+      ≡ (if b then content_at outer (place + length tag) (drop (length tag) x)
       else if starts_with nat_eq tag x then Err (Cut place)
       else Err (WrongTag place (slice_index x 0)))) [
         | true ↦ λ yes h.

@@ -1,7 +1,7 @@
 -- What is read of a tree stays as octets come behind the input, but for Cut.
-use Rattle.std.proofs.Common.{◌≡◌, ℕ, ◌+◌, ◌-◌, ◌≤◌, true, false, ◌==◌, List, [], ◌∷◌, ◌++◌}
-use Rattle.std.proofs.Common.{length, drop, if◌then◌else◌, Result, Ok, Err, refl, sym, ap, subst}
-use Rattle.std.proofs.Common.{◌∙◌, arith}
+use Rattle.std.proofs.Common.{◌≡◌, ℕ, ◌+◌, ◌-◌, ◌≤◌, true, false, ◌==◌, List, [], ◌∷◌, ◌++◌, length}
+use Rattle.std.proofs.Common.{drop, if◌then◌else◌, Result, Ok, Err, refl, sym, ap, subst, ◌∙◌}
+use Rattle.std.proofs.Common.{arith}
 use Rattle.std.proofs.lemmas.List.{length-append, length-take, length-drop}
 use Rattle.ber_core.specs.declared.fault.BerFault.{BerFault}
 use Rattle.ber_core.specs.declared.fault.BerFault.TheVariants.{Cut, WrongTag, BadLength, BadContent}
@@ -9,8 +9,7 @@ use Rattle.ber_core.specs.declared.fault.BerFault.TheVariants.{Wide}
 use Rattle.ber_core.specs.Length.{IsOctets}
 use Rattle.ber_core.specs.Tree.{Tree, Trees, primitive, constructed, no_trees, tree_and}
 use Rattle.ber_core.specs.View.{View, view_before, left, IsInside}
-use Rattle.ber_core.specs.Reading.{◌>>=◌, next_content, leave, inside, behind}
-use Rattle.ber_core.specs.Reading.{Stands}
+use Rattle.ber_core.specs.Reading.{◌>>=◌, next_content, leave, inside, behind, Stands}
 use Rattle.ber_core.specs.Whole.{exactly, read_tree, read_trees}
 use Rattle.ber_core.specs.Longer.{longer, longer_read, IsUncut, IsWithin}
 use Rattle.ber_core.specs.Facts.Found.{next_content-Stands}
@@ -154,7 +153,8 @@ mutual
       let entered : length inner.ends ≤ 16 = omega (arith, stands.shallow) in
       stays_on (longer more) (longer more) (read_trees members inner)
       (read_trees members (longer more inner)) left_behind left_behind
-      (trees_in members inner more octets (inside_within view tag found.1 found.0 stands is) entered)
+      (trees_in members inner more octets (inside_within view tag found.1 found.0 stands is)
+      entered)
       (λ after all.
       let passed = read_trees-ok members inner after octets entered all in
       subst (λ after. StaysUncut (longer more) (left_behind after)

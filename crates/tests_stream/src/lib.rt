@@ -1,6 +1,6 @@
-// Tests of the messages of a connection: rows of octets in pieces with what they are made into, each
-// cut of a stream against a plain reader, and octets that came whole. They stand above `isp1_tml`,
-// and are proved once.
+// Tests of the messages of a connection: rows of octets in pieces with what they are made into,
+// each cut of a stream against a plain reader, and octets that came whole. They stand above
+// `isp1_tml`, and are proved once.
 #![tactic(auto)]
 
 #[cfg(test)]

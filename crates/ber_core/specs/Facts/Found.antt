@@ -66,8 +66,8 @@ behind_first view at first rest =
     else if first == 128 || nat_lt 136 first then Err (BadLength at)
     else content_behind view at (first - 128) rest
 
-pub long_counts : (first : ℕ) → nat_lt first 128 ≡ false → (first == 128 || nat_lt 136 first) ≡ false
-    → (128 < first) × (first ≤ 136)
+pub long_counts : (first : ℕ) → nat_lt first 128 ≡ false
+    → (first == 128 || nat_lt 136 first) ≡ false → (128 < first) × (first ≤ 136)
 long_counts first high fine = grind (arith, nat_tests)
 
 long_fine : (first : ℕ) → 128 < first → first ≤ 136 → (first == 128 || nat_lt 136 first) ≡ false

@@ -6,7 +6,8 @@ use Rattle.isp1_tml.proofs.laws.goes_on.Goals as goal
 
 pub returns : goal.returns
 returns c place octets more messages rest s =
-    let is = ap (reading place) (ap (λ x. x ++ more) s.whole ∙ append_assoc (spellings messages) rest more)
+    let is = ap (reading place)
+    (ap (λ x. x ++ more) s.whole ∙ append_assoc (spellings messages) rest more)
     ∙ reading_over place messages (rest ++ more) s.each in
     record {
       all = ap (λ (r : Reading). r.messages) is;
