@@ -5,3 +5,4 @@ pub mod Doors
 pub mod Bound
 pub mod Radiating
 pub mod Sites
+pub mod Opened

@@ -1,0 +1,11 @@
+use Rattle.std.proofs.Common.{rules, arith}
+use Rattle.std.proofs.lemmas.List.{length-map}
+use Rattle.record_form.specs.Entry.{entry_of, entries_of}
+use Rattle.station_book.proofs.Opened.{opened_is}
+use Rattle.station_book.proofs.book.Book.open.Goals as goal
+
+pub returns-clause-new : goal.returns-clause-new
+returns-clause-new c =
+    opened_is c.args.services.items c.args.limits.room c.args.limits.longest c.args.workers
+    c.len-2.result (entries_of c.extend.new.archive.items) _ _ (search rules) (search rules)
+    (omega (arith, length-map c.extend.new.archive.items entry_of, c.len-2.ensures))
