@@ -44,7 +44,7 @@ fn secret(hash: Hash) -> Secret<'static> {
         name: NAME,
         pass: PASS,
         hash,
-        delay: 60,
+        credential_age: 60,
     }
 }
 

@@ -15,8 +15,8 @@ use sle_common::Credentials;
 pub const PICOS_A_SECOND: u128 = 1_000_000_000_000;
 
 /// Whether credentials are the secret's, and their time is now, in picoseconds since 1958-01-01, or
-/// at most the secret's age away. The first fault is told, in the order of `AuthFault`. It takes
-/// no memory, and one digest.
+/// at most the secret's `credential_age` away. The first fault is told, in the order of
+/// `AuthFault`. It takes no memory, and one digest.
 pub fn check(secret: &Secret<'_>, credentials: &Credentials<'_>, now: u128) -> Result<(), AuthFault>
     ensures answer { IsAnswer (credentials_of credentials.now) secret.now now result }
     ensures exact { result ≡ auth secret.now (credentials_of credentials.now) now }

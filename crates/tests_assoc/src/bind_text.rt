@@ -1,16 +1,17 @@
 // What a BIND is answered, as a text.
 use crate::rows::octets_of;
 use crate::stations::station_of;
-use assoc_core::{BindFault, check_bind, peer_of};
+use assoc_core::{check_bind, peer_of};
 use sle_common::{InstanceId, InstanceRef};
+use sle_numbers::{BindDiagnostic, Numbered};
 use std::alloc::Global;
 use std::test::Fail;
 
 // The instance's place, or the fault with its diagnostic.
-fn answer_text(alloc: Global, answer: Result<u32, BindFault>) -> Result<String, Fail> {
+fn answer_text(alloc: Global, answer: Result<u32, BindDiagnostic>) -> Result<String, Fail> {
     Ok(match answer {
         Ok(place) => format!(in alloc; "instance {place}")?,
-        Err(fault) => format!(in alloc; "{} {fault}", fault.diagnostic())?,
+        Err(fault) => format!(in alloc; "{} {fault}", fault.number())?,
     })
 }
 

@@ -4,6 +4,7 @@ use crate::credentials::{NOW, credentials_of, moment_of};
 use crate::stations::station_of;
 use assoc_core::{Association, Outcome, PduKind, State, Step};
 use sle_common::Credentials;
+use sle_numbers::PeerAbortDiagnostic;
 use station_config::Site;
 use std::alloc::Global;
 use std::test::Fail;
@@ -172,9 +173,15 @@ fn step_word(step: Step) -> &'static str {
     match step {
         Step::Pass => "P",
         Step::Denied => "D",
-        Step::Abort { diagnostic: 0 } => "0",
-        Step::Abort { diagnostic: 3 } => "3",
-        Step::Abort { diagnostic: 5 } => "5",
+        Step::Abort {
+            diagnostic: PeerAbortDiagnostic::AccessDenied,
+        } => "0",
+        Step::Abort {
+            diagnostic: PeerAbortDiagnostic::ProtocolError,
+        } => "3",
+        Step::Abort {
+            diagnostic: PeerAbortDiagnostic::EncodingError,
+        } => "5",
         Step::Abort { .. } => "another diagnostic",
     }
 }

@@ -50,7 +50,7 @@ pub fn secret_text(alloc: Global, words: &str) -> Result<String, Fail> {
         name: &name,
         pass: &pass,
         hash: hash_of(words.next().unwrap_or("")),
-        delay: 60,
+        credential_age: 60,
     };
     let call = words.next().unwrap_or("");
     let now = words.next().unwrap_or("").parse()?;

@@ -41,7 +41,7 @@ fn peer_text(alloc: Global, peer: &Peer) -> Result<String, AllocError> {
         "; peer {} {:?} {hash} {} {:?}",
         name(peer.name.as_slice()),
         peer.level,
-        peer.delay,
+        peer.credential_age,
         peer.pass.as_slice()
     )
 }

@@ -8,23 +8,23 @@ MOC 0 4 sagr=1.spack=P.rsl-fg=1.raf=onlc1 = instance 1|
 MOC 0 5 sagr=1.spack=P.rsl-fg=1.raf=onlc2 = instance 3|
 MOC 2 5 sagr=1.spack=P.rsl-fg=1.rcf=onlc1 = instance 4|
 MOC 16 5 sagr=1.spack=P.fsl-fg=1.cltu=cltu1 = instance 5|
-MOC 2 5 sagr=1.spack=P.rsl-fg=1.raf=onlc1 = 6 inconsistent service type|
-MOC 0 5 sagr=1.spack=P.fsl-fg=1.cltu=cltu1 = 6 inconsistent service type|
+MOC 2 5 sagr=1.spack=P.rsl-fg=1.raf=onlc1 = 6 inconsistentServiceType|
+MOC 0 5 sagr=1.spack=P.fsl-fg=1.cltu=cltu1 = 6 inconsistentServiceType|
 OTHER 0 5 sagr=1.spack=P.rsl-fg=1.raf=onlc1
-    = 5 service instance not accessible to this initiator|
-SEC 0 5 sagr=1.spack=P.rsl-fg=1.raf=onlc1 = 5 service instance not accessible to this initiator|
-MOC 0 5 sagr=9.raf=x = 3 no such service instance|
-MOC 0 3 sagr=1.spack=P.rsl-fg=1.raf=onlc1 = 2 version not supported|
-MOC 0 6 sagr=1.spack=P.rsl-fg=1.raf=onlc1 = 2 version not supported|
-MOC 0 261 sagr=1.spack=P.rsl-fg=1.raf=onlc1 = 2 version not supported|
-MOC 4 5 sagr=1.spack=P.rsl-fg=1.raf=onlc1 = 1 service type not supported|
-MOC 65535 5 sagr=1.spack=P.rsl-fg=1.raf=onlc1 = 1 service type not supported|
-NOBODY 0 5 sagr=1.spack=P.rsl-fg=1.raf=onlc1 = 0 access denied|
-MO 1 3 sagr=9.raf=x = 0 access denied|
-OTHER 1 3 sagr=9.raf=x = 1 service type not supported|
-OTHER 2 3 sagr=9.raf=x = 2 version not supported|
+    = 5 siNotAccessibleToThisInitiator|
+SEC 0 5 sagr=1.spack=P.rsl-fg=1.raf=onlc1 = 5 siNotAccessibleToThisInitiator|
+MOC 0 5 sagr=9.raf=x = 3 noSuchServiceInstance|
+MOC 0 3 sagr=1.spack=P.rsl-fg=1.raf=onlc1 = 2 versionNotSupported|
+MOC 0 6 sagr=1.spack=P.rsl-fg=1.raf=onlc1 = 2 versionNotSupported|
+MOC 0 261 sagr=1.spack=P.rsl-fg=1.raf=onlc1 = 2 versionNotSupported|
+MOC 4 5 sagr=1.spack=P.rsl-fg=1.raf=onlc1 = 1 serviceTypeNotSupported|
+MOC 65535 5 sagr=1.spack=P.rsl-fg=1.raf=onlc1 = 1 serviceTypeNotSupported|
+NOBODY 0 5 sagr=1.spack=P.rsl-fg=1.raf=onlc1 = 0 accessDenied|
+MO 1 3 sagr=9.raf=x = 0 accessDenied|
+OTHER 1 3 sagr=9.raf=x = 1 serviceTypeNotSupported|
+OTHER 2 3 sagr=9.raf=x = 2 versionNotSupported|
 OTHER 2 5 sagr=1.spack=P.rsl-fg=1.raf=onlc1
-    = 5 service instance not accessible to this initiator|";
+    = 5 siNotAccessibleToThisInitiator|";
 
 // sagr=1.spack=P.rsl-fg=1.raf=onlc1 as a BIND spells it, and the same with onlc3.
 pub const SPELLED: &str = "
@@ -37,7 +37,7 @@ pub const SPELLED: &str = "
     310e300c06072b7004030102351a0150
     310e300c06072b7004030102261a0131
     3112301006072b7004030102161a056f6e6c6333
-    = 3 no such service instance|";
+    = 3 noSuchServiceInstance|";
 
 // By their whole names.
 pub const PEERS: &str = "

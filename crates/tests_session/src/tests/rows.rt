@@ -33,41 +33,41 @@ in 1 MOC-USED=heard 109 sent OK-5
 // Each pair of a state and a message that has no place there, or doesn't decode.
 pub const OUT_OF_PLACE: &str = "\
 open 1
-in 1 BEAT=heard 8 Aborted { diagnostic: 3 }
+in 1 BEAT=heard 8 Aborted { diagnostic: ProtocolError }
 new
 open 1
-in 1 MOC-0-5-RC=heard 101 Aborted { diagnostic: 3 }
+in 1 MOC-0-5-RC=heard 101 Aborted { diagnostic: ProtocolError }
 new
 open 1
-in 1 ABORT=heard 12 Aborted { diagnostic: 3 }
+in 1 ABORT=heard 12 Aborted { diagnostic: ProtocolError }
 new
 open 1
-in 1 0100000000000004bf640130=heard 12 Aborted { diagnostic: 3 }
-new
-open 1
-in 1 CONTEXT=heard 20
-in 1 CONTEXT=heard 20 Aborted { diagnostic: 3 }
+in 1 0100000000000004bf640130=heard 12 Aborted { diagnostic: ProtocolError }
 new
 open 1
 in 1 CONTEXT=heard 20
-in 1 UNBIND=heard 16 Aborted { diagnostic: 3 }
+in 1 CONTEXT=heard 20 Aborted { diagnostic: ProtocolError }
 new
 open 1
 in 1 CONTEXT=heard 20
-in 1 STOP=heard 15 Aborted { diagnostic: 3 }
+in 1 UNBIND=heard 16 Aborted { diagnostic: ProtocolError }
 new
 open 1
 in 1 CONTEXT=heard 20
-in 1 01000000000000039f6400=heard 11 Aborted { diagnostic: 3 }
+in 1 STOP=heard 15 Aborted { diagnostic: ProtocolError }
 new
 open 1
 in 1 CONTEXT=heard 20
-in 1 0100000000000003bf6800=heard 11 Aborted { diagnostic: 3 }
+in 1 01000000000000039f6400=heard 11 Aborted { diagnostic: ProtocolError }
+new
+open 1
+in 1 CONTEXT=heard 20
+in 1 0100000000000003bf6800=heard 11 Aborted { diagnostic: ProtocolError }
 new
 open 1
 in 1 CONTEXT=heard 20
 in 1 MOC-0-5-RC=heard 101 sent OK-5
-in 1 MOC-0-5-RC=heard 101 Aborted { diagnostic: 3 }
+in 1 MOC-0-5-RC=heard 101 Aborted { diagnostic: ProtocolError }
 bind 9 1=AlreadyBound
 quit 1
 bind 9 1=Bound
@@ -75,59 +75,59 @@ new
 open 1
 in 1 CONTEXT=heard 20
 in 1 MOC-0-5-RC=heard 101 sent OK-5
-in 1 NOBODY-0-5-RC=heard 104 Aborted { diagnostic: 3 }
+in 1 NOBODY-0-5-RC=heard 104 Aborted { diagnostic: ProtocolError }
 new
 open 1
 in 1 CONTEXT=heard 20
 in 1 MOC-0-5-RC=heard 101 sent OK-5
-in 1 CONTEXT=heard 20 Aborted { diagnostic: 3 }
+in 1 CONTEXT=heard 20 Aborted { diagnostic: ProtocolError }
 ";
 
 pub const MALFORMED: &str = "\
 open 1
 in 1 CONTEXT=heard 20
-in 1 0100000000000004bf640130=heard 12 Aborted { diagnostic: 5 }
-round 1=Aborted { diagnostic: 5 }
+in 1 0100000000000004bf640130=heard 12 Aborted { diagnostic: EncodingError }
+round 1=Aborted { diagnostic: EncodingError }
 new
 open 1
 in 1 CONTEXT=heard 20
-in 1 0100000000000000=heard 8 Aborted { diagnostic: 5 }
+in 1 0100000000000000=heard 8 Aborted { diagnostic: EncodingError }
 new
 open 1
 in 1 CONTEXT=heard 20
-in 1 0100000000000001bf=heard 9 Aborted { diagnostic: 5 }
+in 1 0100000000000001bf=heard 9 Aborted { diagnostic: EncodingError }
 new
 open 1
 in 1 CONTEXT=heard 20
-in 1 0100000000000002bfe4=heard 10 Aborted { diagnostic: 5 }
+in 1 0100000000000002bfe4=heard 10 Aborted { diagnostic: EncodingError }
 new
 open 1
 in 1 CONTEXT=heard 20
-in 1 01000000000000049f6801ff=heard 12 Aborted { diagnostic: 5 }
+in 1 01000000000000049f6801ff=heard 12 Aborted { diagnostic: EncodingError }
 new
 open 1
 in 1 CONTEXT=heard 20
-in 1 01000000000000059f68017f00=heard 13 Aborted { diagnostic: 5 }
-new
-open 1
-in 1 CONTEXT=heard 20
-in 1 MOC-0-5-RC=heard 101 sent OK-5
-in 1 0100000000000004bf640130=heard 12 Aborted { diagnostic: 5 }
+in 1 01000000000000059f68017f00=heard 13 Aborted { diagnostic: EncodingError }
 new
 open 1
 in 1 CONTEXT=heard 20
 in 1 MOC-0-5-RC=heard 101 sent OK-5
-in 1 0100000000000004bf660130=heard 12 Aborted { diagnostic: 5 }
+in 1 0100000000000004bf640130=heard 12 Aborted { diagnostic: EncodingError }
 new
 open 1
 in 1 CONTEXT=heard 20
 in 1 MOC-0-5-RC=heard 101 sent OK-5
-in 1 STOP=heard 15 Aborted { diagnostic: 5 }
+in 1 0100000000000004bf660130=heard 12 Aborted { diagnostic: EncodingError }
 new
 open 1
 in 1 CONTEXT=heard 20
 in 1 MOC-0-5-RC=heard 101 sent OK-5
-in 1 0100000000000000=heard 8 Aborted { diagnostic: 5 }
+in 1 STOP=heard 15 Aborted { diagnostic: EncodingError }
+new
+open 1
+in 1 CONTEXT=heard 20
+in 1 MOC-0-5-RC=heard 101 sent OK-5
+in 1 0100000000000000=heard 8 Aborted { diagnostic: EncodingError }
 ";
 
 pub const ENDED: &str = "\
@@ -145,7 +145,7 @@ new
 open 1
 in 1 CONTEXT=heard 20
 clock 150000000
-round 1=silence Aborted { diagnostic: 4 }
+round 1=silence Aborted { diagnostic: CommunicationsFailure }
 new
 open 1
 in 1 CONTEXT=heard 20
@@ -346,7 +346,7 @@ in 1 03=heard 1 sent BEAT
 clock 299999998
 round 1=silence sent BEAT
 clock 299999999
-round 1=silence Aborted { diagnostic: 4 }
+round 1=silence Aborted { diagnostic: CommunicationsFailure }
 new
 open 1
 in 1 CONTEXT=heard 20
@@ -357,13 +357,13 @@ piece 1 BEAT
 clock 149999999
 round 1=stalled BEAT
 clock 150000000
-round 1=stalled BEAT Aborted { diagnostic: 4 }
-round 1=Aborted { diagnostic: 4 }
+round 1=stalled BEAT Aborted { diagnostic: CommunicationsFailure }
+round 1=Aborted { diagnostic: CommunicationsFailure }
 new
 open 1
 in 1 CONTEXT MOC-0-5-RC=heard 121
 clock 150000000
-round 1=Aborted { diagnostic: 4 }
+round 1=Aborted { diagnostic: CommunicationsFailure }
 bind 9 1=AlreadyBound
 new
 open 1
@@ -372,7 +372,7 @@ in 1 MOC-0-5-RC=heard 101 sent OK-5
 stall 1 1
 in 1 UNBIND=heard 16 stalled UNBOUND
 clock 150000000
-round 1=sent UNBOUND Aborted { diagnostic: 4 }
+round 1=sent UNBOUND Aborted { diagnostic: CommunicationsFailure }
 new
 open 1
 in 1 CONTEXT=heard 20
@@ -391,14 +391,14 @@ pub const LOST: &str = "\
 open 1
 in 1 CONTEXT=heard 20
 bind 1 0=Bound
-in 1 MOC-0-5-RC=heard 101 Aborted { diagnostic: 127 }
+in 1 MOC-0-5-RC=heard 101 Aborted { diagnostic: OtherReason }
 bind 9 1=Bound
 new
 open 1
 in 1 CONTEXT=heard 20
 in 1 MOC-0-5-RC=heard 101 sent OK-5
 quit 1
-in 1 UNBIND=heard 16 Aborted { diagnostic: 127 }
+in 1 UNBIND=heard 16 Aborted { diagnostic: OtherReason }
 ";
 
 // Each of the first seven calls of a link fails in turn, and at last the offer of a heartbeat.
@@ -494,5 +494,5 @@ round 1=heard 65536
 round 1=heard 65536
 round 1=heard 65536
 round 1=heard 65536
-round 1=space 65436 heard 65436 Aborted { diagnostic: 3 }
+round 1=space 65436 heard 65436 Aborted { diagnostic: ProtocolError }
 ";
