@@ -1,13 +1,16 @@
 // What happens to an association, word by word. A word is the name of credentials or of a moment,
 // which the next messages have; `>` and an outcome; the name of a message; or `state`.
+ghost use Rattle.station_config.specs.Validity.{IsSite};
+
 use crate::credentials::{NOW, credentials_of, moment_of};
+use crate::rows::first_of;
 use crate::stations::station_of;
 use assoc_core::{Association, Outcome, PduKind, State, Step};
 use sle_common::Credentials;
 use sle_numbers::PeerAbortDiagnostic;
 use station_config::Site;
-use std::alloc::Global;
-use std::test::Fail;
+use std::alloc::{AllocError, Global};
+use std::fmt::Write;
 
 // All messages; a BIND has its initiator behind `=`.
 const MESSAGES: &str = "context,heartbeat,bind=MOC,unbind,peer-abort,start,stop,report,get,throw,\
@@ -31,18 +34,26 @@ fn alternatives(name: &str) -> &'static str {
 }
 
 /// What the words behind the name of a station tell; once for each word that a star stands for.
-pub fn course_text(alloc: Global, text: &str) -> Result<String, Fail> {
-    let (name, words) = text.split_once(' ').unwrap_or((text, ""));
-    let site = station_of(alloc, name)?;
-    let (before, star) = words.split_once('*').unwrap_or((words, ""));
-    let (list, behind) = star.split_once(' ').unwrap_or((star, ""));
-    let mut told = String::new(alloc);
-    for word in alternatives(list).split(',') {
-        let words = format!(in alloc; "{before} {word} {behind}")?;
-        let course = Course::of(alloc, &site, words.as_str())?;
-        told.push_str(course.told.as_str())?;
+pub fn tell_course(alloc: Global, text: &str, told: &mut String) -> Result<(), AllocError> {
+    let (name, words) = first_of(text);
+    match station_of(alloc, name) {
+        Ok(site) => tell_courses(&site, words, told),
+        Err(_) => Err(AllocError),
     }
-    Ok(told)
+}
+
+fn tell_courses(site: &Site, words: &str, told: &mut String) -> Result<(), AllocError>
+    requires { IsSite site.now }
+{
+    let (before, star) = words.split_once('*').unwrap_or((words, ""));
+    let (list, behind) = first_of(star);
+    for word in alternatives(list).split(',') {
+        let mut course = Course::new();
+        course.go_on(site, before, told)?;
+        course.go_on(site, word, told)?;
+        course.go_on(site, behind, told)?;
+    }
+    Ok(())
 }
 
 fn message_of(word: &str) -> Option<PduKind<'_>> {
@@ -89,32 +100,36 @@ fn outcome_of(word: &str) -> Option<Outcome> {
     }
 }
 
-// An association on its way, with what became of its messages.
+// An association on its way.
 #[derive(Drop)]
 struct Course {
     association: Association,
     credentials: Credentials<'static>,
     now: u128,
-    // Of each message a word.
-    told: String,
 }
 
 impl Course {
-    // An association to which these words happen, at a site.
-    fn of(alloc: Global, site: &Site, words: &str) -> Result<Course, Fail> {
-        let mut course = Course {
+    fn new() -> Course {
+        Course {
             association: Association::new(),
             credentials: Credentials::Unused,
             now: NOW,
-            told: String::new(alloc),
-        };
-        for word in words.split_whitespace() {
-            course.go_on(alloc, site, word)?;
         }
-        Ok(course)
     }
 
-    fn go_on(&mut self, alloc: Global, site: &Site, word: &str) -> Result<(), Fail> {
+    // These words happen to it at a site.
+    fn go_on(&mut self, site: &Site, words: &str, told: &mut String) -> Result<(), AllocError>
+        requires { IsSite site.now }
+    {
+        for word in words.split_whitespace() {
+            self.happens(site, word, told)?;
+        }
+        Ok(())
+    }
+
+    fn happens(&mut self, site: &Site, word: &str, told: &mut String) -> Result<(), AllocError>
+        requires { IsSite site.now }
+    {
         if let Some(credentials) = credentials_of(word) {
             self.credentials = credentials;
         } else if let Some(now) = moment_of(word) {
@@ -122,33 +137,38 @@ impl Course {
         } else if let Some(outcome) = outcome_of(word) {
             self.association.moved(outcome);
         } else if let Some(message) = message_of(word) {
-            let credentials = self.credentials;
-            let step = self
-                .association
-                .invoke(site, message, &credentials, self.now);
-            let behind = self.behind_step();
-            self.told.push_str(step_word(step))?;
-            self.told.push_str(behind)?;
+            return self.invoke(site, message, told);
         } else if word == "state" {
-            let state = self.state(alloc)?;
-            self.told.push_str(state.as_str())?;
+            return self.tell_state(told);
         } else {
-            return Err(Fail::from("an unknown word"));
+            return told.push_str("an unknown word ");
         }
         Ok(())
     }
 
-    // What stands behind a step's word: `x` where the association is closing.
-    fn behind_step(&self) -> &'static str {
+    // Tells a word of a message, and `x` where the association is closing then.
+    fn invoke(
+        &mut self,
+        site: &Site,
+        message: PduKind<'_>,
+        told: &mut String,
+    ) -> Result<(), AllocError>
+        requires { IsSite site.now }
+    {
+        let credentials = self.credentials;
+        let step = self
+            .association
+            .invoke(site, message, &credentials, self.now);
+        told.push_str(step_word(step))?;
         if self.association.state() == State::Closing {
-            "x "
+            told.push_str("x ")
         } else {
-            " "
+            told.push_str(" ")
         }
     }
 
     // The state, and who is bound.
-    fn state(&self, alloc: Global) -> Result<String, Fail> {
+    fn tell_state(&self, told: &mut String) -> Result<(), AllocError> {
         let state = self.association.state();
         let name = match state {
             State::Opening => "opening",
@@ -157,14 +177,11 @@ impl Course {
             State::Active(_) => "active",
             State::Closing => "closing",
         };
-        Ok(match state.binding() {
-            None => format!(in alloc; "{name} ")?,
-            Some(binding) if binding.forward => format!(in alloc;
-                "{name}-forward-{} ",
-                binding.peer
-            )?,
-            Some(binding) => format!(in alloc; "{name}-{} ", binding.peer)?,
-        })
+        match state.binding() {
+            None => write!(told, "{name} "),
+            Some(binding) if binding.forward => write!(told, "{name}-forward-{} ", binding.peer),
+            Some(binding) => write!(told, "{name}-{} ", binding.peer),
+        }
     }
 }
 

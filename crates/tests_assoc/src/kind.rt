@@ -1,11 +1,11 @@
 // What becomes of the text of a row, as a text.
-use crate::bind_text::{bind_text, peer_text, spelled_text};
-use crate::course::course_text;
+use crate::bind_text::{tell_bind, tell_peer, tell_spelled};
+use crate::course::tell_course;
 use crate::rows::octets_of;
-use crate::secret_text::{numbers_text, secret_text};
+use crate::secret_text::{tell_numbers, tell_secret};
 use assoc_core::OuterTag;
-use std::alloc::Global;
-use std::test::Fail;
+use std::alloc::{AllocError, Global};
+use std::fmt::Write;
 
 /// What a text is taken for.
 #[derive(Clone, Copy)]
@@ -23,20 +23,20 @@ pub enum Kind {
     Numbers,
 }
 
-/// What becomes of the text of a row.
-pub fn told(alloc: Global, kind: Kind, text: &str) -> Result<String, Fail> {
+/// Appends what becomes of the text of a row.
+pub fn tell(alloc: Global, kind: Kind, text: &str, told: &mut String) -> Result<(), AllocError> {
     match kind {
-        Kind::Course => course_text(alloc, text),
-        Kind::Bind => bind_text(alloc, text),
-        Kind::Spelled => spelled_text(alloc, text),
-        Kind::Peer => peer_text(alloc, text),
-        Kind::OuterTag => outer_tag(alloc, text),
-        Kind::Secret => secret_text(alloc, text),
-        Kind::Numbers => numbers_text(alloc, text),
+        Kind::Course => tell_course(alloc, text, told),
+        Kind::Bind => tell_bind(alloc, text, told),
+        Kind::Spelled => tell_spelled(alloc, text, told),
+        Kind::Peer => tell_peer(alloc, text, told),
+        Kind::OuterTag => tell_outer_tag(alloc, text, told),
+        Kind::Secret => tell_secret(alloc, text, told),
+        Kind::Numbers => tell_numbers(text, told),
     }
 }
 
-fn outer_tag(alloc: Global, text: &str) -> Result<String, Fail> {
+fn tell_outer_tag(alloc: Global, text: &str, told: &mut String) -> Result<(), AllocError> {
     let octets = octets_of(alloc, text)?;
-    Ok(format!(in alloc; "{:?}", OuterTag::of(&octets))?)
+    write!(told, "{:?}", OuterTag::of(&octets))
 }
