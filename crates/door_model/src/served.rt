@@ -1,6 +1,7 @@
 // How the serving of a link ended.
 
 use isp1_tml::TmlFault;
+use sle_numbers::PeerAbortDiagnostic;
 
 /// How the serving of a link ended, for the log of who gave the link.
 #[derive(Clone, Copy, Debug, PartialEq, Eq)]
@@ -22,12 +23,12 @@ pub enum Served {
     Broken(TmlFault),
     /// The provider aborted.
     Aborted {
-        /// Why, by the diagnostics of PEER-ABORT (CCSDS 911.1-B, annex A).
-        diagnostic: u8,
+        /// Why.
+        diagnostic: PeerAbortDiagnostic,
     },
     /// The peer aborted.
     PeerAborted {
-        /// Why, by the same diagnostics.
+        /// Why, by the diagnostics of PEER-ABORT (CCSDS 911.1-B, annex A), or a number outside them.
         diagnostic: u8,
     },
     /// A call of the link failed.
