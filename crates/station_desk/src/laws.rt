@@ -1,13 +1,13 @@
 // What holds of STARTs of the desk, each the contract of an empty function: a caller has it by the
 // call.
-ghost use Rattle.std.specs.Prelude.{ℕ, ◌+◌, ◌≤◌, List, length, map};
+ghost use Rattle.std.specs.Prelude.{◌≡◌, ℕ, ◌+◌, ◌≤◌, List, length, map};
 ghost use Rattle.std.specs.List.{AllByRecursion};
 ghost use Rattle.cds_time.specs.declared.cds.Cds.{Cds};
 ghost use Rattle.isp1_tml.specs.Message.{IsMessage};
 ghost use Rattle.archive_terms.specs.Archive.{Entry, IsArchive};
 ghost use Rattle.station_desk.specs.ToldBuffer.{ToldBuffer, buffer_message};
 ghost use Rattle.station_desk.specs.Readable.{AreReadable};
-ghost use Rattle.station_desk.specs.Start.{told_desk};
+ghost use Rattle.station_desk.specs.Start.{terms, told_desk};
 
 /// A user reads of each buffer that a START of the desk hands over just what it says, and each is a
 /// message of the transport.
@@ -32,4 +32,9 @@ pub fn a_start_is_read()
 pub fn a_start_has_few_buffers()
     ensures { (entries : List Entry) (first last : Cds) (quality : ℕ)
         → length (told_desk entries first last quality) ≤ length entries + 1 }
+{}
+
+/// A buffer of the desk has at most two items.
+pub fn examples()
+    ensures { (first last : Cds) (quality : ℕ) → (terms first last quality).size ≡ 2 }
 {}
