@@ -4,8 +4,10 @@ use super::*;
 use octet_core::Octets;
 use std::alloc::Global;
 use std::collections::VecDeque;
+use std::hint;
 use std::process::Abort;
 use std::sync::Wait;
+use std::sync::atomic::{AtomicU64, Ordering};
 use std::test::*;
 use std::thread::Threads;
 use turn_lock::{Pass, Turns};
@@ -34,6 +36,39 @@ impl Counter for Tray {
         if self.replies.push(reply).is_err() {
             self.tells = false;
         }
+    }
+}
+
+/// Orders in memory, of which each is given once so many replies were taken at all desks of the
+/// count. It doesn't tell.
+#[derive(Drop)]
+struct Waiting<'a> {
+    orders: VecDeque<Order>,
+    taken: &'a AtomicU64,
+    next: u64,
+}
+
+impl<'a> Counter for Waiting<'a> {
+    ghost use Rattle.std.specs.Prelude.{None};
+
+    ghost answers = { λ w. None };
+
+    ghost replies = { λ w. None };
+
+    fn next(&mut self) -> Option<Order> {
+        let order = self.orders.pop_front()?;
+        for _look in 0..u64::MAX {
+            if self.taken.load(Ordering::SeqCst) >= self.next {
+                break;
+            }
+            hint::spin_loop();
+        }
+        self.next = self.next.saturating_add(2);
+        Some(order)
+    }
+
+    fn take(&mut self, _reply: Reply) {
+        self.taken.fetch_add(1, Ordering::SeqCst);
     }
 }
 
@@ -126,6 +161,42 @@ fn five_clerks_share_an_account(rt: HostRuntime) -> Result<(), Fail> {
     }
     assert_eq!(rt; booked, 70);
     assert_eq!(rt; replied, 100);
+    Ok(())
+}
+
+/// A post whose first order waits for so many replies, and each further one for two more.
+fn waiting_post_of<'a>(
+    alloc: Global,
+    taken: &'a AtomicU64,
+    next: u64,
+) -> Result<Post<Waiting<'a>, Ticks>, octet_core::Memory> {
+    let Post { counter, clock } = post_of(alloc, &[Posting::Deposit(1); 20])?;
+    Ok(Post {
+        counter: Waiting {
+            orders: counter.orders,
+            taken,
+            next,
+        },
+        clock,
+    })
+}
+
+// Each desk waits until the other one's last order was replied to: the clerks work side by side,
+// and none keeps its turn while its desk waits. Else the test doesn't end.
+#[test]
+fn two_clerks_serve_desks_that_wait_for_each_other(rt: HostRuntime) -> Result<(), Fail> {
+    let taken = AtomicU64::new(0);
+    let mut posts = [
+        waiting_post_of(rt.alloc(), &taken, 1)?,
+        waiting_post_of(rt.alloc(), &taken, 0)?,
+    ];
+    let opening = Opening {
+        balance: 0,
+        room: 40,
+    };
+    let account = Account::new(rt.alloc(), opening)?;
+    let (account, _) = run_desks(&rt, rt.alloc(), account, &mut posts, 20)?;
+    assert_eq!(rt; (account.balance(), taken.load(Ordering::SeqCst)), (40, 40));
     Ok(())
 }
 
