@@ -5,6 +5,7 @@ ghost use Rattle.archive_terms.specs.Archive.{Entry, IsArchive};
 ghost use Rattle.archive_terms.specs.Selection as terms;
 ghost use Rattle.archive_terms.specs.Delivery.{Terms};
 ghost use Rattle.archive_terms.specs.Rounds.{Round, last_front};
+ghost use Rattle.sle_numbers.specs.RequestedFrameQuality.{number_of};
 ghost use Rattle.frame_select.specs.Item.{items_of, said_of};
 ghost use Rattle.frame_select.specs.Selection.{selection_of};
 ghost use Rattle.return_core.specs.Course.{is_offering};
@@ -24,8 +25,9 @@ use ber_core::Writer;
 use cds_time::Cds;
 use frame_select::{Filter, Item, Selection};
 use octet_core::{Memory, Offer};
+use return_core::Delivery;
 use return_core::laws::{looks_are_of_archive, rounds_without_an_offer};
-use return_core::{Delivery, Mode};
+use sle_numbers::{RequestedFrameQuality, ReturnDeliveryMode};
 use std::alloc::Global;
 use std::marker::Model;
 
@@ -62,17 +64,18 @@ impl<'a, L: Looks> Model for Buffers<'a, L> {
 }
 
 impl<'a, L: Looks> Buffers<'a, L> {
-    /// Begins a START for frames from one time to another: of a quality, or of each where it is 2.
+    /// Begins a START for frames from one time to another, of a quality or of all.
     pub fn of_start(
         alloc: Global,
         entries: &'a L,
         start: &Cds,
         stop: &Cds,
-        quality: u8,
+        quality: RequestedFrameQuality,
     ) -> Result<Buffers<'a, L>, Memory>
         requires { IsArchive (L.entries entries.now) }
         ensures { IfOk result (λ buffers. buffers
-            ≡ before_first (told_desk (L.entries entries.now) start.now stop.now quality)) }
+            ≡ before_first (told_desk (L.entries entries.now) start.now stop.now
+            (number_of quality))) }
     {
         a_start_is_read();
         let selection = selection(start, stop, quality);
@@ -119,8 +122,8 @@ impl<'a, L: Looks> Buffers<'a, L> {
 }
 
 // What a START selects.
-fn selection(start: &Cds, stop: &Cds, quality: u8) -> Selection
-    ensures { selection_of result ≡ desk.selection start.now stop.now quality }
+fn selection(start: &Cds, stop: &Cds, quality: RequestedFrameQuality) -> Selection
+    ensures { selection_of result ≡ desk.selection start.now stop.now (number_of quality) }
 {
     Selection {
         filter: Filter::Quality(quality),
@@ -138,7 +141,8 @@ fn begin(alloc: Global, selection: Selection) -> Result<Delivery, Memory>
         → selection.first ≤ length entries
         → StandsFor delivery (terms_of (selection_of selection)) entries []) }
 {
-    let Ok(mut delivery) = Delivery::new(alloc, Mode::Offline, BUFFER_ITEMS, None) else {
+    let Ok(mut delivery) = Delivery::new(alloc, ReturnDeliveryMode::Offline, BUFFER_ITEMS, None)
+    else {
         return Err(Memory);
     };
     delivery.start(selection);
