@@ -2,11 +2,15 @@
 use Rattle.std.specs.Prelude.{◌≡◌, ℕ, ◌⊎◌, List, codes, refl}
 use Rattle.std.proofs.Common.{inl, inr}
 use Rattle.cds_time.specs.declared.cds.Cds.{Cds}
+use Rattle.sle_numbers.specs.FrameQuality as frame_quality
+use Rattle.sle_numbers.specs.declared.frame_quality.FrameQuality.{FrameQuality}
 use Rattle.words.specs.Choice.{Choice, no_line, line, choice_as}
 use Rattle.words.specs.HexOctets.{hex}
+use Rattle.words.specs.Kind.{Kind}
 use Rattle.words.specs.Last.{last}
 use Rattle.words.specs.Lines.{AreExact, exact}
 use Rattle.words.specs.Number.{number}
+use Rattle.words.specs.Numbers.{numbered}
 use Rattle.words.specs.Row.{Row}
 use Rattle.words.specs.Then.{◌▸◌}
 use Rattle.words.specs.Times.{time}
@@ -15,15 +19,18 @@ use Rattle.sample_words.specs.declared.pick.Pick.{Pick}
 use Rattle.sample_words.specs.declared.script_line.ScriptLine.{ScriptLine}
 use Rattle.sample_words.specs.declared.script_line.ScriptLine.TheVariants.{Frame, Mark, Crash}
 
-abbrev pub frame_row : Row (Cds × (ℕ × List ℕ))
-frame_row = time ▸ number 0 2 ▸ last (hex 1 65536)
+abbrev pub quality : Kind FrameQuality
+quality = numbered frame_quality.number_of frame_quality.all frame_quality.each
+
+abbrev pub frame_row : Row (Cds × (FrameQuality × List ℕ))
+frame_row = time ▸ quality ▸ last (hex 1 65536)
 
 abbrev pub crash_row : Row (ℕ × Pick)
 crash_row = number 0 1000 ▸ last pick
 
 -- what stands behind the first words
 abbrev pub Parts : Type 0
-Parts = (Cds × (ℕ × List ℕ)) ⊎ (Cds ⊎ ((ℕ × Pick) ⊎ ⊥))
+Parts = (Cds × (FrameQuality × List ℕ)) ⊎ (Cds ⊎ ((ℕ × Pick) ⊎ ⊥))
 
 abbrev pub line_of : Parts → ScriptLine
 line_of (inl p) = Frame p.0 p.1.0 p.1.1

@@ -7,18 +7,20 @@ ghost use Rattle.sample_words.specs.Script.{script};
 use crate::pick::Pick;
 use cds_time::Cds;
 use octet_core::Octets;
+use sle_numbers::FrameQuality;
 use std::alloc::{AllocError, Global};
 use words::{
-    Cause, Hex, Last, LineFault, Number, Octet, OneOf, Then, Time, WriteWords, read_row, split_part,
+    Cause, Hex, Last, LineFault, Number, NumberOf, OneOf, Then, Time, WriteWords, read_row,
+    split_part,
 };
 
 /// What a line says.
 #[derive(Debug, Drop)]
 pub enum ScriptLine {
-    /// `frame TIME Q HEX`: a frame of 1 to 65,536 octets is received, with a quality, 0 to 2.
+    /// `frame TIME Q HEX`: a frame of 1 to 65,536 octets is received, with a quality.
     Frame {
         ert: Cds,
-        quality: u8,
+        quality: FrameQuality,
         octets: Octets,
     },
     /// `mark TIME`: the archive is sealed up to a time.
@@ -32,7 +34,7 @@ pub enum ScriptLine {
 
 const FRAME: &[u8] = b"frame";
 
-type Frame = Then<Time, Then<Octet<0, 2>, Last<Hex<1, 65_536>>>>;
+type Frame = Then<Time, Then<NumberOf<FrameQuality>, Last<Hex<1, 65_536>>>>;
 
 const MARK: &[u8] = b"mark";
 
