@@ -11,6 +11,7 @@ use cds_time::{Cds, Rest};
 use frame_select::{Filter, Item, Selection, Want};
 use octet_core::{Memory, Octets};
 use record_form::{Entries, Entry};
+use sle_numbers::{FrameQuality, RequestedFrameQuality};
 use station_book::{Ask, Book, PublishFault};
 use station_config::Site;
 use std::alloc::{AllocError, Global};
@@ -28,7 +29,7 @@ const NOW: u128 = 1_728_000_000_000_000_000_000;
 /// What is looked for.
 #[derive(Clone, Copy)]
 struct Look {
-    quality: u8,
+    quality: RequestedFrameQuality,
     place: u64,
     room: u32,
 }
@@ -52,7 +53,7 @@ impl Look {
 }
 
 /// A frame of these octets, which it shares, at 20000 days.
-fn frame(alloc: Global, octets: &Octets, quality: u8) -> Result<Entry, Memory> {
+fn frame(alloc: Global, octets: &Octets, quality: FrameQuality) -> Result<Entry, Memory> {
     Ok(Entry::Frame {
         ert: Cds {
             days: 20_000,
@@ -71,7 +72,7 @@ fn publish(
     alloc: Global,
     book: &mut Book,
     octets: &Octets,
-    quality: u8,
+    quality: FrameQuality,
     count: u32,
 ) -> Result<(), PublishFault> {
     let mut entries = Entries::new(alloc);
@@ -93,10 +94,16 @@ fn book_of(alloc: Global, entries: u32, octets: &[u8]) -> Result<Book, PublishFa
     )?;
     let good = entries.saturating_sub(1);
     for _ in 0..good / BATCH {
-        publish(alloc, &mut book, &octets, 0, BATCH)?;
+        publish(alloc, &mut book, &octets, FrameQuality::Good, BATCH)?;
     }
-    publish(alloc, &mut book, &octets, 0, good % BATCH)?;
-    publish(alloc, &mut book, &octets, 1, entries.min(1))?;
+    publish(alloc, &mut book, &octets, FrameQuality::Good, good % BATCH)?;
+    publish(
+        alloc,
+        &mut book,
+        &octets,
+        FrameQuality::Erred,
+        entries.min(1),
+    )?;
     Ok(book)
 }
 
@@ -152,18 +159,25 @@ fn main(rt: HostRuntime) -> io::Result<()> {
     let mut words = env::args(&rt)?.skip(1);
     let Some(entries) = words.next() else {
         let good = Look {
-            quality: 0,
+            quality: RequestedFrameQuality::GoodFramesOnly,
             place: 10,
             room: 5,
         };
-        let erred = Look { quality: 1, ..good };
+        let erred = Look {
+            quality: RequestedFrameQuality::ErredFrameOnly,
+            ..good
+        };
         run(&rt, 600, 1_115, good, 3)?;
         return run(&rt, 600, 1_115, erred, 3);
     };
     let entries = number(Some(entries));
     let octets = number(words.next());
     let look = Look {
-        quality: if number(words.next()) == 0 { 0 } else { 1 },
+        quality: if number(words.next()) == 0 {
+            RequestedFrameQuality::GoodFramesOnly
+        } else {
+            RequestedFrameQuality::ErredFrameOnly
+        },
         place: u64::from(number(words.next())),
         room: number(words.next()),
     };

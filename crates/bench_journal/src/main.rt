@@ -14,6 +14,7 @@ use disk_model::FileDisk;
 use gate_journal::{Journal, JournalFault, follows, laws};
 use octet_core::Octets;
 use record_form::{Entries, Entry, Memory};
+use sle_numbers::FrameQuality;
 use std::alloc::{AllocError, Global};
 use std::{env, fs, io};
 
@@ -36,7 +37,7 @@ fn batch(alloc: Global, entries: u32) -> Result<Entries, Memory> {
                 millis: 1_000,
                 rest: Rest::Micros(0),
             },
-            quality: 0,
+            quality: FrameQuality::Good,
             antenna: Octets::copy_of(alloc, b"A")?,
             lost: 0,
             octets: Octets::copy_of(alloc, &FRAME)?,

@@ -4,6 +4,7 @@ use Rattle.std.proofs.Common.{append-nil, refl, sym, ap, ◌∙◌}
 use Rattle.std.specs.Prelude.{codes}
 use Rattle.cds_time.specs.declared.cds.Cds.{Cds}
 use Rattle.hex.specs.Hex.{encode_lower}
+use Rattle.sle_numbers.specs.declared.frame_quality.FrameQuality.{FrameQuality}
 use Rattle.record_form.specs.declared.entry.Entry.TheVariants.{Frame}
 use Rattle.words.specs.HexOctets.{all_octets}
 use Rattle.words.specs.Last.{last}
@@ -12,11 +13,12 @@ use Rattle.words.specs.Parts.{behind}
 use Rattle.words.specs.Row.{Row}
 use Rattle.words.specs.Then.{◌▸◌}
 use Rattle.words.specs.Times.{time}
+use Rattle.drill_text.specs.Kinds.{quality}
 use Rattle.drill_text.specs.Reading.{entry_text}
 
 -- the words of a frame's line before its antenna
-abbrev pub first_words : Row (Cds × ℕ)
-first_words = time ▸ last (number 0 2)
+abbrev pub first_words : Row (Cds × FrameQuality)
+first_words = time ▸ last quality
 
 -- words behind others
 behind_join : (separator : ℕ) (ws vs : List (List ℕ))
@@ -50,7 +52,7 @@ line_with before word ws vs us last =
     ∙ append_assoc before (word ++ behind 32 (ws ++ (vs ++ (us ++ last ∷ [])))) (10 ∷ [])
 
 -- a frame's line: its first word, the words behind it, and its octets behind a blank
-pub line_is : (before : List ℕ) (ert : Cds) (quality : ℕ) (antenna : List ℕ) (lost : ℕ)
+pub line_is : (before : List ℕ) (ert : Cds) (quality : FrameQuality) (antenna : List ℕ) (lost : ℕ)
     (octets : List ℕ)
     → ((((((before ++ codes "frame") ++ behind 32 (first_words.write (ert, quality)))
     ++ behind 32 ((last all_octets).write antenna))

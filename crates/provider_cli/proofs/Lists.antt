@@ -9,13 +9,30 @@ use Rattle.archive_terms.specs.Archive as terms
 use Rattle.record_form.specs.declared.entry.Entry.{Entry}
 use Rattle.record_form.specs.declared.entry.Entry.TheVariants.{Frame, LossOfSync, Production, Seal}
 use Rattle.record_form.specs.Entry.{entry_of, entries_of}
+use Rattle.sle_numbers.specs.FrameQuality as qualities
+use Rattle.sle_numbers.specs.LockStatus as locks
+use Rattle.sle_numbers.specs.ReturnProductionStatus as productions
+use Rattle.sle_numbers.specs.declared.frame_quality.FrameQuality.{FrameQuality}
+use Rattle.sle_numbers.specs.declared.lock_status.LockStatus.{LockStatus}
+use Rattle.sle_numbers.specs.declared.return_production_status.ReturnProductionStatus.{ReturnProductionStatus}
 use Rattle.drill_text.specs.Reading.{entry_text}
-use Rattle.provider_cli.specs.Archives.{offered, entries_text}
+use Rattle.provider_cli.specs.Archives.{offered, entries_text, quality_at, lock_at}
+use Rattle.provider_cli.specs.Archives.{production_at}
+
+pub same_quality : (q : FrameQuality) → quality_at (qualities.number_of q) ≡ q
+same_quality q = rw (qualities.each q).found refl
+
+same_lock : (l : LockStatus) → lock_at (locks.number_of l) ≡ l
+same_lock l = rw (locks.each l).found refl
+
+same_production : (p : ReturnProductionStatus) → production_at (productions.number_of p) ≡ p
+same_production p = rw (productions.each p).found refl
 
 pub same_entry : (entry : Entry) → offered (entry_of entry) ≡ entry
-same_entry (Frame ert quality antenna lost octets) = refl
-same_entry (LossOfSync at carrier subcarrier symbol) = refl
-same_entry (Production status) = refl
+same_entry (Frame ert quality antenna lost octets) = rw (same_quality quality) refl
+same_entry (LossOfSync at carrier subcarrier symbol) =
+    rw (same_lock carrier, same_lock subcarrier, same_lock symbol) refl
+same_entry (Production status) = rw (same_production status) refl
 same_entry (Seal at) = refl
 
 -- the entry at a place, and those behind it

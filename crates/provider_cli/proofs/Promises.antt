@@ -14,6 +14,7 @@ use Rattle.archive_terms.specs.Selection.{picked}
 use Rattle.archive_terms.specs.Delivery.{Item, all_items}
 use Rattle.archive_terms.specs.Rounds.{to_hand_over}
 use Rattle.station_desk.specs.Start.{moment}
+use Rattle.sle_numbers.specs.RequestedFrameQuality.{number_of}
 use Rattle.station_law.specs.State.{start as new_world}
 use Rattle.station_desk.specs.ToldBuffer.{ToldBuffer, buffer_message}
 use Rattle.station_law.specs.Said.{Handed, handed, texts, handed_by}
@@ -83,7 +84,7 @@ module _ (laws : Laws) (script : List ℕ) (s : Start) (is : IsStartOf script s)
 
   -- what it has handed over
   abbrev its : Handed
-  its = handed_at_start (archive_at s) s.start s.stop s.quality
+  its = handed_at_start (archive_at s) s.start s.stop (number_of s.quality)
 
   abbrev starts : List Handed
   starts = handed_after step_text (new_world s.site) [] s.earlier
@@ -96,37 +97,37 @@ module _ (laws : Laws) (script : List ℕ) (s : Start) (is : IsStartOf script s)
   right_later : (some : ℕ) → IsRight (archive_then s (take some s.later)) its
   right_later some =
       let all : AreRight (archive_then s (take some s.later))
-      (handed_by starts (desk (world_at s).store s.start s.stop s.quality).said) =
+      (handed_by starts (desk (world_at s).store s.start s.stop (number_of s.quality)).said) =
       rw is.says at (answered.right some) in
       (subst (AreRight (archive_then s (take some s.later)))
-      (laws.hands (world_at s).store s.start s.stop s.quality starts is.ordered) all).0
+      (laws.hands (world_at s).store s.start s.stop (number_of s.quality) starts is.ordered) all).0
 
   -- its buffers
   items_are : items_of its.buffers ≡ buffers_of s
-  items_are = laws.items (archive_at s) s.start s.stop s.quality
+  items_are = laws.items (archive_at s) s.start s.stop (number_of s.quality)
 
   -- the items of all its buffers begin what it is to hand over
   begins : (some : ℕ) → take (length (items_in (buffers_of s)))
-      (to_hand_over (terms s.start s.stop s.quality) (archive_then s (take some s.later)))
+      (to_hand_over (terms s.start s.stop (number_of s.quality)) (archive_then s (take some s.later)))
       ≡ items_in (buffers_of s)
   begins some =
       let archive = archive_then s (take some s.later) in
       let same : archive ++ [] ≡ archive = append-nil archive in
       let right : take (length (handed_items its))
-      (to_hand_over (terms s.start s.stop s.quality) (archive ++ [])) ≡ handed_items its =
+      (to_hand_over (terms s.start s.stop (number_of s.quality)) (archive ++ [])) ≡ handed_items its =
       (right_later some).begins [] (subst IsArchive (sym same) (archive_later some)) in
       let items : handed_items its ≡ items_in (buffers_of s) = ap items_in items_are in
       subst (λ items. take (length items)
-      (to_hand_over (terms s.start s.stop s.quality) archive) ≡ items) items
+      (to_hand_over (terms s.start s.stop (number_of s.quality)) archive) ≡ items) items
       (subst (λ entries. take (length (handed_items its))
-      (to_hand_over (terms s.start s.stop s.quality) entries) ≡ handed_items its) same right)
+      (to_hand_over (terms s.start s.stop (number_of s.quality)) entries) ≡ handed_items its) same right)
 
   pub stays_right : StaysRight s
   stays_right = λ few some.
       let archive = archive_then s (take some s.later) in
       let items : List Item = items_in (take few (buffers_of s)) in
       let now : take (length items) (all_items (picked archive
-      (selection s.start s.stop s.quality)) (is_closed archive (moment s.stop))) ≡ items =
+      (selection s.start s.stop (number_of s.quality))) (is_closed archive (moment s.stop))) ≡ items =
       front_of_front items (items_in (buffers_of s)) _ (few_begin few (buffers_of s))
       (begins some) in
       record { frames = laws.begins _ _ items now; end_of_data = laws.ends _ _ items now }
@@ -140,7 +141,7 @@ module _ (laws : Laws) (script : List ℕ) (s : Start) (is : IsStartOf script s)
       ∙ (right_later some).told [])
 
   pub read_of : IsReadOf s
-  read_of = laws.readable (archive_at s) s.start s.stop s.quality (archive_later 0)
+  read_of = laws.readable (archive_at s) s.start s.stop (number_of s.quality) (archive_later 0)
 
   pub streamed : IsStreamed s
   streamed = λ place. laws.streams place (messages_of s)

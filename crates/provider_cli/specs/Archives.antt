@@ -1,5 +1,5 @@
 -- What `init` and `list` do with the file of a disk. This product's own rules.
-use Rattle.std.specs.Prelude.{◌≡◌, ◌⊎◌, ℕ, ◌<◌, Option, None, IfSome, IsSomeAnd, List, [], ◌∷◌}
+use Rattle.std.specs.Prelude.{◌≡◌, ◌⊎◌, ℕ, ◌<◌, Option, None, unwrap_or, IfSome, IsSomeAnd, List, [], ◌∷◌}
 use Rattle.std.specs.Prelude.{◌++◌, codes, Result, Ok, Err, IfOk, OnOk, OnErr}
 use Rattle.std.specs.Fmt.{decimal}
 use Rattle.std.specs.List.{flat_map}
@@ -7,6 +7,16 @@ use Rattle.octet_core.specs.Fault.{Rose}
 use Rattle.archive_terms.specs.Archive.{Entry, frame, loss_of_sync, production, seal}
 use Rattle.disk_model.specs.Images.{Pending}
 use Rattle.disk_model.specs.Moments.{IsImageOf, HoldsThroughout}
+use Rattle.sle_numbers.specs.Numbered.{of_number}
+use Rattle.sle_numbers.specs.FrameQuality as qualities
+use Rattle.sle_numbers.specs.LockStatus as locks
+use Rattle.sle_numbers.specs.ReturnProductionStatus as productions
+use Rattle.sle_numbers.specs.declared.frame_quality.FrameQuality.{FrameQuality}
+use Rattle.sle_numbers.specs.declared.frame_quality.FrameQuality.TheVariants.{Undetermined}
+use Rattle.sle_numbers.specs.declared.lock_status.LockStatus.{LockStatus}
+use Rattle.sle_numbers.specs.declared.lock_status.LockStatus.TheVariants.{Unknown}
+use Rattle.sle_numbers.specs.declared.return_production_status.ReturnProductionStatus.{ReturnProductionStatus}
+use Rattle.sle_numbers.specs.declared.return_production_status.ReturnProductionStatus.TheVariants.{Halted}
 use Rattle.record_form.specs.declared.entry.Entry as record_form
 use Rattle.record_form.specs.declared.entry.Entry.TheVariants as entries
 use Rattle.gate_journal.specs.declared.fault.JournalFault.{JournalFault}
@@ -71,11 +81,22 @@ pub record IsInit {D : Type 0} (pending : D → Option Pending) (extent faults :
 
 -- ---- the entries of a file
 
+-- the values of numbers that an archive holds, each of which is in its table
+abbrev pub quality_at : ℕ → FrameQuality
+quality_at n = unwrap_or (of_number qualities.number_of qualities.all n) Undetermined
+
+abbrev pub lock_at : ℕ → LockStatus
+lock_at n = unwrap_or (of_number locks.number_of locks.all n) Unknown
+
+abbrev pub production_at : ℕ → ReturnProductionStatus
+production_at n = unwrap_or (of_number productions.number_of productions.all n) Halted
+
 -- the entry of an archive as the line of a script offers it
 abbrev pub offered : Entry → record_form.Entry
-offered (frame f) = entries.Frame f.ert f.quality f.antenna f.lost f.octets
-offered (loss_of_sync l) = entries.LossOfSync l.at l.carrier l.subcarrier l.symbol
-offered (production status) = entries.Production status
+offered (frame f) = entries.Frame f.ert (quality_at f.quality) f.antenna f.lost f.octets
+offered (loss_of_sync l) =
+    entries.LossOfSync l.at (lock_at l.carrier) (lock_at l.subcarrier) (lock_at l.symbol)
+offered (production status) = entries.Production (production_at status)
 offered (seal at) = entries.Seal at
 
 -- entries as lines that offer them

@@ -14,6 +14,7 @@ use Rattle.station_config.specs.declared.site.Site.{Site}
 use Rattle.provider_cli.specs.declared.status.Status.{Status}
 use Rattle.station_desk.specs.declared.limits.TheConstants.{BUFFER_ITEMS}
 use Rattle.station_desk.specs.Start.{moment}
+use Rattle.sle_numbers.specs.RequestedFrameQuality.{number_of}
 use Rattle.station_law.specs.State.{start as new_world}
 use Rattle.station_law.specs.Said.{sent_text}
 use Rattle.station_desk.specs.Start.{selection}
@@ -42,7 +43,7 @@ terms_of latency s = record {
   mode = offline;
   size = BUFFER_ITEMS;
   latency = latency;
-  selection = selection s.start s.stop s.quality;
+  selection = selection s.start s.stop (number_of s.quality);
 }
 
 -- Its buffers are those that an offline delivery hands over, round after round, whose link is free
@@ -91,10 +92,10 @@ items_in buffers = flat_map (λ buffer. buffer) buffers
 -- behind all of them, and only where the stop is closed.
 pub record IsRightFor (items : List Item) (archive : List terms.Entry) (s : Start) : Type 0 where
   pub frames : take (length (entries_of items))
-      (picked archive (selection s.start s.stop s.quality)) ≡ entries_of items
+      (picked archive (selection s.start s.stop (number_of s.quality))) ≡ entries_of items
   pub end_of_data : IsTrue (list_any is_end_of_data items)
       → IsTrue (is_closed archive (moment s.stop))
-      × (items ≡ archived_items (picked archive (selection s.start s.stop s.quality))
+      × (items ≡ archived_items (picked archive (selection s.start s.stop (number_of s.quality)))
       ++ end_of_data ∷ [])
 
 -- So is what any first few of its buffers hold, for the archive at its line and after any first few

@@ -7,6 +7,8 @@ use Rattle.archive_terms.specs.Archive.{Entry}
 use Rattle.archive_terms.specs.Delivery.{Item}
 use Rattle.archive_terms.specs.Continuity.{told_buffers}
 use Rattle.station_config.specs.declared.site.Site.{Site}
+use Rattle.sle_numbers.specs.RequestedFrameQuality.{number_of}
+use Rattle.sle_numbers.specs.declared.requested_frame_quality.RequestedFrameQuality.{RequestedFrameQuality}
 use Rattle.drill_text.specs.Reading.{reading}
 use Rattle.drill_text.specs.declared.script_line.ScriptLine.TheVariants.{Desk}
 use Rattle.station_desk.specs.Start.{moment}
@@ -26,7 +28,7 @@ pub record Start : Type 0 where
   pub later : List (List ℕ)
   pub start : Cds
   pub stop : Cds
-  pub quality : ℕ
+  pub quality : RequestedFrameQuality
 
 -- the world that it finds
 abbrev pub world_at : Start → State
@@ -54,7 +56,7 @@ archive_then s lines = (after step_text (world_at s) lines).store.published
 
 -- the buffers that it hands over, and their messages by an archive
 abbrev pub buffers_of : Start → List (List Item)
-buffers_of s = desk_buffers (archive_at s) s.start s.stop s.quality
+buffers_of s = desk_buffers (archive_at s) s.start s.stop (number_of s.quality)
 
 abbrev pub told_by : List Entry → Start → List ToldBuffer
 told_by archive s = told_buffers archive None (buffers_of s)

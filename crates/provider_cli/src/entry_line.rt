@@ -12,8 +12,9 @@ use cds_time::Cds;
 use drill_text::write_entry_line;
 use octet_core::{Memory, Octets};
 use record_form::{Entry, EntryRef, laws};
+use sle_numbers::FrameQuality;
 use std::alloc::{AllocError, Global};
-use words::{Last, LentOctets, Number, Octet, Then, Time, WriteWords};
+use words::{Last, LentOctets, Number, NumberOf, Then, Time, WriteWords};
 
 /// Appends the line of a script that offers an entry, and its end. A frame's is put together where
 /// it comes to stand.
@@ -53,14 +54,14 @@ fn append_other(alloc: Global, entry: EntryRef<'_>, into: &mut Vec<u8>) -> Resul
 }
 
 // Words of a frame's line.
-type TimeAndQuality = Then<Time, Last<Octet<0, 2>>>;
+type TimeAndQuality = Then<Time, Last<NumberOf<FrameQuality>>>;
 
 type Lost = Last<Number<0, 16_777_215>>;
 
 // Appends the line of a frame.
 fn append_frame(
     ert: Cds,
-    quality: u8,
+    quality: FrameQuality,
     antenna: &[u8],
     gap: u32,
     octets: &[u8],

@@ -12,6 +12,8 @@ use Rattle.cds_time.specs.Moment.{moment_of}
 use Rattle.archive_terms.specs.Archive.{Entry, seal, is_moment, is_valid, is_short}
 use Rattle.archive_terms.specs.Archive.{is_storable, may_precede, keeps_order}
 use Rattle.archive_terms.specs.Archive.{is_archive, may_follow}
+use Rattle.sle_numbers.specs.FrameQuality.{number_of}
+use Rattle.sle_numbers.specs.declared.frame_quality.FrameQuality.TheVariants.{Good, Erred}
 use Rattle.rehearsal.specs.Frames.{time_at, quality_at, octets_at, length-octets_at, entry_at}
 use Rattle.rehearsal.specs.Frames.{frames, archive}
 
@@ -27,10 +29,10 @@ time_is i small =
 time_good : (i : ℕ) → i < 20000 → is_moment (time_at i) ≡ true
 time_good i small = rw (time_is i small) (grind (arith, nat_tests))
 
-quality_good : (i : ℕ) → nat_le (quality_at i) 2 ≡ true
+quality_good : (i : ℕ) → nat_le (number_of (quality_at i)) 2 ≡ true
 quality_good i = by_case (i % 7 == 3)
   where
-    by_case : (b : Bool) → nat_le (cond b 1 0) 2 ≡ true
+    by_case : (b : Bool) → nat_le (number_of (cond b Erred Good)) 2 ≡ true
     by_case true = refl
     by_case false = refl
 

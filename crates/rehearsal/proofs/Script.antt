@@ -25,6 +25,7 @@ use Rattle.station_law.specs.Said.{handed, texts}
 use Rattle.station_law.specs.Entries.{need, used, free, stores}
 use Rattle.station_law.specs.Lines.{step, recorded, doors_behind}
 use Rattle.station_law.specs.Runs.{transcript_from, text_behind, after}
+use Rattle.sle_numbers.specs.declared.requested_frame_quality.RequestedFrameQuality.TheVariants.{GoodFramesOnly}
 use Rattle.rehearsal.specs.Frames.{time_at, entry_at, frames, archive}
 use Rattle.rehearsal.specs.Rehearsal.{told}
 use Rattle.rehearsal.specs.Script.{offered_at, line_at, script, capacity, sent, IsOfScript}
@@ -145,11 +146,11 @@ in_order n few =
 
 -- the lines behind those of the frames
 abbrev behind : ℕ → List ScriptLine
-behind n = Offer (entries.Seal (time_at (n - 1))) ∷ Desk (time_at 0) (time_at (n - 1)) 0 ∷ []
+behind n = Offer (entries.Seal (time_at (n - 1))) ∷ Desk (time_at 0) (time_at (n - 1)) GoodFramesOnly ∷ []
 
 start_text : (d : Doors) (n number : ℕ) → n ≤ 20000
     → transcript_from step number (world_with d (archive n))
-    (Desk (time_at 0) (time_at (n - 1)) 0 ∷ [])
+    (Desk (time_at 0) (time_at (n - 1)) GoodFramesOnly ∷ [])
     ≡ flat_map sent (told n)
 start_text d n number few = rw (in_order n few) (append-nil (texts (map (handed 0) (told n)))
     ∙ texts_handed (told n))
@@ -176,7 +177,7 @@ module _ (n : ℕ) (some : 1 ≤ n) (few : n ≤ 20000) (site : Site)
   sealed = with_entry framed (seal (time_at (n - 1)))
 
   abbrev start_line : List ScriptLine
-  start_line = Desk (time_at 0) (time_at (n - 1)) 0 ∷ []
+  start_line = Desk (time_at 0) (time_at (n - 1)) GoodFramesOnly ∷ []
 
   stored_all : (after step (start site) (script n)).store.published ≡ archive n
   stored_all =

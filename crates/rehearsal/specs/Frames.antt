@@ -7,14 +7,17 @@ use Rattle.std.proofs.lemmas.List.FromFn.{length-map-range_with_len}
 use Rattle.cds_time.specs.declared.cds.Cds.{Cds}
 use Rattle.cds_time.specs.declared.cds.Rest.TheVariants.{Micros}
 use Rattle.archive_terms.specs.Archive.{Frame, Entry, frame, seal}
+use Rattle.sle_numbers.specs.FrameQuality.{number_of}
+use Rattle.sle_numbers.specs.declared.frame_quality.FrameQuality.{FrameQuality}
+use Rattle.sle_numbers.specs.declared.frame_quality.FrameQuality.TheVariants.{Good, Erred}
 
 -- frame i is received 20,000 days and 10 i milliseconds after 1958-01-01
 abbrev pub time_at : ℕ → Cds
 time_at i = record { days = 20000; millis = 10 * i; rest = Micros 0 }
 
 -- each seventh frame is erred, from frame 3 on
-abbrev pub quality_at : ℕ → ℕ
-quality_at i = if i % 7 == 3 then 1 else 0
+abbrev pub quality_at : ℕ → FrameQuality
+quality_at i = if i % 7 == 3 then Erred else Good
 
 -- a frame has 1,115 octets: these and two before them
 unfoldable pub body_octets : ℕ
@@ -57,7 +60,7 @@ ramp_octets = map in_circle (range_with_len 0 ramp_size)
 abbrev pub frame_at : ℕ → Frame
 frame_at i = record {
   ert = time_at i;
-  quality = quality_at i;
+  quality = number_of (quality_at i);
   antenna = 0x41 ∷ [];
   lost = 0;
   octets = octets_at i;

@@ -5,6 +5,7 @@ use Rattle.record_form.specs.declared.entry.Entry as form
 use Rattle.record_form.specs.declared.entry.Entry.TheVariants as entries
 use Rattle.drill_text.specs.declared.script_line.ScriptLine.{ScriptLine}
 use Rattle.drill_text.specs.declared.script_line.ScriptLine.TheVariants.{Offer, Desk}
+use Rattle.sle_numbers.specs.declared.requested_frame_quality.RequestedFrameQuality.TheVariants.{GoodFramesOnly}
 use Rattle.station_config.specs.declared.site.Site.{Site}
 use Rattle.station_law.specs.State.{start}
 use Rattle.station_desk.specs.ToldBuffer.{ToldBuffer, message_octets}
@@ -25,7 +26,8 @@ line_at i = Offer (offered_at i)
 abbrev pub script : ℕ → List ScriptLine
 script n =
     map line_at (range_with_len 0 n)
-    ++ Offer (entries.Seal (time_at (n - 1))) ∷ Desk (time_at 0) (time_at (n - 1)) 0 ∷ []
+    ++ Offer (entries.Seal (time_at (n - 1))) ∷ Desk (time_at 0) (time_at (n - 1)) GoodFramesOnly
+    ∷ []
 
 -- the capacity of a station that says none
 abbrev pub capacity : ℕ

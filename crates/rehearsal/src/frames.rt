@@ -7,6 +7,7 @@ ghost use Rattle.rehearsal.specs.Frames.{ramp_octets};
 use cds_time::{Cds, Rest};
 use octet_core::{Memory, Octets};
 use record_form::Entry;
+use sle_numbers::FrameQuality;
 use std::alloc::{AllocError, Global};
 
 // The octets of a frame behind its first two.
@@ -85,10 +86,14 @@ pub fn time(i: u32) -> Cds
 }
 
 // The quality of frame `i`.
-fn quality(i: u32) -> u8
+fn quality(i: u32) -> FrameQuality
     ensures { result ≡ quality_at i }
 {
-    u8::from(i % 7 == 3)
+    if i % 7 == 3 {
+        FrameQuality::Erred
+    } else {
+        FrameQuality::Good
+    }
 }
 
 fn ramp(alloc: Global) -> Result<Vec<u8>, AllocError>

@@ -18,13 +18,11 @@ use crate::start::count_start;
 use crate::tally::Tally;
 use archive_terms::laws::archive_grows;
 use octet_core::Memory;
+use sle_numbers::RequestedFrameQuality;
 use std::alloc::{AllocError, Global};
 
 /// The most frames of a rehearsal.
 pub const MOST_FRAMES: u32 = 20_000;
-
-// The quality that the START asks for: good frames.
-const GOOD: u8 = 0;
 
 /// The text of a rehearsal of `n` frames: how many frames were stored, how many of them a START
 /// over all hands over, in how many buffers, with how many ends of data, and the SHA-1 of its
@@ -50,7 +48,8 @@ fn count_good(alloc: Global, archive: &Archive, n: u32) -> Result<Tally, Memory>
     ensures { IfOk result (λ tally. Counts tally
         (told_desk archive.now (time_at 0) (time_at (n - 1)) 0)) }
 {
-    count_start(alloc, archive, &time(0), &time(n - 1), GOOD)
+    let good = RequestedFrameQuality::GoodFramesOnly;
+    count_start(alloc, archive, &time(0), &time(n - 1), good)
 }
 
 // The lines of a tally.

@@ -1,6 +1,7 @@
 // What a START of the desk hands over of the archive.
 ghost use Rattle.std.specs.Prelude.{◌<◌, ◌^◌, IfOk, length};
 ghost use Rattle.archive_terms.specs.Archive.{IsArchive};
+ghost use Rattle.sle_numbers.specs.RequestedFrameQuality.{number_of};
 ghost use Rattle.station_desk.specs.Start.{told_desk};
 ghost use Rattle.rehearsal.specs.Counts.{Counts};
 
@@ -8,6 +9,7 @@ use crate::archive::Archive;
 use crate::tally::Tally;
 use cds_time::Cds;
 use octet_core::Memory;
+use sle_numbers::RequestedFrameQuality;
 use station_desk::Buffers;
 use station_desk::laws::a_start_has_few_buffers;
 use std::alloc::Global;
@@ -18,12 +20,12 @@ pub fn count_start(
     archive: &Archive,
     start: &Cds,
     stop: &Cds,
-    quality: u8,
+    quality: RequestedFrameQuality,
 ) -> Result<Tally, Memory>
     requires archive { IsArchive archive.now }
     requires few { length archive.now < 2 ^ 32 }
     ensures { IfOk result (λ tally. Counts tally
-        (told_desk archive.now start.now stop.now quality)) }
+        (told_desk archive.now start.now stop.now (number_of quality))) }
 {
     a_start_has_few_buffers();
     let mut buffers = Buffers::of_start(alloc, archive, start, stop, quality)?;

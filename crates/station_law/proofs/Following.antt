@@ -10,6 +10,7 @@ use Rattle.drill_text.specs.declared.script_line.ScriptLine.{ScriptLine}
 use Rattle.drill_text.specs.declared.script_line.ScriptLine.TheVariants.{Skip, Offer, Desk, Clock}
 use Rattle.drill_text.specs.declared.script_line.ScriptLine.TheVariants.{Crash, Fault}
 use Rattle.drill_text.specs.Reading.{HasValidEntry}
+use Rattle.sle_numbers.specs.declared.requested_frame_quality.RequestedFrameQuality.{RequestedFrameQuality}
 use Rattle.station_law.specs.declared.outcome.Outcome.{Outcome}
 use Rattle.station_law.specs.Store.{Store, Recorded}
 use Rattle.station_law.specs.Doors.{Doors, act}
@@ -66,7 +67,8 @@ offer_taken entry outcome seen new recorder said done is_done follows same clock
 
 pub other_line : (state : State) (line : ScriptLine) → (line ≡ Skip → ⊥)
     → ((entry : form.Entry) → line ≡ Offer entry → ⊥)
-    → ((start stop : Cds) (quality : ℕ) → line ≡ Desk start stop quality → ⊥)
+    → ((start stop : Cds) (quality : RequestedFrameQuality)
+    → line ≡ Desk start stop quality → ⊥)
     → ((at : Cds) → line ≡ Clock at → ⊥)
     → ((k : ℕ) (pick : Pick) → line ≡ Crash k pick → ⊥) → ((k : ℕ) → line ≡ Fault k → ⊥)
     → connected state (act state.doors state.clock line) ≡ step state line

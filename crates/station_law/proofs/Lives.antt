@@ -29,6 +29,7 @@ use Rattle.station_links.specs.Connected.{Connected, opened as opened_link}
 use Rattle.station_links.specs.Rounds.{round_at, round_of, end_after, stands_after, left_by, quits}
 use Rattle.station_links.specs.Rounds.{listened_at, told_now}
 use Rattle.station_links.specs.Run.{Order, Deed, said_by, events_by, RunsAreSessions}
+use Rattle.sle_numbers.specs.RequestedFrameQuality.{number_of}
 use Rattle.station_law.specs.Store.{Store}
 use Rattle.station_law.specs.Doors.{Act, Acted, act_of, acted, acted_on, acted_by, opens, Doors}
 use Rattle.station_law.specs.Doors.{Ran, ordered, rounds_of, anew, act}
@@ -227,8 +228,8 @@ module _ (state : State) (P : Option Act → Answer State → Option Acted → T
       → P (act_of line) (step state line) (act state.doors state.clock line)
   by_line Skip = still Fine state.clock
   by_line (Offer entry) = by_valid (entry_of entry) (is_valid (entry_of entry))
-  by_line (Desk start stop quality) = stored (desk state.store start stop quality)
-      (λ c. desk_apart c state.store start stop quality)
+  by_line (Desk start stop quality) = stored (desk state.store start stop (number_of quality))
+      (λ c. desk_apart c state.store start stop (number_of quality))
   by_line (Clock time) = still Fine (moment time)
   by_line (Crash k pick) = stored (crash_line state.store k (pick_of pick))
       (λ c. crash_apart c state.store k (pick_of pick))

@@ -11,6 +11,7 @@ use Rattle.drill_text.specs.declared.script_line.ScriptLine.{ScriptLine}
 use Rattle.drill_text.specs.declared.script_line.ScriptLine.TheVariants.{Skip, Offer, Desk, Clock}
 use Rattle.drill_text.specs.declared.script_line.ScriptLine.TheVariants.{Crash, Fault}
 use Rattle.drill_text.specs.Reading.{reading}
+use Rattle.sle_numbers.specs.RequestedFrameQuality.{number_of}
 use Rattle.station_law.specs.declared.outcome.Outcome.{Outcome}
 use Rattle.station_law.specs.declared.outcome.Outcome.TheVariants.{Stored, Refused, Crashed, Failed}
 use Rattle.station_law.specs.Store.{Store}
@@ -75,7 +76,8 @@ abbrev pub step : State → ScriptLine → Answer State
 step state Skip = says [] state
 step state (Offer entry) =
     if is_valid (entry_of entry) then offered state (entry_of entry) else is_wrong state
-step state (Desk start stop quality) = recorded state (desk state.store start stop quality)
+step state (Desk start stop quality) = recorded state
+    (desk state.store start stop (number_of quality))
 step state (Clock at) = says [] (record state { clock = moment at })
 step state (Crash k pick) = recorded state (crash_line state.store k (pick_of pick))
 step state (Fault k) = recorded state (fault_line state.store k)

@@ -10,6 +10,7 @@ use Rattle.drill_text.specs.declared.script_line.ScriptLine.TheVariants.{Skip, O
 use Rattle.drill_text.specs.declared.script_line.ScriptLine.TheVariants.{Crash, Fault}
 use Rattle.drill_text.specs.Reading.{reading}
 use Rattle.station_links.specs.declared.link_line.LinkLine.{LinkLine}
+use Rattle.sle_numbers.specs.RequestedFrameQuality.{number_of}
 use Rattle.station_law.specs.Store.{Store}
 use Rattle.station_law.specs.Doors.{Acted, act}
 use Rattle.station_law.specs.State.{State}
@@ -83,7 +84,7 @@ module _ (laws : Laws) where
   facts state (Offer entry) sound =
       by_valid state (entry_of entry) (is_valid (entry_of entry)) refl sound
   facts state (Desk start stop quality) sound =
-      of_store state _ (desk.facts laws.delivers state.store start stop quality sound)
+      of_store state _ (desk.facts laws.delivers state.store start stop (number_of quality) sound)
   facts state (Clock at) sound = idle state.store sound
   facts state (Crash k pick) sound =
       of_store state _ (crash_facts state.store sound k (pick_of pick))

@@ -1,5 +1,6 @@
 // The desk, which is connection 0.
 ghost use Rattle.archive_terms.specs.Archive.{IsArchive};
+ghost use Rattle.sle_numbers.specs.RequestedFrameQuality.{number_of};
 ghost use Rattle.station_law.specs.Output.{Wrote};
 ghost use Rattle.station_law.specs.Desk.{said_at_start};
 ghost use Rattle.station_law.specs.Said.{texts};
@@ -8,6 +9,7 @@ use crate::put::put_sent;
 use crate::stop::Stop;
 use cds_time::Cds;
 use octet_core::Sink;
+use sle_numbers::RequestedFrameQuality;
 use station_desk::{Buffers, Looks};
 use std::alloc::Global;
 
@@ -20,13 +22,14 @@ pub fn answer_start<L: Looks, O: Sink>(
     archive: &L,
     start: &Cds,
     stop: &Cds,
-    quality: u8,
+    quality: RequestedFrameQuality,
     output: &mut O,
 ) -> Result<(), Stop>
     requires { IsArchive (L.entries archive.now) }
     ensures { Wrote (O.written output.old) (O.written output.new)
         (O.faults output.old) (O.faults output.new)
-        (texts (said_at_start (L.entries archive.now) start.now stop.now quality)) result }
+        (texts (said_at_start (L.entries archive.now) start.now stop.now (number_of quality)))
+        result }
 {
     let mut buffers = Buffers::of_start(alloc, archive, start, stop, quality)?;
     while buffers.advance()? {

@@ -12,6 +12,7 @@ ghost use Rattle.station_law.specs.Said.{texts};
 ghost use Rattle.station_law.specs.Standing.{AreDoors, Stands, HasDone};
 ghost use Rattle.station_law.specs.Does.{Steps, Does};
 ghost use Rattle.station_law.specs.Doors.{Doors as Exchange, act, anew};
+ghost use Rattle.sle_numbers.specs.RequestedFrameQuality.{number_of};
 ghost use Rattle.station_law.specs.Desk.{desk};
 ghost use Rattle.station_law.specs.Lines.{step, offered, recorded, connected, doors_by};
 ghost use Rattle.station_law.specs.Power.{crash_line, fault_line, fails_now};
@@ -34,6 +35,7 @@ use disk_model::{MemoryDisk, Pick};
 use drill_text::{ScriptLine, TranscriptLine};
 use octet_core::{Memory, Sink};
 use record_form::Entry;
+use sle_numbers::RequestedFrameQuality;
 use station_config::Site;
 use std::alloc::Global;
 use std::marker::Model;
@@ -231,13 +233,14 @@ impl World {
         &self,
         start: &Cds,
         stop: &Cds,
-        quality: u8,
+        quality: RequestedFrameQuality,
         output: &mut O,
     ) -> Result<StepDone, Stop>
         requires ready { self.now.recorder.is_spent ≡ false }
         ensures written { Wrote (O.written output.old) (O.written output.new)
             (O.faults output.old) (O.faults output.new)
-            (texts (desk self.now.recorder.state start.now stop.now quality).said) result }
+            (texts (desk self.now.recorder.state start.now stop.now (number_of quality)).said)
+            result }
         ensures done { IfOk result (λ done. done ≡ StepDone.Fine) }
     {
         if moment(stop) < moment(start) {

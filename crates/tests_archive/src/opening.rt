@@ -3,6 +3,7 @@
 use disk_model::MemoryDisk;
 use frame_archive::open_archive;
 use record_form::Entry;
+use sle_numbers::ReturnProductionStatus;
 use std::test::Fail;
 
 // One change of the production status: 2 octets, in a batch of its own.
@@ -14,7 +15,13 @@ fn an_archive_counts_what_its_file_holds_and_what_waits(rt: HostRuntime) -> Resu
     let Ok((mut archive, _)) = open_archive(rt.alloc(), disk, 100) else {
         return Err(Fail::from("refused"));
     };
-    assert!(rt; archive.offer(Entry::Production { status: 1 }).is_ok());
+    assert!(rt;
+        archive
+            .offer(Entry::Production {
+                status: ReturnProductionStatus::Interrupted
+            })
+            .is_ok()
+    );
     let counts = (archive.count(), archive.used(), archive.waiting());
     assert_eq!(rt; counts, (1, 18, 1));
     Ok(())

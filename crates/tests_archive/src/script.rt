@@ -11,6 +11,7 @@ use disk_model::{MemoryDisk, Orders, Pick, Stop};
 use frame_archive::{FrameArchive, Landing, Stored, open_archive};
 use octet_core::{FailingCalls, Octets};
 use record_form::{Entries, Entry};
+use sle_numbers::FrameQuality;
 use std::alloc::{AllocError, Global};
 
 type Archive = FrameArchive<MemoryDisk>;
@@ -29,7 +30,7 @@ fn time(number: u8) -> Cds {
 fn frame(alloc: Global, number: u8) -> Result<Entry, AllocError> {
     Ok(Entry::Frame {
         ert: time(number),
-        quality: 0,
+        quality: FrameQuality::Good,
         antenna: Octets::copy_of(alloc, b"A")?,
         lost: 0,
         octets: Octets::copy_of(alloc, &[0, 0x10, number.wrapping_add(0xa0)])?,

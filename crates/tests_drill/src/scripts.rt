@@ -297,12 +297,13 @@ fn each_word_comes_to_its_place(rt: HostRuntime) {
 }
 
 const SAID: &str = "
-production 1 = Offer(Production { status: 1 })|
+production 1 = Offer(Production { status: Interrupted })|
 mark 4/5/6 = Offer(Seal { at: Cds { days: 4, millis: 5, rest: Micros(6) } })|
-loss 7/8/9p 1 2 3 = Offer(LossOfSync { at: Cds { days: 7, millis: 8, rest: Picos(9) }, carrier: 1,
-    subcarrier: 2, symbol: 3 })|
+loss 7/8/9p 1 2 3 = Offer(LossOfSync { at: Cds { days: 7, millis: 8, rest: Picos(9) }, carrier:
+OutOfLock,
+    subcarrier: NotInUse, symbol: Unknown })|
 start 1/2/3 4/5/6p 1 = Desk { start: Cds { days: 1, millis: 2, rest: Micros(3) }, stop: Cds {
-    days: 4, millis: 5, rest: Picos(6) }, quality: 1 }|
+    days: 4, millis: 5, rest: Picos(6) }, quality: ErredFrameOnly }|
 clock 1/2/3 = Clock(Cds { days: 1, millis: 2, rest: Micros(3) })|
 open 3 = Open { c: 3 }|
 shut 4 = Shut { c: 4 }|
@@ -320,7 +321,7 @@ fault 6 = Fault { k: 6 }|
 ask 1 context 30 5 = Ask { c: 1, ask: Context { interval: 30, factor: 5 } }|
 ask 2 unbind = Ask { c: 2, ask: Unbind }|
 ask 1 start none 1/2/3 2 = Ask { c: 1, ask: StartRaf { start: None, stop: Some(Cds { days: 1,
-    millis: 2, rest: Micros(3) }), quality: 2 } }|
+    millis: 2, rest: Micros(3) }), quality: AllFrames } }|
 ask 1 start 1/2/3p none 4/1/6 = Ask { c: 1, ask: StartRcf { start: Some(Cds { days: 1, millis: 2,
     rest: Picos(3) }), stop: None, channel: Gvcid { spacecraft: 4, version: 1, channel: Virtual(6)
     } } }|

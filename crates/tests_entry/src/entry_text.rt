@@ -5,6 +5,7 @@ use octet_core::Octets;
 use record_form::{
     Entry, entry_length, read_entry, read_entry_at, read_entry_ref_at, read_ert_at, write_entry,
 };
+use sle_numbers::Numbered;
 use std::alloc::Global;
 use std::test::Fail;
 
@@ -19,7 +20,7 @@ fn fields_text(alloc: Global, entry: &Entry) -> Result<String, Fail> {
             octets,
         } => {
             let antenna = antenna.as_slice();
-            let head = format!(in alloc; "frame {ert:?} {quality} {antenna:?} {lost}")?;
+            let head = format!(in alloc; "frame {ert:?} {} {antenna:?} {lost}", quality.number())?;
             let octets = octets.as_slice();
             if octets.len() > 1_000 {
                 let first = octets.first().copied();

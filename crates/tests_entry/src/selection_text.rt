@@ -5,6 +5,7 @@ use frame_select::{Filter, Selection, admits};
 use octet_core::Octets;
 use record_form::Entry;
 use sle_common::{Channel, Gvcid};
+use sle_numbers::{Numbered, RequestedFrameQuality, ReturnProductionStatus};
 use std::alloc::Global;
 use std::test::Fail;
 
@@ -13,7 +14,7 @@ const AT: u128 = (20_000 * 86_400_000 + 1_000) * 1_000_000_000;
 
 // All frames.
 const ALL: Selection = Selection {
-    filter: Filter::Quality(2),
+    filter: Filter::Quality(RequestedFrameQuality::AllFrames),
     start: None,
     stop: None,
     first: 0,
@@ -43,6 +44,14 @@ fn channel_of(spacecraft: &str, version: &str, channel: &str) -> Result<Gvcid, F
     })
 }
 
+// The value of a number of its table.
+fn value_of<T: Numbered>(word: &str) -> Result<T, Fail> {
+    match T::from_number(word.parse()?) {
+        Some(value) => Ok(value),
+        None => Err(Fail::from("no such value")),
+    }
+}
+
 // A frame of day 20,000.
 fn frame(alloc: Global, millis: &str, quality: &str, octets: &str) -> Result<Entry, Fail> {
     Ok(Entry::Frame {
@@ -51,7 +60,7 @@ fn frame(alloc: Global, millis: &str, quality: &str, octets: &str) -> Result<Ent
             millis: millis.parse()?,
             rest: Rest::Micros(0),
         },
-        quality: quality.parse()?,
+        quality: value_of(quality)?,
         antenna: Octets::copy_of(alloc, b"A")?,
         lost: 0,
         octets: Octets::from_vec(alloc, octets_of(alloc, octets)?)?,
@@ -68,7 +77,7 @@ fn selection_of(parts: &str) -> Result<Selection, Fail> {
         let second = words.next().unwrap_or("");
         let third = words.next().unwrap_or("");
         match name {
-            "quality" => selection.filter = Filter::Quality(first.parse()?),
+            "quality" => selection.filter = Filter::Quality(value_of(first)?),
             "channel" => selection.filter = Filter::Channel(channel_of(first, second, third)?),
             "start" => selection.start = moment_of(first),
             "stop" => selection.stop = moment_of(first),
@@ -89,7 +98,9 @@ pub fn selection_text(alloc: Global, text: &str) -> Result<String, Fail> {
     let place = words.next().unwrap_or("").parse()?;
     let entry = match words.next().unwrap_or("") {
         "seal" => Entry::Seal { at: Cds::EPOCH },
-        "production" => Entry::Production { status: 0 },
+        "production" => Entry::Production {
+            status: ReturnProductionStatus::Running,
+        },
         _ => {
             let millis = words.next().unwrap_or("");
             let quality = words.next().unwrap_or("");

@@ -8,6 +8,7 @@ use disk_model::MemoryDisk;
 use gate_journal::{Journal, JournalFault, follows, laws};
 use octet_core::Octets;
 use record_form::{Entries, Entry, Memory};
+use sle_numbers::FrameQuality;
 use std::alloc::{AllocError, Global};
 
 // More than any of the files wants.
@@ -27,7 +28,7 @@ pub fn batch_of(alloc: Global, number: u8) -> Result<Entries, Memory> {
             millis: u32::from(number) * 1_000,
             rest: Rest::Micros(0),
         },
-        quality: 0,
+        quality: FrameQuality::Good,
         antenna: Octets::copy_of(alloc, b"A")?,
         lost: 0,
         octets: Octets::copy_of(alloc, &[0, 0x10, number.wrapping_add(0xa0)])?,

@@ -1,13 +1,13 @@
 // Deliveries by rounds. What is expected was worked out by hand from the rules.
 use crate::ground::{Entry, Instance, check};
-use return_core::Mode;
+use sle_numbers::ReturnDeliveryMode;
 use std::test::Fail;
 
 // Four frames that any START picks, and a stop that is open behind them.
 const FRAMES: Instance = Instance {
     entries: &[Entry::Small; 4],
     closes: 9,
-    mode: Mode::Timely,
+    mode: ReturnDeliveryMode::TimelyOnline,
     size: 2,
     latency: 5,
 };
@@ -148,7 +148,7 @@ start;
 
 // An instance of four frames in a mode, whose stop is closed behind so many, with buffers of a size
 // and a latency.
-fn frames(mode: Mode, closes: usize, size: u32, latency: u128) -> Instance<'static> {
+fn frames(mode: ReturnDeliveryMode, closes: usize, size: u32, latency: u128) -> Instance<'static> {
     Instance {
         mode,
         closes,
@@ -161,17 +161,26 @@ fn frames(mode: Mode, closes: usize, size: u32, latency: u128) -> Instance<'stat
 #[test]
 fn frames_are_handed_over_so(rt: HostRuntime) -> Result<(), Fail> {
     let table = [
-        (frames(Mode::Complete, 9, 2, 5), KEPT),
-        (frames(Mode::Timely, 4, 2, 5), UNSTALLED),
-        (frames(Mode::Timely, 4, 2, 5), FIRST_STALLED),
-        (frames(Mode::Timely, 4, 2, 5), SECOND_STALLED),
-        (frames(Mode::Timely, 4, 2, 5), END_STALLED),
+        (frames(ReturnDeliveryMode::CompleteOnline, 9, 2, 5), KEPT),
+        (frames(ReturnDeliveryMode::TimelyOnline, 4, 2, 5), UNSTALLED),
+        (
+            frames(ReturnDeliveryMode::TimelyOnline, 4, 2, 5),
+            FIRST_STALLED,
+        ),
+        (
+            frames(ReturnDeliveryMode::TimelyOnline, 4, 2, 5),
+            SECOND_STALLED,
+        ),
+        (
+            frames(ReturnDeliveryMode::TimelyOnline, 4, 2, 5),
+            END_STALLED,
+        ),
         (FRAMES, STALLED_TWICE),
-        (frames(Mode::Timely, 9, 1, 5), BACKLOG),
+        (frames(ReturnDeliveryMode::TimelyOnline, 9, 1, 5), BACKLOG),
         (FRAMES, STOPPED),
-        (frames(Mode::Complete, 9, 3, 5), LATE),
-        (frames(Mode::Offline, 9, 3, 5), NEVER_LATE),
-        (frames(Mode::Timely, 9, 3, 0), AT_ONCE),
+        (frames(ReturnDeliveryMode::CompleteOnline, 9, 3, 5), LATE),
+        (frames(ReturnDeliveryMode::Offline, 9, 3, 5), NEVER_LATE),
+        (frames(ReturnDeliveryMode::TimelyOnline, 9, 3, 0), AT_ONCE),
     ];
     for (instance, rows) in table {
         check(&rt, rt.alloc(), &instance, rows)?;
@@ -180,7 +189,7 @@ fn frames_are_handed_over_so(rt: HostRuntime) -> Result<(), Fail> {
 }
 
 // An instance of other entries.
-fn of(entries: &[Entry], mode: Mode, closes: usize, size: u32) -> Instance<'_> {
+fn of(entries: &[Entry], mode: ReturnDeliveryMode, closes: usize, size: u32) -> Instance<'_> {
     Instance {
         entries,
         closes,
@@ -193,10 +202,21 @@ fn of(entries: &[Entry], mode: Mode, closes: usize, size: u32) -> Instance<'_> {
 #[test]
 fn other_entries_are_handed_over_so(rt: HostRuntime) -> Result<(), Fail> {
     let table = [
-        (of(&[Entry::Long; 10], Mode::Complete, 99, 100), OCTETS),
-        (of(&MIXED, Mode::Complete, 5, 9), NOTIFIED),
-        (of(&MIXED[..1], Mode::Offline, 1, 2), ONE),
-        (of(&[], Mode::Timely, 0, 2), NONE),
+        (
+            of(
+                &[Entry::Long; 10],
+                ReturnDeliveryMode::CompleteOnline,
+                99,
+                100,
+            ),
+            OCTETS,
+        ),
+        (
+            of(&MIXED, ReturnDeliveryMode::CompleteOnline, 5, 9),
+            NOTIFIED,
+        ),
+        (of(&MIXED[..1], ReturnDeliveryMode::Offline, 1, 2), ONE),
+        (of(&[], ReturnDeliveryMode::TimelyOnline, 0, 2), NONE),
     ];
     for (instance, rows) in table {
         check(&rt, rt.alloc(), &instance, rows)?;

@@ -3,9 +3,12 @@
 // A row is a step, and behind `=` what it says; `;` ends it. A step is a round (how many entries
 // there are, the moment and the link), `start`, `stop` or `state`.
 use cds_time::{Cds, Rest};
-use frame_select::{Filter, Glimpse, Item, Items, Selection, Want};
+use frame_select::{Filter, Glimpse, Item, Items, Locks, Selection, Want};
 use octet_core::Octets;
-use return_core::{Delivery, Mode, Offer, are_of_archive};
+use return_core::{Delivery, Offer, are_of_archive};
+use sle_numbers::{
+    FrameQuality, LockStatus, RequestedFrameQuality, ReturnDeliveryMode, ReturnProductionStatus,
+};
 use std::alloc::{AllocError, Global};
 use std::process::Abort;
 use std::test::Fail;
@@ -43,13 +46,13 @@ type Round = (usize, u128, Link);
 pub struct Instance<'a> {
     pub entries: &'a [Entry],
     pub closes: usize,
-    pub mode: Mode,
+    pub mode: ReturnDeliveryMode,
     pub size: u32,
     pub latency: u128,
 }
 
 const SELECTION: Selection = Selection {
-    filter: Filter::Quality(2),
+    filter: Filter::Quality(RequestedFrameQuality::AllFrames),
     start: None,
     stop: Some(0),
     first: 0,
@@ -100,15 +103,18 @@ fn item_of(
         Entry::Loss => Item::Loss {
             place,
             at: TIME,
-            carrier: 0,
-            subcarrier: 0,
-            symbol: 0,
+            carrier: LockStatus::InLock,
+            subcarrier: LockStatus::InLock,
+            symbol: LockStatus::InLock,
         },
-        Entry::Production => Item::Production { place, status: 1 },
+        Entry::Production => Item::Production {
+            place,
+            status: ReturnProductionStatus::Interrupted,
+        },
         _ => Item::Frame {
             place,
             ert: TIME,
-            quality: 0,
+            quality: FrameQuality::Good,
             antenna: octets_of(alloc, Entry::Small)?,
             continuity: behind(since, place),
             octets: octets_of(alloc, entry)?,
@@ -129,8 +135,13 @@ fn look(
         next: 0,
         more: false,
         closed: front >= instance.closes,
-        lock: [0; 4],
-        production: 0,
+        locks: Locks {
+            frame_sync: LockStatus::InLock,
+            symbol: LockStatus::InLock,
+            subcarrier: LockStatus::InLock,
+            carrier: LockStatus::InLock,
+        },
+        production: ReturnProductionStatus::Running,
     };
     let Want::Items {
         place,

@@ -9,6 +9,9 @@ use frame_select::{Filter, Selection, Want};
 use octet_core::{Memory, Octets};
 use record_form::Entry;
 use sle_common::{Channel, Gvcid};
+use sle_numbers::{
+    FrameQuality, LockStatus, Numbered, RequestedFrameQuality, ReturnProductionStatus,
+};
 use std::alloc::Global;
 use std::test::Fail;
 
@@ -33,7 +36,7 @@ fn frame(alloc: Global, millis: u32, gap: u32, octets: &[u8]) -> Result<Entry, M
             millis,
             rest: Rest::Micros(0),
         },
-        quality: 0,
+        quality: FrameQuality::Good,
         antenna: Octets::copy_of(alloc, b"A")?,
         lost: gap,
         octets: Octets::copy_of(alloc, octets)?,
@@ -41,7 +44,7 @@ fn frame(alloc: Global, millis: u32, gap: u32, octets: &[u8]) -> Result<Entry, M
 }
 
 const ALL: Selection = Selection {
-    filter: Filter::Quality(2),
+    filter: Filter::Quality(RequestedFrameQuality::AllFrames),
     start: None,
     stop: None,
     first: 0,
@@ -108,8 +111,14 @@ fn lost_frames_add_up_to_their_greatest_number(rt: HostRuntime) -> Result<(), Fa
 fn statuses(alloc: Global, entries: &[Entry], want: Want) -> Result<([u8; 4], u8, u64), Memory> {
     let index = index_of(alloc, entries)?;
     let glimpse = index.glimpse(alloc, entries, &want)?;
-    let lock = glimpse.lock;
-    Ok((lock, glimpse.production, glimpse.front))
+    let locks = glimpse.locks;
+    let numbers = [
+        locks.frame_sync.number(),
+        locks.symbol.number(),
+        locks.subcarrier.number(),
+        locks.carrier.number(),
+    ];
+    Ok((numbers, glimpse.production.number(), glimpse.front))
 }
 
 // A frame, a loss of synchronisation and a change of the production status.
@@ -118,11 +127,13 @@ fn three_entries(alloc: Global) -> Result<Vec<Entry>, Memory> {
     entries.push(frame(alloc, 1000, 0, &[0x00])?)?;
     entries.push(Entry::LossOfSync {
         at: Cds::EPOCH,
-        carrier: 3,
-        subcarrier: 2,
-        symbol: 0,
+        carrier: LockStatus::Unknown,
+        subcarrier: LockStatus::NotInUse,
+        symbol: LockStatus::InLock,
     })?;
-    entries.push(Entry::Production { status: 2 })?;
+    entries.push(Entry::Production {
+        status: ReturnProductionStatus::Halted,
+    })?;
     Ok(entries)
 }
 

@@ -118,7 +118,7 @@ fn want_of(call: &Call) -> Want {
         What::Front => Want::Front,
         _ => Want::Items {
             selection: Selection {
-                filter: Filter::Quality(RequestedFrameQuality::Good),
+                filter: Filter::Quality(RequestedFrameQuality::GoodFramesOnly),
                 start: None,
                 stop: time(call.reading).moment(),
                 first: 0,

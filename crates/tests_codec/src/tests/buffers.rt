@@ -3,68 +3,71 @@
 pub const RAF_BUFFER: &str = "
 a81e a01c 8000 80084e20000003e80000 810141 0201ff 020100 8000 04030010a1
     = Frame { credentials: Unused, ert: Cds { days: 20000, millis: 1000, rest: Micros(0) },
-      antenna: Local([65]), continuity: -1, quality: Some(0), note: None, octets: [0, 16, 161] };
+      antenna: Local([65]), continuity: -1, quality: Some(Good), note: None, octets: [0, 16, 161] };
 a81e a01c 8000 80084e20000007d00000 810141 0201ff 020100 8000 04030010a2
     = Frame { credentials: Unused, ert: Cds { days: 20000, millis: 2000, rest: Micros(0) },
-      antenna: Local([65]), continuity: -1, quality: Some(0), note: None, octets: [0, 16, 162] };
+      antenna: Local([65]), continuity: -1, quality: Some(Good), note: None, octets: [0, 16, 162] };
 a81e a01c 8000 80084e2000000bb80000 810141 020100 020100 8000 04030010a3
     = Frame { credentials: Unused, ert: Cds { days: 20000, millis: 3000, rest: Micros(0) },
-      antenna: Local([65]), continuity: 0, quality: Some(0), note: None, octets: [0, 16, 163] };
+      antenna: Local([65]), continuity: 0, quality: Some(Good), note: None, octets: [0, 16, 163] };
 a806 a104 8000 8200 = Told { credentials: Unused, notice: Backlog };
 a800 = ;
 a83c a01c 8000 80084e20000003e80000 810141 0201ff 020100 8000 04030010a1 a01c 8000
     80084e20000007d00000 810141 020100 020100 8000 04030010a2
     = Frame { credentials: Unused, ert: Cds { days: 20000, millis: 1000, rest: Micros(0) },
-      antenna: Local([65]), continuity: -1, quality: Some(0), note: None, octets: [0, 16, 161] }
+      antenna: Local([65]), continuity: -1, quality: Some(Good), note: None, octets: [0, 16, 161] }
       Frame { credentials: Unused, ert: Cds { days: 20000, millis: 2000, rest: Micros(0) },
-      antenna: Local([65]), continuity: 0, quality: Some(0), note: None, octets: [0, 16, 162] };
+      antenna: Local([65]), continuity: 0, quality: Some(Good), note: None, octets: [0, 16, 162] };
 a806 a104 8000 8300 = Told { credentials: Unused, notice: EndOfData };
 a824 a104 8000 8200 a01c 8000 80084e20000007d00000 810141 0201ff 020100 8000 04030010a2
     = Told { credentials: Unused, notice: Backlog }
       Frame { credentials: Unused, ert: Cds { days: 20000, millis: 2000, rest: Micros(0) },
-      antenna: Local([65]), continuity: -1, quality: Some(0), note: None, octets: [0, 16, 162] };
+      antenna: Local([65]), continuity: -1, quality: Some(Good), note: None, octets: [0, 16, 162] };
 a845 a10d 81080102030405060708 810100 a10d 8000 810900ffffffffffffffff a10c 8000
     81088000000000000000 a117 8000 a013 80084e20000000000000 020100 020103 020101
     = Told { credentials: Used([1, 2, 3, 4, 5, 6, 7, 8]), notice: Production(0) }
       Told { credentials: Unused, notice: Production(18446744073709551615) }
       Told { credentials: Unused, notice: Production(-9223372036854775808) }
       Told { credentials: Unused, notice: Loss {
-      at: Cds { days: 20000, millis: 0, rest: Micros(0) }, carrier: 0, subcarrier: 3,
-      symbol: 1 } };
+      at: Cds { days: 20000, millis: 0, rest: Micros(0) }, carrier: InLock, subcarrier: Unknown,
+      symbol: OutOfLock } };
 a83c a03a 81080102030405060708 810affffffffffffffffffff 8110000102030405060708090a0b0c0d0e0f
     020400ffffff 020102 81046e6f7465 0401ff
     = Frame { credentials: Used([1, 2, 3, 4, 5, 6, 7, 8]),
       ert: Cds { days: 65535, millis: 4294967295, rest: Picos(4294967295) }, antenna: Local([0, 1,
-      2, 3, 4, 5, 6, 7, 8, 9, 10, 11, 12, 13, 14, 15]), continuity: 16777215, quality: Some(2),
+      2, 3, 4, 5, 6, 7, 8, 9, 10, 11, 12, 13, 14, 15]), continuity: 16777215, quality:
+      Some(Undetermined),
       note: Some([110, 111, 116, 101]), octets: [255] };
 a824 a022 8000 80084e20000000000000 80072b700403010216 020100 020101 81016e 04020000
     = Frame { credentials: Unused, ert: Cds { days: 20000, millis: 0, rest: Micros(0) },
-      antenna: Global([43, 112, 4, 3, 1, 2, 22]), continuity: 0, quality: Some(1),
+      antenna: Global([43, 112, 4, 3, 1, 2, 22]), continuity: 0, quality: Some(Erred),
       note: Some([110]), octets: [0, 0] };
 a8819e a0819b 8000 80084e20000000000000 810141 020100 020100 818180 128*6e 040100
     = Frame { credentials: Unused, ert: Cds { days: 20000, millis: 0, rest: Micros(0) },
-      antenna: Local([65]), continuity: 0, quality: Some(0), note: Some([110, 126*110, 110]),
+      antenna: Local([65]), continuity: 0, quality: Some(Good), note: Some([110, 126*110, 110]),
       octets: [0] };
 a88201a1 a082019d 81820100 256*07 80084e20000000000000 810141 020100 020100 818180 128*6e 040100
     = Frame { credentials: Used([7, 254*7, 7]),
       ert: Cds { days: 20000, millis: 0, rest: Micros(0) }, antenna: Local([65]), continuity: 0,
-      quality: Some(0), note: Some([110, 126*110, 110]), octets: [0] };
+      quality: Some(Good), note: Some([110, 126*110, 110]), octets: [0] };
 a882010a a1820106 81820100 256*07 8300
     = Told { credentials: Used([7, 254*7, 7]), notice: EndOfData };
 a83d a01c 8000 80084e20000003e80000 810141 0201ff 020100 8000 04030010a1 a117 8000 a013
     80084e20000000000000 020100 020103 020101 a104 8000 8300
     = Frame { credentials: Unused, ert: Cds { days: 20000, millis: 1000, rest: Micros(0) },
-      antenna: Local([65]), continuity: -1, quality: Some(0), note: None, octets: [0, 16, 161] }
+      antenna: Local([65]), continuity: -1, quality: Some(Good), note: None, octets: [0, 16, 161] }
       Told { credentials: Unused, notice: Loss {
-      at: Cds { days: 20000, millis: 0, rest: Micros(0) }, carrier: 0, subcarrier: 3, symbol: 1 } }
+      at: Cds { days: 20000, millis: 0, rest: Micros(0) }, carrier: InLock, subcarrier: Unknown,
+      symbol: OutOfLock } }
       Told { credentials: Unused, notice: EndOfData };
 a81c a01a 8000 80084e20000000000000 810141 020100 020100 8000 0401 55
     = Frame { credentials: Unused, ert: Cds { days: 20000, millis: 0, rest: Micros(0) },
-      antenna: Local([65]), continuity: 0, quality: Some(0), note: None, octets: [85] };
+      antenna: Local([65]), continuity: 0, quality: Some(Good), note: None, octets: [85] };
 a883010021 a08301001c 8000 80084e20000000000000 810141 020100 020100 8000
     0483010000 8192*5555555555555555
     = Frame { credentials: Unused, ert: Cds { days: 20000, millis: 0, rest: Micros(0) },
-      antenna: Local([65]), continuity: 0, quality: Some(0), note: None, octets: [85, 65534*85, 85]
+      antenna: Local([65]), continuity: 0, quality: Some(Good), note: None, octets: [85, 65534*85,
+      85]
       };
 a823 a021 810700000000000000 80084e20000000000000 810141 020100 020100 8000 040100
     = no content of its type at octet 6;

@@ -2,24 +2,27 @@
 
 pub const RAF_START: &str = "
 a00c 8000 020100 8000 8000 020102
-    = RafStart { credentials: Unused, invoke: 0, start: None, stop: None, quality: 2 };
+    = RafStart { credentials: Unused, invoke: 0, start: None, stop: None, quality: AllFrames };
 a02c 81080102030405060708 020300ffff a10a 80084e20000000000000 a10c 810affffffffffffffffffff 020100
     = RafStart { credentials: Used([1, 2, 3, 4, 5, 6, 7, 8]), invoke: 65535,
       start: Some(Cds { days: 20000, millis: 0, rest: Micros(0) }),
-      stop: Some(Cds { days: 65535, millis: 4294967295, rest: Picos(4294967295) }), quality: 0 };
+      stop: Some(Cds { days: 65535, millis: 4294967295, rest: Picos(4294967295) }), quality:
+      GoodFramesOnly };
 a016 8000 020101 a10a 80084e20000003e80000 8000 020101
     = RafStart { credentials: Unused, invoke: 1,
-      start: Some(Cds { days: 20000, millis: 1000, rest: Micros(0) }), stop: None, quality: 1 };
+      start: Some(Cds { days: 20000, millis: 1000, rest: Micros(0) }), stop: None, quality:
+      ErredFrameOnly };
 a016 8000 020100 a10a 80084e20000000000000 8000 020102
     = RafStart { credentials: Unused, invoke: 0,
-      start: Some(Cds { days: 20000, millis: 0, rest: Micros(0) }), stop: None, quality: 2 };
+      start: Some(Cds { days: 20000, millis: 0, rest: Micros(0) }), stop: None, quality: AllFrames
+      };
 a020 8000 020100 a10a 80084e20000000020000 a10a 80084e20000000010000 020102
     = RafStart { credentials: Unused, invoke: 0,
       start: Some(Cds { days: 20000, millis: 2, rest: Micros(0) }),
-      stop: Some(Cds { days: 20000, millis: 1, rest: Micros(0) }), quality: 2 };
+      stop: Some(Cds { days: 20000, millis: 1, rest: Micros(0) }), quality: AllFrames };
 a082010e 81820100 256*07 020100 8000 8000 020102
     = RafStart { credentials: Used([7, 254*7, 7]), invoke: 0, start: None, stop: None,
-      quality: 2 };
+      quality: AllFrames };
 a013 810700000000000000 020100 8000 8000 020102 = no content of its type at octet 4;
 a00c 8200 020100 8000 8000 020102 = another identifier at octet 2, beginning with 0x82;
 a00c 8000 0201ff 8000 8000 020102 = no content of its type at octet 6;

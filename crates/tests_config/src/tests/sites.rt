@@ -20,8 +20,8 @@ raf raf=b ABC timely 1 1 1 = provider STATION [0, 0, 0, 0, 0, 0], capacity 26843
     peer ABC Nothing SHA-1 1 [0, 0, 0, 0, 0, 0];
     peer ABCD All SHA-256 86400 [0, 17, 34, 51, 68, 85, 102];
     peer AB! Nothing SHA-1 1 [0, 0, 0, 0, 0, 0];
-    return instance raf=a of 1, 600 seconds: Raf { mode: 0, size: 1, latency: 1 };
-    return instance raf=b of 0, 1 seconds: Raf { mode: 0, size: 1, latency: 1 }|";
+    return instance raf=a of 1, 600 seconds: Raf { mode: TimelyOnline, size: 1, latency: 1 };
+    return instance raf=b of 0, 1 seconds: Raf { mode: TimelyOnline, size: 1, latency: 1 }|";
 
 // A station with an instance of each kind.
 pub const STATION: &str = "
@@ -40,15 +40,16 @@ cltu sagr=1.spack=P.fsl-fg=1.cltu=cltu1 MOC 1000 100 60
     peer OTHER Nothing SHA-1 60 [0, 0, 0, 0, 0, 0];
     peer SEC Bind SHA-1 60 [0, 0, 0, 0, 0, 0];
     return instance sagr=1.spack=P.rsl-fg=1.raf=onlt1 of 0, 60 seconds:
-        Raf { mode: 0, size: 1, latency: 5 };
+        Raf { mode: TimelyOnline, size: 1, latency: 5 };
     return instance sagr=1.spack=P.rsl-fg=1.raf=onlc1 of 0, 60 seconds:
-        Raf { mode: 1, size: 1, latency: 5 };
+        Raf { mode: CompleteOnline, size: 1, latency: 5 };
     return instance sagr=1.spack=P.rsl-fg=1.raf=offl1 of 0, 60 seconds:
-        Raf { mode: 2, size: 2, latency: 0 };
+        Raf { mode: Offline, size: 2, latency: 0 };
     return instance sagr=1.spack=P.rsl-fg=1.raf=onlc2 of 0, 60 seconds:
-        Raf { mode: 1, size: 10, latency: 5 };
+        Raf { mode: CompleteOnline, size: 10, latency: 5 };
     return instance sagr=1.spack=P.rsl-fg=1.rcf=onlc1 of 0, 60 seconds:
-        Rcf { mode: 1, size: 1, latency: 5, channels: Channels { held: [Gvcid { spacecraft: 1,
+        Rcf { mode: CompleteOnline, size: 1, latency: 5, channels: Channels { held: [Gvcid {
+        spacecraft: 1,
         version: 1, channel: Virtual(63) }] } };
     forward instance sagr=1.spack=P.fsl-fg=1.cltu=cltu1 of 0, 60 seconds:
         Cltu { room: 1000, longest: 100 }|";
@@ -95,17 +96,19 @@ cltu sagr=1.spack=pass-1.fsl-fg=1.cltu=cltu1 MOC 1048576 2048 60
     peer MOC Bind SHA-256 60 [161, 178, 195, 212, 229, 246];
     peer SCIENCE Nothing SHA-1 60 [0, 0, 0, 0, 0, 0];
     return instance sagr=1.spack=pass-1.rsl-fg=1.raf=onlt1 of 0, 60 seconds:
-        Raf { mode: 0, size: 10, latency: 2 };
+        Raf { mode: TimelyOnline, size: 10, latency: 2 };
     return instance sagr=1.spack=pass-1.rsl-fg=1.raf=onlc1 of 0, 60 seconds:
-        Raf { mode: 1, size: 100, latency: 5 };
+        Raf { mode: CompleteOnline, size: 100, latency: 5 };
     return instance sagr=1.spack=pass-1.rsl-fg=1.raf=offl1 of 1, 60 seconds:
-        Raf { mode: 2, size: 1000, latency: 0 };
+        Raf { mode: Offline, size: 1000, latency: 0 };
     return instance sagr=1.spack=pass-1.rsl-fg=1.rcf=onlc1 of 0, 60 seconds:
-        Rcf { mode: 1, size: 100, latency: 5, channels: Channels { held: [Gvcid { spacecraft: 171,
+        Rcf { mode: CompleteOnline, size: 100, latency: 5, channels: Channels { held: [Gvcid {
+        spacecraft: 171,
         version: 0, channel: Virtual(0) }, Gvcid { spacecraft: 171, version: 0,
         channel: Virtual(7) }] } };
     return instance sagr=1.spack=pass-1.rsl-fg=1.rcf=offl1 of 1, 60 seconds:
-        Rcf { mode: 2, size: 1000, latency: 0, channels: Channels { held: [Gvcid { spacecraft: 171,
+        Rcf { mode: Offline, size: 1000, latency: 0, channels: Channels { held: [Gvcid {
+        spacecraft: 171,
         version: 0, channel: Master }] } };
     forward instance sagr=1.spack=pass-1.fsl-fg=1.cltu=cltu1 of 0, 60 seconds:
         Cltu { room: 1048576, longest: 2048 }|";

@@ -4,6 +4,7 @@ use crate::rows::{check, octets_of};
 use cds_time::{Cds, Rest};
 use octet_core::Octets;
 use record_form::{Entries, Entry, EntryFault, read_entry};
+use sle_numbers::{FrameQuality, LockStatus};
 use std::process::Abort;
 use std::test::Fail;
 
@@ -20,9 +21,9 @@ const ENTRIES: &str = "
 01 00 4e20000003e80000 00 01 41 00000000 00000003 0010a1
     = frame Cds { days: 20000, millis: 1000, rest: Micros(0) } 0 [65] 0 [0, 16, 161]|
 02 00 4e20000007d00007 030200
-    = LossOfSync { at: Cds { days: 20000, millis: 2000, rest: Micros(7) }, carrier: 3,
-    subcarrier: 2, symbol: 0 }|
-03 02 = Production { status: 2 }|
+    = LossOfSync { at: Cds { days: 20000, millis: 2000, rest: Micros(7) }, carrier: Unknown,
+    subcarrier: NotInUse, symbol: InLock }|
+03 02 = Production { status: Halted }|
 04 01 ffff05265bff3b9ac9ff
     = Seal { at: Cds { days: 65535, millis: 86399999, rest: Picos(999999999) } }|
 01 00 4e20000003e80000 00 10 16*ff 00ffffff 00010000 65536*aa
@@ -74,15 +75,15 @@ fn an_entry_is_lent_as_it_is_read(rt: HostRuntime) -> Result<(), Fail> {
 // and a time that names no moment.
 const LENT: &str = "
 0 01 00 4e20000003e80000 00 01 41 00000000 00000003 0010a1
-    = Frame { ert: Cds { days: 20000, millis: 1000, rest: Micros(0) }, quality: 0, antenna: [65],
+    = Frame { ert: Cds { days: 20000, millis: 1000, rest: Micros(0) }, quality: Good, antenna: [65],
     lost: 0, octets: [0, 16, 161] } up to 24|
 13 02 00 4e20000007d00007 030200 01 00 4e20000003e80000 00 01 41 00000000 00000003 0010a1
-    = Frame { ert: Cds { days: 20000, millis: 1000, rest: Micros(0) }, quality: 0, antenna: [65],
+    = Frame { ert: Cds { days: 20000, millis: 1000, rest: Micros(0) }, quality: Good, antenna: [65],
     lost: 0, octets: [0, 16, 161] } up to 37|
 0 02 00 4e20000007d00007 030200
-    = LossOfSync { at: Cds { days: 20000, millis: 2000, rest: Micros(7) }, carrier: 3,
-    subcarrier: 2, symbol: 0 } up to 13|
-0 03 02 = Production { status: 2 } up to 2|
+    = LossOfSync { at: Cds { days: 20000, millis: 2000, rest: Micros(7) }, carrier: Unknown,
+    subcarrier: NotInUse, symbol: InLock } up to 13|
+0 03 02 = Production { status: Halted } up to 2|
 2 03 02 04 01 ffff05265bff3b9ac9ff
     = Seal { at: Cds { days: 65535, millis: 86399999, rest: Picos(999999999) } } up to 14|
 2 03 02 01 00 4e20000003e80000 00 01 41 00000000 00000004 0010a1 = the entry is cut|
@@ -110,7 +111,7 @@ fn a_frame_of_65537_octets_is_valid_and_not_storable(rt: HostRuntime) -> Result<
             millis: 1_000,
             rest: Rest::Micros(0),
         },
-        quality: 0,
+        quality: FrameQuality::Good,
         antenna: Octets::copy_of(rt.alloc(), b"A")?,
         lost: 0,
         octets: Octets::from_vec(rt.alloc(), octets)?,
@@ -125,9 +126,9 @@ fn entries_are_kept_in_their_order(rt: HostRuntime) -> Result<(), Fail> {
     let mut entries = Entries::new(rt.alloc());
     entries.push(Entry::LossOfSync {
         at: Cds::EPOCH,
-        carrier: 3,
-        subcarrier: 2,
-        symbol: 0,
+        carrier: LockStatus::Unknown,
+        subcarrier: LockStatus::NotInUse,
+        symbol: LockStatus::InLock,
     })?;
     entries.push(Entry::Seal { at: Cds::EPOCH })?;
     assert_eq!(rt; entries.len(), 2);

@@ -2,6 +2,7 @@
 use crate::kind::Kind;
 use crate::rows::check;
 use frame_select::{Item, Items};
+use sle_numbers::ReturnProductionStatus;
 use std::process::Abort;
 use std::test::Fail;
 
@@ -81,7 +82,7 @@ fn items_are_kept_in_order(rt: HostRuntime) -> Result<(), Fail> {
     items.push(Item::Backlog)?;
     items.push(Item::Production {
         place: 3,
-        status: 1,
+        status: ReturnProductionStatus::Interrupted,
     })?;
     assert_eq!(rt; items.len(), 2);
     assert!(rt; items.as_slice().first() == Some(&Item::Backlog));

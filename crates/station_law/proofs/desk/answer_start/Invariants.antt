@@ -1,5 +1,6 @@
 use Rattle.std.proofs.Common.{◌≡◌, ◌-◌, length, map, drop}
 use Rattle.station_desk.specs.Start.{told_desk}
+use Rattle.sle_numbers.specs.RequestedFrameQuality.{number_of}
 use Rattle.station_law.specs.Desk.{said_at_start}
 use Rattle.station_law.specs.Said.{handed, texts}
 use Rattle.station_law.specs.Steps.{Behind}
@@ -9,10 +10,10 @@ use Rattle.station_law.proofs.desk.answer_start.Given as goal
 abbrev pub invariant-loop-buffers : goal.invariant-loop-buffers
 invariant-loop-buffers g l = record {
   of_start : l.buffers.buffers
-      ≡ told_desk (g.L.Looks.entries l.archive) l.start l.stop l.quality;
+      ≡ told_desk (g.L.Looks.entries l.archive) l.start l.stop (number_of l.quality);
   behind : Behind (g.O.Sink.written l.initial.output) (g.O.Sink.written l.output)
       (g.O.Sink.faults l.initial.output) (g.O.Sink.faults l.output)
-      (texts (said_at_start (g.L.Looks.entries l.archive) l.start l.stop l.quality))
+      (texts (said_at_start (g.L.Looks.entries l.archive) l.start l.stop (number_of l.quality)))
       (texts (map (handed 0) (drop l.buffers.count l.buffers.buffers)));
 }
 
