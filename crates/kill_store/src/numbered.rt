@@ -1,12 +1,16 @@
 // The entry that stands behind so many others.
-ghost use Rattle.std.specs.Prelude.{◌≡◌, IfOk, IsTrue};
+ghost use Rattle.std.specs.Prelude.{◌≡◌, ◌%◌, IfOk, IsTrue};
 ghost use Rattle.archive_terms.specs.Archive.{is_valid};
+ghost use Rattle.sle_numbers.specs.FrameQuality.{number_of as quality_number};
+ghost use Rattle.sle_numbers.specs.LockStatus.{number_of as lock_number};
+ghost use Rattle.sle_numbers.specs.ReturnProductionStatus.{number_of as production_number};
 ghost use Rattle.record_form.specs.Entry.{entry_of};
 ghost use Rattle.kill_store.specs.Numbered.{time_of, numbered};
 
 use cds_time::{Cds, Rest};
 use octet_core::{Memory, Octets};
 use record_form::Entry;
+use sle_numbers::{FrameQuality, LockStatus, Numbered, ReturnProductionStatus};
 use std::alloc::Global;
 
 // A time that rises with the number, up to 86,400,000.
@@ -18,6 +22,34 @@ fn time_of(number: u64) -> Cds
         millis: (number % 86_400_000) as u32,
         rest: Rest::Micros(0),
     }
+}
+
+// The values of tables in turn.
+fn quality_of(number: u64) -> FrameQuality
+    ensures { quality_number result ≡ number % 3 }
+{
+    let Some(quality) = FrameQuality::from_number((number % 3) as u8) else {
+        unreachable!()
+    };
+    quality
+}
+
+fn lock_of(number: u64) -> LockStatus
+    ensures { lock_number result ≡ number % 4 }
+{
+    let Some(lock) = LockStatus::from_number((number % 4) as u8) else {
+        unreachable!()
+    };
+    lock
+}
+
+fn status_of(number: u64) -> ReturnProductionStatus
+    ensures { production_number result ≡ number % 3 }
+{
+    let Some(status) = ReturnProductionStatus::from_number((number % 3) as u8) else {
+        unreachable!()
+    };
+    status
 }
 
 /// The entry of a number: of eight in turn five frames of up to 1,000 octets, a loss of frame
@@ -32,14 +64,15 @@ pub fn numbered(alloc: Global, number: u64) -> Result<Entry, Memory>
     if kind == 5 {
         return Ok(Entry::LossOfSync {
             at,
-            carrier: (number % 4) as u8,
-            subcarrier: 1,
-            symbol: 2,
+            carrier: lock_of(number),
+            subcarrier: LockStatus::OutOfLock,
+            symbol: LockStatus::NotInUse,
         });
     }
     if kind == 6 {
-        let status = (number % 3) as u8;
-        return Ok(Entry::Production { status });
+        return Ok(Entry::Production {
+            status: status_of(number),
+        });
     }
     if kind == 7 {
         return Ok(Entry::Seal { at });
@@ -48,7 +81,7 @@ pub fn numbered(alloc: Global, number: u64) -> Result<Entry, Memory>
     let octets = vec![in alloc; (number % 251) as u8; length as usize]?;
     Ok(Entry::Frame {
         ert: at,
-        quality: (number % 3) as u8,
+        quality: quality_of(number),
         antenna: Octets::copy_of(alloc, b"A")?,
         lost: (number % 10) as u32,
         octets: Octets::from_vec(alloc, octets)?,
