@@ -247,12 +247,12 @@ fn ask_told(alloc: Global, ask: &AskLine) -> Result<String, AllocError> {
             id,
             earliest,
             latest,
-            delay,
+            radiation_delay,
             wanted,
             octets,
         } => format!(in alloc;
-            "Cltu {{ id: {id}, earliest: {earliest:?}, latest: {latest:?}, delay: {delay}, \
-            wanted: {wanted}, octets: {:?} }}",
+            "Cltu {{ id: {id}, earliest: {earliest:?}, latest: {latest:?}, \
+            radiation_delay: {radiation_delay}, wanted: {wanted}, octets: {:?} }}",
             octets.as_slice()
         ),
         _ => format!(in alloc; "{ask:?}"),
@@ -313,7 +313,7 @@ stall 8 9 = Stall { c: 8, n: 9 }|
 take = Take { fail: false }|
 take fail = Take { fail: true }|
 done = Done|
-uplink 1 2 = Uplink { production: 1, status: 2 }|
+uplink 1 2 = Uplink { production: Configured, status: NoBitLock }|
 crash 3 torn = Crash { k: 3, pick: Torn }|
 crash 4 old = Crash { k: 4, pick: Old }|
 crash 5 new = Crash { k: 5, pick: New }|
@@ -335,8 +335,8 @@ in 9 0aFf = Piece { c: 9, octets: [10, 255] }|
 ask 3 bind MOC 2 5 sagr=1.cltu=x = Ask { c: 3, ask: Bind { name: [77, 79, 67], service: 2,
     version: 5, id: sagr=1.cltu=x } }|
 ask 1 cltu 7 none 20000/0/10 8 1 aa0007 = Ask { c: 1, ask: Cltu { id: 7, earliest: None,
-    latest: Some(Cds { days: 20000, millis: 0, rest: Micros(10) }), delay: 8, wanted: false,
-    octets: [170, 0, 7] } }|";
+    latest: Some(Cds { days: 20000, millis: 0, rest: Micros(10) }), radiation_delay: 8,
+    wanted: false, octets: [170, 0, 7] } }|";
 
 // A line of `head`, so many octets 00 and `tail`.
 fn long_line(

@@ -290,7 +290,7 @@ in 1 MOC-16-5-FW=heard 101 stalled OK-5
 start 1 7=Started { now: 0 }
 uplink 3
 round 1=stalled OK-5
-told 1=notice 3
+told 1=notice productionHalted
 ";
 
 pub const TIMED: &str = "\

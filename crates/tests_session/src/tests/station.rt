@@ -5,6 +5,7 @@ ghost use Rattle.station_config.specs.Validity.{IsSite};
 
 use super::step::{Step, What};
 use super::telling::{calls_told, spoken_told};
+use fcltu_numbers::{CltuProductionStatus, UplinkStatus};
 use frame_select::Want;
 use link_model::MemoryLink;
 use octet_core::{Memory, Octets};
@@ -169,6 +170,16 @@ impl Station {
         format!(in self.alloc; "nobody ")
     }
 
+    // Reads a production status by its number.
+    fn uplink(&mut self, step: &Step) {
+        let production = match step.door {
+            0 => CltuProductionStatus::Operational,
+            _ => CltuProductionStatus::Halted,
+        };
+        self.book
+            .uplink(production, UplinkStatus::UplinkStatusNotAvailable, 0);
+    }
+
     // Does a step, and tells what it led to.
     pub fn play(&mut self, site: &Site, step: &Step) -> Result<String, AllocError>
         requires { IsSite site.now }
@@ -177,7 +188,7 @@ impl Station {
             What::Clock => self.clock = step.door,
             What::Open => self.open(step)?,
             What::Quit => self.book.quit(step.door),
-            What::Uplink => self.book.uplink((step.door % 4) as u8, 0, 0),
+            What::Uplink => self.uplink(step),
             What::Moment => {
                 let micros = self.book.peek(0) / 1_000_000;
                 return format!(in self.alloc; "{micros} ");
