@@ -1,10 +1,10 @@
 -- What the program promises of a command, by the plan of its words. This product's own rules.
-use Rattle.std.specs.Prelude.{◌≡◌, ◌⊎◌, ℕ, Option, None, Some, IfSome, IsSome, IsSomeAnd, List, ◌∷◌}
-use Rattle.std.specs.Prelude.{◌++◌, [], codes}
+use Rattle.std.specs.Prelude.{◌≡◌, ◌⊎◌, ℕ, true, false, Option, None, Some, IfSome, IsSome}
+use Rattle.std.specs.Prelude.{IsSomeAnd, List, ◌∷◌, ◌++◌, [], codes}
 use Rattle.std.specs.declared.io.ErrorKind.{ErrorKind}
 use Rattle.std.specs.declared.io.ErrorKind.TheVariants.{OutOfMemory}
 use Rattle.disk_model.specs.FileDisk.{FileState}
-use Rattle.disk_model.specs.RawFile.{Asked}
+use Rattle.disk_model.specs.RawFile.{Asked, HasFile}
 use Rattle.disk_model.specs.Images.{Pending}
 use Rattle.provider_cli.specs.declared.plan.Plan.{Plan}
 use Rattle.provider_cli.specs.declared.plan.Plan.TheVariants as plans
@@ -43,11 +43,19 @@ pub record IsNoDisk (kind : ErrorKind) (before after : Option (List ℕ))
   pub fault : ¬ (kind ≡ OutOfMemory) → Tells before after faults_before faults_after
       (codes "disk fault" ++ 10 ∷ []) DiskFault exit
 
--- It does what is promised on some file, which tells none of its octets.
+-- The file is the one at exactly the path that the command names. It is locked, and it was made
+-- where there was none by `init` alone, which synced its name.
+abbrev pub IsFileOf : Option Plan → Asked → Type 0
+IsFileOf (Some (Init path)) file = HasFile path true file None
+IsFileOf (Some (plans.List path)) file = HasFile path false file None
+IsFileOf _ file = ⊥
+
+-- It does what is promised on the file of its path, which tells none of its octets.
 pub record IsOnFile (plan : Option Plan) (before after : Outside) (exit : ℕ) : Type 0 where
   pub old : Option (FileState Asked)
   pub new : Option (FileState Asked)
   pub has : NeedsDisk plan → IsSome old
+  pub of_path : IfSome old (λ found. IsFileOf plan found.file)
   pub provided : IsProvided (λ _. None) (λ disk. disk.size) (λ _. 0) (λ _ _ _. ⊥)
       (λ disk. disk.faults) plan old new before after exit
 

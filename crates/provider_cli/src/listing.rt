@@ -1,5 +1,5 @@
 // The lines that offer entries, written a block at a time.
-ghost use Rattle.std.specs.Prelude.{◌≡◌, ◌≤◌, ◌++◌, [], drop, length};
+ghost use Rattle.std.specs.Prelude.{◌≡◌, ◌≤◌, ◌<◌, ◌^◌, ◌++◌, [], drop, length};
 ghost use Rattle.std.specs.Prelude.{IsTrue, OnOk, OnErr, IfOk, IfSome};
 ghost use Rattle.std.specs.List.{list_all};
 ghost use Rattle.octet_core.specs.Fault.{Rose};
@@ -160,6 +160,7 @@ fn put_entry<O: Sink>(
     ensures stopped { OnErr result (Wrote (O.written output.old) (O.written output.new)
         (O.faults output.old) (O.faults output.new)
         (block.old.items ++ entry_text (offered (lent_entry entry.entry))) result) }
+    ensures rest { OnOk result (length block.new.items < 2 ^ 17) }
 {
     append_entry_line(alloc, entry, block)?;
     put_full(block, output)
@@ -167,9 +168,10 @@ fn put_entry<O: Sink>(
 
 // Writes what a block holds in whole lengths of a full one, and keeps what stands behind them.
 fn put_full<O: Sink>(block: &mut Vec<u8>, output: &mut O) -> Result<(), Stop>
-    ensures { Empties (O.written output.old) (O.written output.new)
+    ensures written { Empties (O.written output.old) (O.written output.new)
         (O.faults output.old) (O.faults output.new)
         block.old.items block.new.items result }
+    ensures rest { length block.new.items < 2 ^ 17 }
 {
     let full = block.len() - block.len() % BLOCK;
     if full == 0 {

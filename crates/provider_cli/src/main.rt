@@ -12,11 +12,12 @@
 ghost use Rattle.std.specs.Prelude.{◌≡◌, ◌↔◌, IfOk, IfErr, IfSome, OnErr, IsErr, IsSome};
 ghost use Rattle.std.specs.Prelude.{[], drop, map, string_bytes};
 ghost use Rattle.std.specs.IoError.{error_kind};
+ghost use Rattle.std.specs.Process.{exit_status};
 ghost use Rattle.std.specs.Str.{IsUtf8};
 ghost use Rattle.std.specs.Vec.Iter.{into_iter_items};
-ghost use Rattle.provider_cli.specs.Command.{plan_of, asked, NeedsDisk};
+ghost use Rattle.provider_cli.specs.Command.{plan_of, asked, NeedsDisk, IsUntold};
 ghost use Rattle.provider_cli.specs.Outside.{showing};
-ghost use Rattle.provider_cli.specs.Provided.{IsAnswered};
+ghost use Rattle.provider_cli.specs.Provided.{IsAnswered, IsFileOf};
 
 mod archive_file;
 mod command;
@@ -53,8 +54,28 @@ fn main(rt: HostRuntime) -> ExitCode {
         output: WriterSink::new(io::writer(&rt)),
         disk: None,
     };
-    let exit = match words_of(rt.alloc(), env::args(&rt)) {
-        Ok(words) => answer(&rt, words.as_slice(), &mut kit),
+    let words = words_of(rt.alloc(), env::args(&rt));
+    exit_of(&rt, words, &mut kit)
+}
+
+// Runs the command of the words that the system gave, and answers the exit code to end with.
+fn exit_of<I: Source, O: Sink>(
+    rt: &HostRuntime,
+    words: Result<Vec<String>, AllocError>,
+    kit: &mut Equipment<I, O, FileDisk>,
+) -> ExitCode
+    ensures answered { IfOk words (λ words. IsAnswered (plan_of (map string_bytes words.items))
+        (showing (I.left kit.old.input) (I.faults kit.old.input)
+        (O.written kit.old.output) (O.faults kit.old.output))
+        (showing (I.left kit.new.input) (I.faults kit.new.input)
+        (O.written kit.new.output) (O.faults kit.new.output))
+        (exit_status result)) }
+    ensures memory { OnErr words (IsUntold (O.written kit.old.output) (O.written kit.new.output)
+        (O.faults kit.old.output) (O.faults kit.new.output) (exit_status result)) }
+    ensures unread { OnErr words (kit.new.input ≡ kit.old.input) }
+{
+    let exit = match words {
+        Ok(words) => answer(rt, words.as_slice(), kit),
         Err(_) => Status::Memory.code(),
     };
     ExitCode::from(exit)
@@ -141,6 +162,8 @@ fn disk_of(rt: &HostRuntime, words: &[&str]) -> io::Result<Option<FileDisk>>
     ensures none { IfOk result (λ disk. ¬ NeedsDisk (asked words.now) → disk ≡ None) }
     ensures needed { OnErr result (NeedsDisk (asked words.now)) }
     ensures faults { IfOk result (λ disk. IfSome disk (λ disk. disk.faults ≡ 0)) }
+    ensures file { IfOk result (λ disk. IfSome disk (λ disk. IsFileOf (asked words.now)
+        disk.file)) }
 {
     match plan(rt.alloc(), words) {
         Ok(Some(Plan::Init { path })) => Ok(Some(FileDisk::create(rt, text_of(&path)?)?)),

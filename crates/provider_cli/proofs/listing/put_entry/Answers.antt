@@ -16,11 +16,11 @@ returns-clause-held g c =
     put_on _ _ _ _ c.args.block.now.items
     (entry_text (offered (lent_entry c.args.entry))) _ _ c.in_ok-append_entry_line.ensures
     c.put_full.result
-    c.put_full.ensures
+    c.put_full.ensures.written
 
 pub returns-clause-stopped : goal.returns-clause-stopped
 returns-clause-stopped g c =
     put_halted _ _ _ _ c.args.block.now.items
     (entry_text (offered (lent_entry c.args.entry))) _ _ c.in_ok-append_entry_line.ensures
     c.put_full.result
-    c.put_full.ensures
+    c.put_full.ensures.written

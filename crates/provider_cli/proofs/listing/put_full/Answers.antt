@@ -2,8 +2,8 @@ use Rattle.std.proofs.Common.{◌-◌, ◌%◌, take, sym}
 use Rattle.std.proofs.lemmas.List.{take-append-drop}
 use Rattle.provider_cli.proofs.listing.put_full.Goals as goal
 
-pub returns : goal.returns
-returns g c =
+pub returns-clause-written : goal.returns-clause-written
+returns-clause-written g c =
     let full = c.len.result - c.len-2.result % 131072 in
     let held = c.args.block.now.items in
     record {
