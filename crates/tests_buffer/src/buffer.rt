@@ -38,6 +38,18 @@ fn a_buffer_is_full_by_items_or_by_524_288_octets(rt: HostRuntime) -> Result<(),
     Ok(())
 }
 
+// A buffer takes its memory before all else, so that want of it would come first: with ample memory
+// it doesn't, at the most items that a configuration gives.
+#[test]
+fn a_buffer_of_1_000_items_takes_1_000(rt: HostRuntime) -> Result<(), Fail> {
+    let mut buffer: Buffer<u8> = Buffer::new(rt.alloc(), 1_000)?;
+    for place in 0..1_000u32 {
+        assert!(rt; put_if_open(&mut buffer, 0, 0, false), "{place}");
+    }
+    assert_eq!(rt; (buffer.full(), buffer.room()), (true, 0));
+    Ok(())
+}
+
 // A moment, a latency, whether the items are the last ones, and whether an item of the moment 100
 // is due, without a notification and with one.
 const DUES: [(u128, Option<u128>, bool, bool, bool); 5] = [

@@ -90,6 +90,32 @@ fn files_are_recovered_so(rt: HostRuntime) -> Result<(), Fail> {
     Ok(())
 }
 
+// The header, and batches of one frame of 65,536 octets each.
+fn large_file(alloc: Global, batches: u32) -> Result<Vec<u8>, AllocError> {
+    let mut file = Vec::from_slice(alloc, b"SLEA\x00\x00\x00\x01")?;
+    for _ in 0..batches {
+        file.extend_from_slice(
+            b"\xa5\x00\x01\x00\x15\x00\x01\x01\x00\x4e\x20\x00\x00\x03\xe8\x00\x00\
+            \x00\x01A\x00\x00\x00\x00\x00\x01\x00\x00",
+        )?;
+        let end = file.len().saturating_add(65_536);
+        file.resize(end, 0)?;
+    }
+    Ok(file)
+}
+
+// A file is held in memory before it is read, so that want of memory would come first: with ample
+// memory it doesn't, behind more than a megabyte.
+#[test]
+fn damage_behind_a_megabyte_is_told(rt: HostRuntime) -> Result<(), Fail> {
+    let mut file = large_file(rt.alloc(), 16)?;
+    file.push(0xa5)?;
+    let disk = MemoryDisk::holding(rt.alloc(), &file)?;
+    let told = recover(rt.alloc(), disk).1?;
+    assert_eq!(rt; told.as_str(), "damaged at octet 1049033");
+    Ok(())
+}
+
 // How many entries a reading lends.
 fn count(batches: &Batches) -> usize {
     let mut batch = batches.batch();
