@@ -1,96 +1,149 @@
-// Connections by scripts. The expected octets were spelled by hand (X.690, and CCSDS 911.1-B and
-// 913.1-B for the fields of the messages).
-ghost use Rattle.std.specs.Prelude.{IfOk};
+// Connections by the lines of scripts: each call once. Scripts of several connections are run by
+// the built program. The expected octets were spelled by hand (X.690, and CCSDS 911.1-B and 913.1-B
+// for the fields of the messages).
+ghost use Rattle.std.specs.Prelude.{◌<◌};
 ghost use Rattle.station_config.specs.Validity.{IsSite};
 
-use station::Station;
+use drill_text::{ScriptLine, parse_line, write_line};
+use octet_core::{Memory, Octets};
+use record_form::Entries;
+use station_book::Book;
 use station_config::Site;
-use station_links::AskFault;
-use std::alloc::{AllocError, Global};
+use station_links::{AskFault, Connection, LinkLine, Turn, laws};
+use std::alloc::Global;
 use std::process::Abort;
-use std::test::Fail;
-
-mod rows;
-mod station;
 
 const SITE: &[u8] = b"\
 peer MOC none sha1 60 000000000000\n\
-peer OTHER none sha1 60 000000000000\n\
-peer SEC bind sha1 60 000000000000\n\
-raf sagr=1.spack=P.rsl-fg=1.raf=onlt1 MOC timely 1 5 60\n\
-raf sagr=1.spack=P.rsl-fg=1.raf=onlc1 MOC complete 1 5 60\n\
-raf sagr=1.spack=P.rsl-fg=1.raf=offl1 MOC offline 2 0 60\n\
-raf sagr=1.spack=P.rsl-fg=1.raf=onlc2 MOC complete 10 5 60\n\
-rcf sagr=1.spack=P.rsl-fg=1.rcf=onlc1 MOC complete 1 5 60 1/1/63\n\
-cltu sagr=1.spack=P.fsl-fg=1.cltu=cltu1 MOC 1000 100 60\n";
+raf sagr=1.spack=P.rsl-fg=1.raf=onlc1 MOC complete 1 5 60\n";
 
-fn site_of(alloc: Global) -> Result<Site, AllocError>
-    ensures { IfOk result IsSite }
-{
-    Site::parse(alloc, SITE).map_err(|_| AllocError)
+// Lines, behind each of which connection 1 makes a round, and what it says. The first has a BIND of
+// MOC to onlc1, version 5, in two pieces, and the second the same by its words.
+const SCRIPTS: [(&str, &str); 4] = [
+    (
+        "\
+ask 1 context 30 5
+in 1 010000000000005dbf645a80001a034d4f431a05504f525431020100020105304431
+in 1 0e300c06072b7004030102341a0131310e300c06072b7004030102351a0150310e300c06072b7004030102261a0131\
+3112301006072b7004030102161a056f6e6c6331
+shut 1",
+        "\
+sent 1 0100000000000011bf650e80001a0753544154494f4e800105
+ended 1 closed
+",
+    ),
+    (
+        "\
+ask 1 context 30 5
+ask 1 bind MOC 0 5 sagr=1.spack=P.rsl-fg=1.raf=onlc1
+ask 1 unbind",
+        "\
+sent 1 0100000000000011bf650e80001a0753544154494f4e800105
+sent 1 0100000000000007bf670480008000
+ended 1 unbound
+",
+    ),
+    (
+        "\
+ask 1 context 30 5
+stall 1 1
+ask 1 bind MOC 0 5 sagr=1.spack=P.rsl-fg=1.raf=onlc1
+round 1 1",
+        "\
+stalled 1
+sent 1 0100000000000011bf650e80001a0753544154494f4e800105
+",
+    ),
+    (
+        "\
+ask 1 context 30 5
+break 1",
+        "\
+ended 1 fault
+",
+    ),
+];
+
+// What a line orders of a connection.
+fn order(alloc: Global, line: &str, connection: &mut Connection) -> Result<(), AskFault> {
+    match parse_line(alloc, line.as_bytes()) {
+        Ok(ScriptLine::Ask { ask, .. }) => connection.ask(alloc, &ask),
+        Ok(ScriptLine::Piece { octets, .. }) => Ok(connection.arrive(octets)?),
+        Ok(ScriptLine::Shut { .. }) => Ok(connection.shut()),
+        Ok(ScriptLine::Break { .. }) => Ok(connection.break_poll()),
+        Ok(ScriptLine::Stall { n, .. }) => Ok(connection.stall(n)),
+        _ => Ok(()),
+    }
 }
 
-// The first line that isn't done, if there is one; and what was said.
-fn first_undone<'a>(
-    station: &mut Station,
+fn write_lines(alloc: Global, said: &[LinkLine], text: &mut Octets) -> Result<(), Memory> {
+    for line in said {
+        write_line(alloc, &line.of_connection(1), text)?;
+    }
+    Ok(())
+}
+
+// A round, and the connection behind it, if it is there still.
+fn turn(
+    alloc: Global,
     site: &Site,
-    script: &'a str,
-) -> Result<Option<&'a str>, AskFault>
+    book: &mut Book,
+    connection: Connection,
+    text: &mut Octets,
+) -> Result<Option<Connection>, Memory>
     requires { IsSite site.now }
 {
-    for line in script.lines() {
-        if !station.play(site, line.as_bytes())? {
-            return Ok(Some(line));
+    let Turn { said, connection } = connection.round(alloc, site, book, 0)?;
+    write_lines(alloc, &said, text)?;
+    Ok(connection)
+}
+
+// What a connection says of these lines, as long as it is there.
+fn play(
+    alloc: Global,
+    site: &Site,
+    book: &mut Book,
+    lines: &str,
+    text: &mut Octets,
+) -> Result<(), AskFault>
+    requires { IsSite site.now }
+{
+    let mut there = Connection::new(alloc, 1, 0)?;
+    for line in lines.lines() {
+        order(alloc, line, &mut there)?;
+        match turn(alloc, site, book, there, text)? {
+            Some(connection) => there = connection,
+            None => return Ok(()),
         }
     }
-    Ok(None)
-}
-
-// All lines of this script are done, and it says this.
-fn says(rt: &impl Abort, alloc: Global, script: &str, text: &str) -> Result<(), AllocError> {
-    ends_at(rt, alloc, script, None, text)
-}
-
-// A script says this up to its first line that isn't done.
-fn ends_at(
-    rt: &impl Abort,
-    alloc: Global,
-    script: &str,
-    undone: Option<&str>,
-    text: &str,
-) -> Result<(), AllocError> {
-    let site = site_of(alloc)?;
-    let mut station = Station::new(alloc, &site)?;
-    assert_eq!(rt; first_undone(&mut station, &site, script), Ok(undone));
-    assert_eq!(rt; station.said(), text.as_bytes());
     Ok(())
 }
 
-#[test]
-fn scripts_say_what_they_say(rt: HostRuntime) -> Result<(), Fail> {
-    for (script, said) in rows::ROWS {
-        says(&rt, rt.alloc(), script, said)?;
+fn says_at(alloc: Global, site: &Site, lines: &str, text: &str) -> Result<bool, AskFault>
+    requires { IsSite site.now }
+{
+    let mut book = Book::new(alloc, site, Entries::new(alloc), 0)?;
+    let mut said = Octets::new(alloc);
+    play(alloc, site, &mut book, lines, &mut said)?;
+    Ok(said.as_slice() == text.as_bytes())
+}
+
+fn says(alloc: Global, lines: &str, text: &str) -> Result<bool, AskFault> {
+    match Site::parse(alloc, SITE) {
+        Ok(site) => says_at(alloc, &site, lines, text),
+        Err(_) => Err(AskFault::Memory),
     }
-    Ok(())
 }
 
 #[test]
-fn a_line_in_a_wrong_state_is_not_done(rt: HostRuntime) -> Result<(), Fail> {
-    for (script, undone, said) in rows::UNDONE {
-        ends_at(&rt, rt.alloc(), script, Some(undone), said)?;
+fn scripts_say_what_they_say(rt: HostRuntime) {
+    for (lines, text) in SCRIPTS {
+        assert_eq!(rt; says(rt.alloc(), lines, text), Ok(true));
     }
-    Ok(())
+    laws::runs_are_sessions();
 }
 
 #[test]
-fn a_message_that_is_not_built_is_refused(rt: HostRuntime) -> Result<(), Fail> {
-    let alloc = rt.alloc();
-    let site = site_of(alloc)?;
-    let mut station = Station::new(alloc, &site)?;
-    let lines = "open 1\nask 1 context 30 5\nask 1 stop\n";
-    assert_eq!(rt;
-        first_undone(&mut station, &site, lines),
-        Err(AskFault::NotBuilt)
-    );
-    Ok(())
+fn a_message_that_is_not_built_is_refused(rt: HostRuntime) {
+    assert_eq!(rt; says(rt.alloc(), "ask 1 stop", ""), Err(AskFault::NotBuilt));
 }
