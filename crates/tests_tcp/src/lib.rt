@@ -5,8 +5,8 @@
 #[cfg(test)]
 mod beside;
 #[cfg(test)]
+mod doors;
+#[cfg(test)]
+mod links;
+#[cfg(test)]
 mod loopback;
-#[cfg(test)]
-mod tcp_door;
-#[cfg(test)]
-mod tcp_link;
