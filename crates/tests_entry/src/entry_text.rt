@@ -3,15 +3,26 @@ ghost use Rattle.std.specs.Prelude.{◌≤◌, length};
 
 use octet_core::Octets;
 use record_form::{
-    Entry, entry_length, read_entry, read_entry_at, read_entry_ref_at, read_ert_at, write_entry,
+    Entry, EntryFault, EntryRef, Memory, entry_length, read_entry, read_entry_at,
+    read_entry_ref_at, write_entry,
 };
 use sle_numbers::Numbered;
-use std::alloc::Global;
-use std::test::Fail;
+use std::alloc::{AllocError, Global};
+use std::fmt::Write;
 
-// An entry: a frame by its fields, with the number of its octets alone where they are over 1,000.
-fn fields_text(alloc: Global, entry: &Entry) -> Result<String, Fail> {
-    Ok(match entry {
+// Octets, but of over 1,000 their number alone.
+fn tell_frame_octets(octets: &[u8], told: &mut String) -> Result<(), AllocError> {
+    if octets.len() <= 1_000 {
+        return write!(told, "{octets:?} ");
+    }
+    let first = octets.first().copied();
+    let is_one = octets.iter().all(|octet| first == Some(*octet));
+    write!(told, "{} octets, all alike: {is_one} ", octets.len())
+}
+
+// An entry: a frame by its fields.
+fn tell_fields(entry: &Entry, told: &mut String) -> Result<(), AllocError> {
+    match entry {
         Entry::Frame {
             ert,
             quality,
@@ -20,84 +31,102 @@ fn fields_text(alloc: Global, entry: &Entry) -> Result<String, Fail> {
             octets,
         } => {
             let antenna = antenna.as_slice();
-            let head = format!(in alloc; "frame {ert:?} {} {antenna:?} {lost}", quality.number())?;
-            let octets = octets.as_slice();
-            if octets.len() > 1_000 {
-                let first = octets.first().copied();
-                let is_one = octets.iter().all(|octet| first == Some(*octet));
-                format!(in alloc; "{head} {} octets, all alike: {is_one}", octets.len())?
-            } else {
-                format!(in alloc; "{head} {octets:?}")?
-            }
+            write!(
+                told,
+                "frame {ert:?} {} {antenna:?} {lost} ",
+                quality.number()
+            )?;
+            tell_frame_octets(octets.as_slice(), told)
         }
-        _ => format!(in alloc; "{entry:?}")?,
-    })
+        _ => write!(told, "{entry:?} "),
+    }
 }
 
 // Whether an entry is written as these octets, whose number is told beforehand.
-fn is_written_so(alloc: Global, entry: &Entry, octets: &[u8]) -> Result<bool, Fail> {
+fn is_written_so(alloc: Global, entry: &Entry, octets: &[u8]) -> Result<bool, Memory> {
     if !entry.is_valid() || !entry.is_storable() {
         return Ok(false);
     }
     let mut written = Octets::new(alloc);
     write_entry(entry, &mut written)?;
-    let length = entry_length(entry);
-    Ok(written.as_slice() == octets && length == octets.len() as u64)
+    Ok(written.as_slice() == octets && entry_length(entry) == octets.len() as u64)
+}
+
+fn tell_written(
+    alloc: Global,
+    entry: &Entry,
+    length: usize,
+    octets: &[u8],
+    told: &mut String,
+) -> Result<(), AllocError> {
+    tell_fields(entry, told)?;
+    if length == octets.len() && is_written_so(alloc, entry, octets)? {
+        Ok(())
+    } else {
+        told.push_str("written otherwise")
+    }
 }
 
 /// Of octets: the entry, or why there is none. Where they aren't those of the entry, it is said.
-pub fn entry_text(alloc: Global, octets: &[u8]) -> Result<String, Fail> {
-    let (entry, length) = match read_entry(alloc, octets) {
-        Ok(read) => read,
-        Err(fault) => return Ok(format!(in alloc; "{fault}")?),
-    };
-    let fields = fields_text(alloc, &entry)?;
-    let otherwise = if is_written_so(alloc, &entry, octets)? && length == octets.len() {
-        ""
-    } else {
-        "written otherwise"
-    };
-    Ok(format!(in alloc; "{fields} {otherwise}")?)
-}
-
-/// The time of a frame that stands at this place, if one does.
-pub fn time_text(alloc: Global, place: usize, octets: &[u8]) -> Result<String, Fail> {
-    if place > octets.len() {
-        return Err(Fail::from("no such place"));
+pub fn tell_entry(alloc: Global, octets: &[u8], told: &mut String) -> Result<(), AllocError> {
+    match read_entry(alloc, octets) {
+        Ok((entry, length)) => tell_written(alloc, &entry, length, octets, told),
+        Err(fault) => write!(told, "{fault}"),
     }
-    Ok(format!(in alloc; "{:?}", read_ert_at(octets, place))?)
 }
 
-// Whether the entry at a place is lent as it is read there, also once more by its copy, or refused
-// alike.
-fn is_lent_as_read(alloc: Global, place: usize, octets: &[u8]) -> Result<bool, Fail>
+// Whether an entry is lent as it is read, also once more by its copy.
+fn is_lent_so(alloc: Global, lent: EntryRef<'_>, entry: &Entry) -> Result<bool, Memory> {
+    let copy = lent.to_entry(alloc)?;
+    let again = copy.lend().to_entry(alloc)?;
+    Ok(copy == *entry && again == *entry)
+}
+
+// Whether the entry at a place is lent so, with its end.
+fn is_read_so(
+    alloc: Global,
+    place: usize,
+    octets: &[u8],
+    lent: EntryRef<'_>,
+    end: usize,
+) -> Result<bool, Memory>
     requires { place ≤ length octets.now }
 {
-    let lent = read_entry_ref_at(octets, place);
-    match (lent, read_entry_at(alloc, octets, place)) {
-        (Ok((lent, end)), Ok((entry, same_end))) => {
-            let copy = lent.to_entry(alloc)?;
-            let again = copy.lend().to_entry(alloc)?;
-            Ok(copy == entry && again == entry && end == same_end)
-        }
-        (Err(fault), Err(same_fault)) => Ok(fault == same_fault),
-        _ => Ok(false),
+    match read_entry_at(alloc, octets, place) {
+        Ok((entry, same_end)) => Ok(is_lent_so(alloc, lent, &entry)? && end == same_end),
+        Err(_) => Ok(false),
+    }
+}
+
+// Whether the entry at a place is refused so.
+fn is_refused_so(alloc: Global, place: usize, octets: &[u8], fault: EntryFault) -> bool
+    requires { place ≤ length octets.now }
+{
+    match read_entry_at(alloc, octets, place) {
+        Ok(_) => false,
+        Err(same_fault) => fault == same_fault,
     }
 }
 
 /// The entry that is lent at this place and where it ends, or why there is none. Where one is read
 /// there otherwise, it is said.
-pub fn lent_text(alloc: Global, place: usize, octets: &[u8]) -> Result<String, Fail> {
-    if place > octets.len() {
-        return Err(Fail::from("no such place"));
-    }
-    let otherwise = if is_lent_as_read(alloc, place, octets)? {
-        ""
-    } else {
-        "read otherwise"
+pub fn tell_lent(
+    alloc: Global,
+    place: usize,
+    octets: &[u8],
+    told: &mut String,
+) -> Result<(), AllocError>
+    requires { place ≤ length octets.now }
+{
+    let is_same = match read_entry_ref_at(octets, place) {
+        Ok((entry, end)) => {
+            write!(told, "{entry:?} up to {end} ")?;
+            is_read_so(alloc, place, octets, entry, end)?
+        }
+        Err(fault) => {
+            write!(told, "{fault} ")?;
+            is_refused_so(alloc, place, octets, fault)
+        }
     };
-    Ok(match read_entry_ref_at(octets, place) {
-        Ok((entry, end)) => format!(in alloc; "{entry:?} up to {end} {otherwise}")?,
-        Err(fault) => format!(in alloc; "{fault} {otherwise}")?,
-    })
+    told.push_str(if is_same { "" } else { "read otherwise" })
 }

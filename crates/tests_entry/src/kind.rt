@@ -1,10 +1,11 @@
 // What is told of the text of a row, as a text.
-use crate::entry_text::{entry_text, lent_text, time_text};
-use crate::rows::octets_of;
-use crate::selection_text::selection_text;
+use crate::entry_text::{tell_entry, tell_lent};
+use crate::rows::{first_of, octets_of};
+use crate::selection_text::tell_selection;
 use frame_select::channel_of;
-use std::alloc::Global;
-use std::test::Fail;
+use record_form::read_ert_at;
+use std::alloc::{AllocError, Global};
+use std::fmt::Write;
 
 /// What a text is taken for.
 #[derive(Clone, Copy)]
@@ -21,19 +22,46 @@ pub enum Kind {
     Selection,
 }
 
-/// What is told of the text of a row.
-pub fn told(alloc: Global, kind: Kind, text: &str) -> Result<String, Fail> {
+/// Appends what is told of the text of a row.
+pub fn tell(alloc: Global, kind: Kind, text: &str, told: &mut String) -> Result<(), AllocError> {
     match kind {
-        Kind::Entry => entry_text(alloc, &octets_of(alloc, text)?),
-        Kind::Lent => {
-            let (place, octets) = text.split_once(' ').unwrap_or((text, ""));
-            lent_text(alloc, place.trim().parse()?, &octets_of(alloc, octets)?)
+        Kind::Selection => tell_selection(alloc, text, told),
+        Kind::Lent | Kind::FrameTime => {
+            let (place, text) = first_of(text);
+            let octets = octets_of(alloc, text)?;
+            tell_at(alloc, kind, place.parse().unwrap_or(0), &octets, told)
         }
-        Kind::FrameTime => {
-            let (place, octets) = text.split_once(' ').unwrap_or((text, ""));
-            time_text(alloc, place.trim().parse()?, &octets_of(alloc, octets)?)
+        _ => {
+            let octets = octets_of(alloc, text)?;
+            tell_octets(alloc, kind, &octets, told)
         }
-        Kind::Channel => { Ok(format!(in alloc; "{:?}", channel_of(&octets_of(alloc, text)?))?) }
-        Kind::Selection => selection_text(alloc, text),
+    }
+}
+
+fn tell_octets(
+    alloc: Global,
+    kind: Kind,
+    octets: &[u8],
+    told: &mut String,
+) -> Result<(), AllocError> {
+    match kind {
+        Kind::Entry => tell_entry(alloc, octets, told),
+        _ => write!(told, "{:?}", channel_of(octets)),
+    }
+}
+
+fn tell_at(
+    alloc: Global,
+    kind: Kind,
+    place: usize,
+    octets: &[u8],
+    told: &mut String,
+) -> Result<(), AllocError> {
+    if place > octets.len() {
+        return told.push_str("no such place");
+    }
+    match kind {
+        Kind::Lent => tell_lent(alloc, place, octets, told),
+        _ => write!(told, "{:?}", read_ert_at(octets, place)),
     }
 }

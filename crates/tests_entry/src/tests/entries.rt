@@ -1,23 +1,16 @@
 // Entries and their octets.
-use crate::kind::Kind;
-use crate::rows::{check, octets_of};
-use cds_time::{Cds, Rest};
-use octet_core::Octets;
+use crate::rows::octets_of;
+use crate::selection_text::frame;
+use cds_time::Cds;
 use record_form::{Entries, Entry, EntryFault, read_entry};
-use sle_numbers::{FrameQuality, LockStatus};
+use sle_numbers::LockStatus;
+use std::alloc::{AllocError, Global};
 use std::process::Abort;
 use std::test::Fail;
 
-#[test]
-fn entries_have_the_octets_of_their_form(rt: HostRuntime) -> Result<(), Fail> {
-    check(&rt, rt.alloc(), Kind::Entry, ENTRIES)?;
-    check(&rt, rt.alloc(), Kind::Entry, FAULTS)?;
-    check(&rt, rt.alloc(), Kind::FrameTime, TIMES)
-}
-
 // Kind, form and fields of the time, quality, antenna, lost, octets. The last moment of all, with
 // picoseconds; a frame at the ends of its ranges.
-const ENTRIES: &str = "
+pub const ENTRIES: &str = "
 01 00 4e20000003e80000 00 01 41 00000000 00000003 0010a1
     = frame Cds { days: 20000, millis: 1000, rest: Micros(0) } 0 [65] 0 [0, 16, 161]|
 02 00 4e20000007d00007 030200
@@ -33,7 +26,7 @@ const ENTRIES: &str = "
 // The kind; the form of the time, and milliseconds past the day's end; a frame's quality, its
 // antenna, the count of lost ones; a frame of no octets, and one of 65,539; octets that end too
 // early; the locks; the status; and the time of a seal.
-const FAULTS: &str = "
+pub const FAULTS: &str = "
 05 00 4e20000003e80000 00 01 41 00000000 00000003 0010a1 = no kind of entry: 0x05|
 01 02 4e20000003e80000 00 01 41 00000000 00000003 0010a1 = a field out of its range at octet 1|
 01 00 4e20060003e80000 00 01 41 00000000 00000003 0010a1 = a field out of its range at octet 1|
@@ -51,7 +44,7 @@ const FAULTS: &str = "
 04 01 ffff05265bff3b9acaff = a field out of its range at octet 1|";
 
 // A frame gives its time, which has the octets 1 to 9, whatever follows, also behind another entry.
-const TIMES: &str = "
+pub const TIMES: &str = "
 0 01 00 4e20000003e80000 00 01 41 00000000 00000003 0010a1
     = Some(Cds { days: 20000, millis: 1000, rest: Micros(0) })|
 0 01 00 4e20000003e80000 = Some(Cds { days: 20000, millis: 1000, rest: Micros(0) })|
@@ -66,14 +59,9 @@ const TIMES: &str = "
 13 02 00 4e20000007d00007 030200 01 00 4e20000003e80000 00 01 41 00000000 00000003 0010a1
     = Some(Cds { days: 20000, millis: 1000, rest: Micros(0) })|";
 
-#[test]
-fn an_entry_is_lent_as_it_is_read(rt: HostRuntime) -> Result<(), Fail> {
-    check(&rt, rt.alloc(), Kind::Lent, LENT)
-}
-
 // Each kind, and where it ends, also behind another entry; an entry that is cut, no kind of entry,
 // and a time that names no moment.
-const LENT: &str = "
+pub const LENT: &str = "
 0 01 00 4e20000003e80000 00 01 41 00000000 00000003 0010a1
     = Frame { ert: Cds { days: 20000, millis: 1000, rest: Micros(0) }, quality: Good, antenna: [65],
     lost: 0, octets: [0, 16, 161] } up to 24|
@@ -92,38 +80,28 @@ const LENT: &str = "
 
 const FRAME: &str = "01 00 4e20000003e80000 00 01 41 00000000 00000003 0010a1";
 
+fn is_cut(alloc: Global, octets: &[u8]) -> bool {
+    matches!(read_entry(alloc, octets), Err(EntryFault::Cut))
+}
+
 #[test]
 fn an_entry_that_ends_too_early_is_cut(rt: HostRuntime) -> Result<(), Fail> {
     let octets = octets_of(rt.alloc(), FRAME)?;
     for end in 0..octets.len() {
-        let read = read_entry(rt.alloc(), &octets[..end]);
-        assert_eq!(rt; read, Err(EntryFault::Cut));
+        assert!(rt; is_cut(rt.alloc(), &octets[..end]));
     }
     Ok(())
 }
 
 #[test]
 fn a_frame_of_65537_octets_is_valid_and_not_storable(rt: HostRuntime) -> Result<(), Fail> {
-    let octets = vec![in rt.alloc(); 0xaa; 65_537]?;
-    let long = Entry::Frame {
-        ert: Cds {
-            days: 20_000,
-            millis: 1_000,
-            rest: Rest::Micros(0),
-        },
-        quality: FrameQuality::Good,
-        antenna: Octets::copy_of(rt.alloc(), b"A")?,
-        lost: 0,
-        octets: Octets::from_vec(rt.alloc(), octets)?,
-    };
-    assert!(rt; long.is_valid());
-    assert!(rt; !long.is_storable());
+    let long = frame(rt.alloc(), "1000 0 65537*aa")?;
+    assert_eq!(rt; (long.is_valid(), long.is_storable()), (true, false));
     Ok(())
 }
 
-#[test]
-fn entries_are_kept_in_their_order(rt: HostRuntime) -> Result<(), Fail> {
-    let mut entries = Entries::new(rt.alloc());
+fn two_entries(alloc: Global) -> Result<Entries, AllocError> {
+    let mut entries = Entries::new(alloc);
     entries.push(Entry::LossOfSync {
         at: Cds::EPOCH,
         carrier: LockStatus::Unknown,
@@ -131,13 +109,17 @@ fn entries_are_kept_in_their_order(rt: HostRuntime) -> Result<(), Fail> {
         symbol: LockStatus::InLock,
     })?;
     entries.push(Entry::Seal { at: Cds::EPOCH })?;
-    assert_eq!(rt; entries.len(), 2);
-    assert!(rt;
-        matches!(
-            entries.as_slice(),
-            [Entry::LossOfSync { .. }, Entry::Seal { .. }]
-        )
-    );
+    Ok(entries)
+}
+
+fn is_in_order(entries: &[Entry]) -> bool {
+    matches!(entries, [Entry::LossOfSync { .. }, Entry::Seal { .. }])
+}
+
+#[test]
+fn entries_are_kept_in_their_order(rt: HostRuntime) -> Result<(), Fail> {
+    let entries = two_entries(rt.alloc())?;
+    assert!(rt; entries.len() == 2 && is_in_order(entries.as_slice()));
     Ok(())
 }
 

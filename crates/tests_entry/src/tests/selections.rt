@@ -1,18 +1,12 @@
 // The channel of a frame, and which frames a START asks for.
-use crate::kind::Kind;
-use crate::rows::check;
 use frame_select::{Item, Items};
 use sle_numbers::ReturnProductionStatus;
+use std::alloc::{AllocError, Global};
 use std::process::Abort;
 use std::test::Fail;
 
-#[test]
-fn a_header_names_its_channel(rt: HostRuntime) -> Result<(), Fail> {
-    check(&rt, rt.alloc(), Kind::Channel, HEADERS)
-}
-
 // The last rows are too short, or of an unknown version.
-const HEADERS: &str = "
+pub const HEADERS: &str = "
 0000 = Some(Gvcid { spacecraft: 0, version: 0, channel: Virtual(0) })|
 000f = Some(Gvcid { spacecraft: 0, version: 0, channel: Virtual(7) })|
 3ff0 = Some(Gvcid { spacecraft: 1023, version: 0, channel: Virtual(0) })|
@@ -31,17 +25,9 @@ bf00 = None|
 c000 = None|
 ff00 = None|";
 
-#[test]
-fn a_selection_takes_its_frames(rt: HostRuntime) -> Result<(), Fail> {
-    check(&rt, rt.alloc(), Kind::Selection, CHANNELS)?;
-    check(&rt, rt.alloc(), Kind::Selection, QUALITIES)?;
-    check(&rt, rt.alloc(), Kind::Selection, TIMES)?;
-    check(&rt, rt.alloc(), Kind::Selection, PLACES)
-}
-
 // Of three frames, one of spacecraft 7 and two of channel 63 of spacecraft 1, the last one is
 // erred. A frame has its milliseconds, its quality and its octets.
-const CHANNELS: &str = "
+pub const CHANNELS: &str = "
 channel 1 1 63: 0 frame 500 0 007ea0 = false|
 channel 1 1 63: 1 frame 1000 0 407fa1 = true|
 channel 1 1 63: 2 frame 1500 1 407fa2 = false|
@@ -49,7 +35,7 @@ channel 1 1 *: 0 frame 500 0 007ea0 = false|
 channel 1 1 *: 1 frame 1000 0 407fa1 = true|
 channel 1 1 *: 2 frame 1500 1 407fa2 = false|";
 
-const QUALITIES: &str = "
+pub const QUALITIES: &str = "
 quality 0: 0 frame 0 0 00 = true|
 quality 0: 0 frame 0 1 00 = false|
 quality 0: 0 frame 0 2 00 = false|
@@ -61,7 +47,7 @@ quality 2: 0 frame 0 1 00 = true|
 quality 2: 0 frame 0 2 00 = true|";
 
 // From start to stop: at the frame's time, and a picosecond before or after it.
-const TIMES: &str = "
+pub const TIMES: &str = "
 all: 0 frame 1000 0 00 = true|
 start at, stop at: 0 frame 1000 0 00 = true|
 start after: 0 frame 1000 0 00 = false|
@@ -69,23 +55,27 @@ stop before: 0 frame 1000 0 00 = false|
 start before, stop after: 0 frame 1000 0 00 = true|";
 
 // From the first position on, and no other entry than a frame.
-const PLACES: &str = "
+pub const PLACES: &str = "
 first 5: 4 frame 1000 0 00 = false|
 first 5: 5 frame 1000 0 00 = true|
 all: 0 seal = false|
 all: 0 production = false|";
 
-#[test]
-fn items_are_kept_in_order(rt: HostRuntime) -> Result<(), Fail> {
-    let mut items = Items::new(rt.alloc());
-    assert!(rt; items.is_empty());
+fn two_items(alloc: Global) -> Result<Items, AllocError> {
+    let mut items = Items::new(alloc);
     items.push(Item::Backlog)?;
     items.push(Item::Production {
         place: 3,
         status: ReturnProductionStatus::Interrupted,
     })?;
-    assert_eq!(rt; items.len(), 2);
-    assert!(rt; items.as_slice().first() == Some(&Item::Backlog));
-    assert_eq!(rt; items.into_vec().len(), 2);
+    Ok(items)
+}
+
+#[test]
+fn items_are_kept_in_order(rt: HostRuntime) -> Result<(), Fail> {
+    assert!(rt; Items::new(rt.alloc()).is_empty());
+    let items = two_items(rt.alloc())?;
+    let first_is_so = items.as_slice().first() == Some(&Item::Backlog);
+    assert!(rt; items.len() == 2 && first_is_so && items.into_vec().len() == 2);
     Ok(())
 }
