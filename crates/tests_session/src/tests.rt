@@ -1,7 +1,7 @@
 // Sessions by scripts.
 //
 // A line of a script is a step, `=` and what it leads to: the calls of the link with the octets
-// that were offered, and what the round came to. A line `new` begins at a new station.
+// that were offered, and what the round came to. Behind a line `new` a new station begins.
 ghost use Rattle.station_config.specs.Validity.{IsSite};
 
 use named::hex_of;
@@ -9,7 +9,6 @@ use station::Station;
 use station_config::Site;
 use std::alloc::{AllocError, Global};
 use std::process::Abort;
-use std::test::Fail;
 use step::step_of;
 
 mod named;
@@ -19,34 +18,57 @@ mod station;
 mod step;
 mod telling;
 
-// A text with each word that names a message replaced by its digits, and a blank behind each word.
-fn spelled(alloc: Global, text: &str) -> Result<String, AllocError> {
-    let mut spelled = String::new(alloc);
-    for word in text.split_whitespace() {
-        spelled.push_str(hex_of(word))?;
-        spelled.push_str(" ")?;
-    }
-    Ok(spelled)
+// Whether a text has these words, of which some name messages.
+fn is_spelled(told: &str, words: &str) -> bool {
+    told.split_whitespace()
+        .eq(words.split_whitespace().map(hex_of))
 }
 
-// The first line of a script that doesn't lead to what it says, and what it leads to.
+// Whether a station leads a step to what these words say.
+fn leads_to(
+    alloc: Global,
+    site: &Site,
+    station: &mut Station,
+    step: &str,
+    words: &str,
+) -> Result<bool, AllocError>
+    requires { IsSite site.now }
+{
+    let mut told = String::new(alloc);
+    station.play(site, &step_of(step), &mut told)?;
+    Ok(is_spelled(&told, words))
+}
+
+// The first line of a script that doesn't lead to what it says.
 fn wrong_line<'a>(
     alloc: Global,
     site: &Site,
     script: &'a str,
-) -> Result<Option<(&'a str, String)>, AllocError>
+) -> Result<Option<&'a str>, AllocError>
     requires { IsSite site.now }
 {
     let mut station = Station::new(alloc, site)?;
     for line in script.lines() {
-        if line == "new" {
-            station = Station::new(alloc, site)?;
-            continue;
+        let (step, words) = line.split_once('=').unwrap_or((line, ""));
+        if !leads_to(alloc, site, &mut station, step, words)? {
+            return Ok(Some(line));
         }
-        let (words, wanted) = line.split_once('=').unwrap_or((line, ""));
-        let told = station.play(site, &step_of(alloc, words)?)?;
-        if told.as_str() != spelled(alloc, wanted)?.as_str() {
-            return Ok(Some((line, told)));
+    }
+    Ok(None)
+}
+
+// The same of scripts with a line `new` between them.
+fn wrong_line_of<'a>(
+    alloc: Global,
+    site: &Site,
+    scripts: &'a str,
+) -> Result<Option<&'a str>, AllocError>
+    requires { IsSite site.now }
+{
+    for script in scripts.split("new\n") {
+        let wrong = wrong_line(alloc, site, script)?;
+        if wrong.is_some() {
+            return Ok(wrong);
         }
     }
     Ok(None)
@@ -82,19 +104,21 @@ const SCRIPTS: [(&[u8], &str); 15] = [
     (signed::SITE_SHA256, signed::SHA256),
 ];
 
-// A session at a site leads a script's steps to what it says.
-fn plays(rt: &impl Abort, alloc: Global, site: &[u8], script: &str) -> Result<(), AllocError> {
-    let Ok(site) = Site::parse(alloc, site) else {
-        return Err(AllocError);
-    };
-    assert_eq!(rt; wrong_line(alloc, &site, script)?, None);
-    Ok(())
+// The same of a site's text.
+fn wrong_line_at<'a>(
+    alloc: Global,
+    site: &[u8],
+    scripts: &'a str,
+) -> Result<Option<&'a str>, AllocError> {
+    match Site::parse(alloc, site) {
+        Ok(site) => wrong_line_of(alloc, &site, scripts),
+        Err(_) => Err(AllocError),
+    }
 }
 
 #[test]
-fn sessions_lead_to_what_their_scripts_say(rt: HostRuntime) -> Result<(), Fail> {
-    for (site, script) in SCRIPTS {
-        plays(&rt, rt.alloc(), site, script)?;
+fn sessions_lead_to_what_their_scripts_say(rt: HostRuntime) {
+    for (site, scripts) in SCRIPTS {
+        assert_eq!(rt; wrong_line_at(rt.alloc(), site, scripts), Ok(None));
     }
-    Ok(())
 }

@@ -3,17 +3,18 @@ ghost use Rattle.std.specs.Prelude.{◌≡◌, ◌<◌, IfOk};
 ghost use Rattle.cds_time.specs.declared.cds.TheConstants.{MOMENT_END};
 ghost use Rattle.station_config.specs.Validity.{IsSite};
 
-use super::step::{Step, What};
+use super::step::{Step, What, number, octets_of};
 use super::telling::{calls_told, spoken_told};
 use fcltu_numbers::{CltuProductionStatus, UplinkStatus};
 use frame_select::Want;
 use link_model::MemoryLink;
-use octet_core::{Memory, Octets};
+use octet_core::Memory;
 use record_form::Entries;
 use session_core::Session;
 use station_book::{Ask, Book};
 use station_config::Site;
 use std::alloc::{AllocError, Global};
+use std::fmt::Write;
 
 // A session with its link, of whose calls so many were told.
 #[derive(Drop)]
@@ -41,31 +42,29 @@ fn reading_of(clock: u32) -> u128
 }
 
 impl Door {
-    fn open(alloc: Global, step: &Step, clock: u32) -> Result<Door, AllocError> {
-        let failing = vec![in alloc; u64::from(step.number)]?;
+    fn open(alloc: Global, step: &Step<'_>, clock: u32) -> Result<Door, AllocError> {
+        let session = Session::new(alloc, step.door, 1, reading_of(clock))?;
+        let failing = vec![in alloc; u64::from(number(step.rest))]?;
         Ok(Door {
             number: step.door,
-            session: Session::new(alloc, step.door, 1, reading_of(clock))?,
+            session,
             link: MemoryLink::new(alloc, failing),
             told: 0,
         })
     }
 
-    // The calls of the link since they were last told.
-    fn tell(&mut self, alloc: Global) -> Result<String, AllocError> {
+    // Tells the calls of the link since they were last told.
+    fn tell(&mut self, alloc: Global, told: &mut String) -> Result<(), AllocError> {
         let Some(calls) = self.link.told() else {
             return Err(AllocError);
         };
-        let told = match calls.get(self.told..) {
-            Some(calls) => calls_told(alloc, calls)?,
-            None => String::new(alloc),
-        };
+        let since = calls.get(self.told..).unwrap_or(&[]);
         self.told = calls.len();
-        Ok(told)
+        calls_told(alloc, since, told)
     }
 
-    fn arrive(&mut self, octets: &Octets) -> Result<(), Memory> {
-        self.link.arrive(octets.clone()?)
+    fn arrive(&mut self, alloc: Global, words: &str) -> Result<(), Memory> {
+        self.link.arrive(octets_of(alloc, words)?)
     }
 
     fn round(
@@ -74,22 +73,21 @@ impl Door {
         site: &Site,
         book: &mut Book,
         clock: u32,
-    ) -> Result<String, AllocError>
+        told: &mut String,
+    ) -> Result<(), AllocError>
         requires { IsSite site.now }
     {
         let spoken = self
             .session
             .round(site, book, reading_of(clock), &mut self.link)?;
-        let mut told = self.tell(alloc)?;
-        told.push_str(spoken_told(alloc, spoken)?.as_str())?;
-        Ok(told)
+        self.tell(alloc, told)?;
+        spoken_told(spoken, told)
     }
 
-    fn speak(&mut self, alloc: Global) -> Result<String, AllocError> {
+    fn speak(&mut self, alloc: Global, told: &mut String) -> Result<(), AllocError> {
         let spoken = self.session.speak(&mut self.link);
-        let mut told = self.tell(alloc)?;
-        told.push_str(spoken_told(alloc, spoken)?.as_str())?;
-        Ok(told)
+        self.tell(alloc, told)?;
+        spoken_told(spoken, told)
     }
 
     // Does a step of this door, and tells what it led to.
@@ -99,25 +97,38 @@ impl Door {
         site: &Site,
         book: &mut Book,
         clock: u32,
-        step: &Step,
-    ) -> Result<String, AllocError>
+        step: &Step<'_>,
+        told: &mut String,
+    ) -> Result<(), AllocError>
         requires { IsSite site.now }
     {
         match step.what {
-            What::Piece => self.arrive(&step.octets)?,
+            What::Piece => Ok(self.arrive(alloc, step.rest)?),
             What::In => {
-                self.arrive(&step.octets)?;
-                return self.round(alloc, site, book, clock);
+                self.arrive(alloc, step.rest)?;
+                self.round(alloc, site, book, clock, told)
             }
-            What::Round => return self.round(alloc, site, book, clock),
-            What::Listen => self.session.listen(&mut self.link),
-            What::Step => self.session.step(site, book, reading_of(clock))?,
-            What::Speak => return self.speak(alloc),
+            What::Round => self.round(alloc, site, book, clock, told),
+            What::Step => Ok(self.session.step(site, book, reading_of(clock))?),
+            What::Speak => self.speak(alloc, told),
+            What::Listen => {
+                self.session.listen(&mut self.link);
+                self.tell(alloc, told)
+            }
+            _ => {
+                self.disturb(step);
+                Ok(())
+            }
+        }
+    }
+
+    // What becomes of the link.
+    fn disturb(&mut self, step: &Step<'_>) {
+        match step.what {
             What::Shut => self.link.shut(),
             What::Break => self.link.break_poll(),
-            _ => self.link.stall(u64::from(step.number)),
+            _ => self.link.stall(u64::from(number(step.rest))),
         }
-        self.tell(alloc)
     }
 }
 
@@ -132,7 +143,7 @@ impl Station {
     }
 
     // A session in place of the one at its door, if there is one.
-    fn open(&mut self, step: &Step) -> Result<(), AllocError> {
+    fn open(&mut self, step: &Step<'_>) -> Result<(), AllocError> {
         let door = Door::open(self.alloc, step, self.clock)?;
         self.doors.retain(|other| other.number != step.door);
         self.doors.push(door)?;
@@ -140,38 +151,39 @@ impl Station {
     }
 
     // What the book answers a door besides its session. It has no reading, so that no moment rises.
-    fn ask(&mut self, step: &Step) -> Result<String, AllocError> {
+    fn ask(&mut self, step: &Step<'_>, told: &mut String) -> Result<(), AllocError> {
+        let instance = number(step.rest);
         let ask = match step.what {
-            What::Bind => Ask::Bind {
-                instance: step.number,
-            },
-            What::Start => Ask::CltuStart { first: step.number },
+            What::Bind => Ask::Bind { instance },
+            What::Start => Ask::CltuStart { first: instance },
             _ => Ask::Nothing,
         };
         let (reply, _, notice) = self.book.answer(step.door, 0, &ask, &Want::Nothing)?;
         match notice {
-            Some(notice) => {
-                let kind = notice.kind;
-                format!(in self.alloc; "notice {kind} ")
-            }
-            None => format!(in self.alloc; "{reply:?} "),
+            Some(notice) => write!(told, "notice {} ", notice.kind),
+            None => write!(told, "{reply:?} "),
         }
     }
 
     // Does a step of a door that has a session.
-    fn play_door(&mut self, site: &Site, step: &Step) -> Result<String, AllocError>
+    fn play_door(
+        &mut self,
+        site: &Site,
+        step: &Step<'_>,
+        told: &mut String,
+    ) -> Result<(), AllocError>
         requires { IsSite site.now }
     {
         for door in &mut self.doors {
             if door.number == step.door {
-                return door.play(self.alloc, site, &mut self.book, self.clock, step);
+                return door.play(self.alloc, site, &mut self.book, self.clock, step, told);
             }
         }
-        format!(in self.alloc; "nobody ")
+        told.push_str("nobody ")
     }
 
     // Reads a production status by its number.
-    fn uplink(&mut self, step: &Step) {
+    fn uplink(&mut self, step: &Step<'_>) {
         let production = match step.door {
             0 => CltuProductionStatus::Operational,
             _ => CltuProductionStatus::Halted,
@@ -181,7 +193,12 @@ impl Station {
     }
 
     // Does a step, and tells what it led to.
-    pub fn play(&mut self, site: &Site, step: &Step) -> Result<String, AllocError>
+    pub fn play(
+        &mut self,
+        site: &Site,
+        step: &Step<'_>,
+        told: &mut String,
+    ) -> Result<(), AllocError>
         requires { IsSite site.now }
     {
         match step.what {
@@ -189,13 +206,10 @@ impl Station {
             What::Open => self.open(step)?,
             What::Quit => self.book.quit(step.door),
             What::Uplink => self.uplink(step),
-            What::Moment => {
-                let micros = self.book.peek(0) / 1_000_000;
-                return format!(in self.alloc; "{micros} ");
-            }
-            What::Bind | What::Start | What::Told => return self.ask(step),
-            _ => return self.play_door(site, step),
+            What::Moment => write!(told, "{} ", self.book.peek(0) / 1_000_000)?,
+            What::Bind | What::Start | What::Told => self.ask(step, told)?,
+            _ => self.play_door(site, step, told)?,
         }
-        Ok(String::new(self.alloc))
+        Ok(())
     }
 }

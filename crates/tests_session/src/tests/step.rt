@@ -1,6 +1,6 @@
 // Steps of a script.
 use super::named::hex_of;
-use octet_core::Octets;
+use octet_core::{Memory, Octets};
 use std::alloc::{AllocError, Global};
 
 // What is done.
@@ -36,12 +36,12 @@ pub enum What {
     Moment,
 }
 
-#[derive(Drop)]
-pub struct Step {
+#[derive(Clone, Copy)]
+pub struct Step<'a> {
     pub what: What,
     pub door: u32,
-    pub number: u32,
-    pub octets: Octets,
+    // Octets in words, or a number.
+    pub rest: &'a str,
 }
 
 // Each step by its word.
@@ -74,11 +74,9 @@ fn what_of(word: &str) -> What {
     What::Moment
 }
 
-fn number(word: Option<&str>) -> u32 {
-    match word {
-        Some(word) => word.parse().unwrap_or(0),
-        None => 0,
-    }
+/// The number of a word, or 0.
+pub fn number(word: &str) -> u32 {
+    word.trim().parse().unwrap_or(0)
 }
 
 // Appends the octets of a word: their name or their digits, as often as it says behind a star.
@@ -87,30 +85,28 @@ fn append(alloc: Global, octets: &mut Vec<u8>, word: &str) -> Result<(), AllocEr
     let Ok(part) = hex::decode(alloc, hex_of(word)) else {
         return Err(AllocError);
     };
-    for _ in 0..number(Some(times)) {
+    for _ in 0..number(times) {
         octets.extend_from_slice(&part)?;
     }
     Ok(())
 }
 
-// The step of a line: its word, its door or its only number, and a further number or octets.
-pub fn step_of(alloc: Global, line: &str) -> Result<Step, AllocError> {
-    let mut words = line.split_whitespace();
-    let what = what_of(words.next().unwrap_or(""));
-    let door = number(words.next());
+/// The octets of words.
+pub fn octets_of(alloc: Global, words: &str) -> Result<Octets, Memory> {
     let mut octets = Vec::new(alloc);
-    let mut last = 0;
-    for word in words {
-        if matches!(what, What::Piece | What::In) {
-            append(alloc, &mut octets, word)?;
-        } else {
-            last = number(Some(word));
-        }
+    for word in words.split_whitespace() {
+        append(alloc, &mut octets, word)?;
     }
-    Ok(Step {
-        what,
-        door,
-        number: last,
-        octets: Octets::from_vec(alloc, octets)?,
-    })
+    Octets::from_vec(alloc, octets)
+}
+
+/// The step of a line: its word, its door or its only number, and a further number or octets.
+pub fn step_of(line: &str) -> Step<'_> {
+    let (what, rest) = line.split_once(' ').unwrap_or((line, ""));
+    let (door, rest) = rest.split_once(' ').unwrap_or((rest, ""));
+    Step {
+        what: what_of(what),
+        door: number(door),
+        rest,
+    }
 }

@@ -3,61 +3,59 @@ use link_model::{Call, Heard};
 use octet_core::Offer;
 use session_core::Spoken;
 use std::alloc::{AllocError, Global};
+use std::fmt::Write;
 
-// Octets in hexadecimal digits.
-pub fn digits(alloc: Global, octets: &[u8]) -> Result<String, AllocError> {
-    hex::encode(alloc, octets)
+fn heard_told(poll: &Heard, told: &mut String) -> Result<(), AllocError> {
+    match poll {
+        Heard::Arrived(octets) => write!(told, "heard {} ", octets.len()),
+        Heard::Nothing => told.push_str("silence "),
+        Heard::Closed => told.push_str("close "),
+        Heard::Failed => told.push_str("unheard "),
+    }
 }
 
-fn heard_told(alloc: Global, poll: &Heard) -> Result<String, AllocError> {
-    match poll {
-        Heard::Arrived(octets) => {
-            let count = octets.len();
-            format!(in alloc; "heard {count} ")
-        }
-        Heard::Nothing => format!(in alloc; "silence "),
-        Heard::Closed => format!(in alloc; "close "),
-        Heard::Failed => format!(in alloc; "unheard "),
-    }
+// Octets are told in hexadecimal digits.
+fn offer_told(
+    alloc: Global,
+    octets: &[u8],
+    answer: &Offer,
+    told: &mut String,
+) -> Result<(), AllocError> {
+    let word = match answer {
+        Offer::Whole => "sent",
+        Offer::Stalled => "stalled",
+        Offer::Failed => "unsent",
+    };
+    let digits = hex::encode(alloc, octets)?;
+    write!(told, "{word} {digits} ")
 }
 
 // Of a poll, the space is told where it isn't that of a piece.
-fn call_told(alloc: Global, call: &Call) -> Result<String, AllocError> {
+fn call_told(alloc: Global, call: &Call, told: &mut String) -> Result<(), AllocError> {
     match call {
-        Call::Polled {
-            space: 65_536,
-            heard,
-        } => heard_told(alloc, heard),
         Call::Polled { space, heard } => {
-            let heard = heard_told(alloc, heard)?;
-            format!(in alloc; "space {space} {heard}")
+            if *space != 65_536 {
+                write!(told, "space {space} ")?;
+            }
+            heard_told(heard, told)
         }
-        Call::Offered { octets, answer } => {
-            let digits = digits(alloc, octets.as_slice())?;
-            let word = match answer {
-                Offer::Whole => "sent",
-                Offer::Stalled => "stalled",
-                Offer::Failed => "unsent",
-            };
-            format!(in alloc; "{word} {digits} ")
-        }
+        Call::Offered { octets, answer } => offer_told(alloc, octets.as_slice(), answer, told),
     }
 }
 
-// These calls, each with a blank behind it.
-pub fn calls_told(alloc: Global, calls: &[Call]) -> Result<String, AllocError> {
-    let mut text = String::new(alloc);
+/// Appends these calls, each with a blank behind it.
+pub fn calls_told(alloc: Global, calls: &[Call], told: &mut String) -> Result<(), AllocError> {
     for call in calls {
-        text.push_str(call_told(alloc, call)?.as_str())?;
+        call_told(alloc, call, told)?;
     }
-    Ok(text)
+    Ok(())
 }
 
-// What a round came to, where the session doesn't go on.
-pub fn spoken_told(alloc: Global, spoken: Spoken) -> Result<String, AllocError> {
+/// Appends what a round came to, where the session doesn't go on.
+pub fn spoken_told(spoken: Spoken, told: &mut String) -> Result<(), AllocError> {
     match spoken {
-        Spoken::Going => Ok(String::new(alloc)),
-        Spoken::Ended(end) => format!(in alloc; "{end:?} "),
-        Spoken::LinkFault => format!(in alloc; "LinkFault "),
+        Spoken::Going => Ok(()),
+        Spoken::Ended(end) => write!(told, "{end:?} "),
+        Spoken::LinkFault => told.push_str("LinkFault "),
     }
 }
