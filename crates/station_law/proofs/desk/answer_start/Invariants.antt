@@ -10,10 +10,10 @@ use Rattle.station_law.proofs.desk.answer_start.Given as goal
 abbrev pub invariant-loop-buffers : goal.invariant-loop-buffers
 invariant-loop-buffers g l = record {
   of_start : l.buffers.buffers
-      ≡ told_desk (g.L.Looks.entries l.archive) l.start l.stop (number_of l.quality);
+      ≡ told_desk (g.L.Looks.entries l.archive) l.start l.stop (number_of l.fn.quality);
   behind : Behind (g.O.Sink.written l.initial.output) (g.O.Sink.written l.output)
       (g.O.Sink.faults l.initial.output) (g.O.Sink.faults l.output)
-      (texts (said_at_start (g.L.Looks.entries l.archive) l.start l.stop (number_of l.quality)))
+      (texts (said_at_start (g.L.Looks.entries l.archive) l.start l.stop (number_of l.fn.quality)))
       (texts (map (handed 0) (drop l.buffers.count l.buffers.buffers)));
 }
 
