@@ -146,7 +146,8 @@ in_order n few =
 
 -- the lines behind those of the frames
 abbrev behind : ℕ → List ScriptLine
-behind n = Offer (entries.Seal (time_at (n - 1))) ∷ Desk (time_at 0) (time_at (n - 1)) GoodFramesOnly ∷ []
+behind n =
+    Offer (entries.Seal (time_at (n - 1))) ∷ Desk (time_at 0) (time_at (n - 1)) GoodFramesOnly ∷ []
 
 start_text : (d : Doors) (n number : ℕ) → n ≤ 20000
     → transcript_from step number (world_with d (archive n))

@@ -6,7 +6,7 @@ use Rattle.rehearsal.proofs.start.count_start.Given as goal
 
 abbrev pub invariant-loop-buffers : goal.invariant-loop-buffers
 invariant-loop-buffers l =
-    HasCounted (told_desk l.archive l.start l.stop (number_of l.quality)) l.buffers l.tally
+    HasCounted (told_desk l.archive l.start l.stop (number_of l.fn.quality)) l.buffers l.tally
 
 abbrev pub decreases-loop-buffers : goal.decreases-loop-buffers
 decreases-loop-buffers l = length l.buffers.buffers - l.buffers.count
