@@ -6,6 +6,7 @@ ghost use Rattle.cds_time.specs.declared.cds.Rest.TheVariants.{Micros};
 use cds_time::{Cds, Rest};
 use octet_core::Memory;
 use record_form::{Entries, Entry};
+use sle_numbers::RequestedFrameQuality;
 use station_book::Book;
 use station_config::Site;
 use station_desk::Buffers;
@@ -43,7 +44,13 @@ fn a_start_with_a_sealed_stop_hands_over_the_end_of_data(rt: HostRuntime) -> Res
     let mut entries = Entries::new(alloc);
     entries.push(Entry::Seal { at: at(3_000) })?;
     let book = book_of(alloc, entries)?;
-    let mut buffers = Buffers::of_start(alloc, &book, &at(0), &at(3_000), 0)?;
+    let mut buffers = Buffers::of_start(
+        alloc,
+        &book,
+        &at(0),
+        &at(3_000),
+        RequestedFrameQuality::GoodFramesOnly,
+    )?;
     assert_eq!(rt; buffers.advance()?, true);
     assert_eq!(rt; buffers.items().len(), 1);
     assert_eq!(rt; buffers.message()?.octets(), END_OF_DATA.as_slice());
