@@ -17,7 +17,7 @@ ghost use Rattle.std.specs.Str.{IsUtf8};
 ghost use Rattle.std.specs.Vec.Iter.{into_iter_items};
 ghost use Rattle.provider_cli.specs.Command.{plan_of, asked, NeedsDisk, IsUntold};
 ghost use Rattle.provider_cli.specs.Outside.{showing};
-ghost use Rattle.provider_cli.specs.Provided.{IsAnswered, IsFileOf};
+ghost use Rattle.provider_cli.specs.Provided.{IsAnswered, IsFileOf, IsOnFile};
 
 mod archive_file;
 mod command;
@@ -135,12 +135,47 @@ fn answer<I: Source, O: Sink>(
         result }
 {
     match texts_of(rt.alloc(), words) {
-        Ok(texts) => {
-            let found = disk_of(rt, texts.as_slice());
-            provide_on(rt.alloc(), texts.as_slice(), found, kit)
-        }
+        Ok(texts) => provide_found(rt, texts.as_slice(), kit),
         Err(_) => Status::Memory.code(),
     }
+}
+
+// Runs the command of these words on the kit, and on the file that they name.
+fn provide_found<I: Source, O: Sink>(
+    rt: &HostRuntime,
+    words: &[&str],
+    kit: &mut Equipment<I, O, FileDisk>,
+) -> u8
+    ensures { IsAnswered (asked words.now)
+        (showing (I.left kit.old.input) (I.faults kit.old.input)
+        (O.written kit.old.output) (O.faults kit.old.output))
+        (showing (I.left kit.new.input) (I.faults kit.new.input)
+        (O.written kit.new.output) (O.faults kit.new.output))
+        result }
+{
+    match disk_of(rt, words) {
+        Ok(disk) => provide_over(rt.alloc(), words, disk, kit),
+        Err(error) => provide_on(rt.alloc(), words, Err(error), kit),
+    }
+}
+
+// Runs the command of these words on the kit, over the file that was found for them.
+fn provide_over<I: Source, O: Sink>(
+    alloc: Global,
+    words: &[&str],
+    disk: Option<FileDisk>,
+    kit: &mut Equipment<I, O, FileDisk>,
+) -> u8
+    requires given { NeedsDisk (asked words.now) → IsSome disk }
+    requires file { IfSome disk (λ disk. IsFileOf (asked words.now) disk.file) }
+    ensures { IsOnFile (asked words.now)
+        (showing (I.left kit.old.input) (I.faults kit.old.input)
+        (O.written kit.old.output) (O.faults kit.old.output))
+        (showing (I.left kit.new.input) (I.faults kit.new.input)
+        (O.written kit.new.output) (O.faults kit.new.output))
+        result }
+{
+    provide_on(alloc, words, Ok(disk), kit)
 }
 
 // The words, lent as texts.
