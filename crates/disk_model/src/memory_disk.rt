@@ -10,8 +10,8 @@ ghost use Rattle.disk_model.specs.MemoryDisk.{steered, counted, with_call, with_
 ghost use Rattle.disk_model.specs.MemoryDisk.{IsImageSince, IsMadeCall, IsFailedCall, restarted};
 ghost use Rattle.disk_model.specs.MemoryDisk.{replayed, replayed_call, replayed_write};
 
-use crate::{Call, Disk, Event, Memory, Orders, Pick, Stop};
-use octet_core::{Failed, FailingCalls, Faults, Octets};
+use crate::{Call, Disk, Event, Orders, Pick, Stop};
+use octet_core::{Failed, FailingCalls, Faults, Memory, Octets};
 use std::alloc::Global;
 use std::marker::Model;
 

@@ -1,28 +1,18 @@
 // Why a line says nothing.
 
-use std::error::Error;
-use std::fmt;
+use thiserror::Error;
 use words::Unread;
 
 /// Why a line of a script says nothing.
-#[derive(Clone, Copy, Debug, PartialEq, Eq)]
+#[derive(Clone, Copy, Debug, PartialEq, Eq, Error)]
 pub enum LineFault {
     /// It is outside the grammar.
+    #[error("bad line")]
     Bad,
     /// There was no memory.
+    #[error("out of memory")]
     Memory,
 }
-
-impl fmt::Display for LineFault {
-    fn fmt<W: fmt::Write>(&self, f: &mut fmt::Formatter<W>) -> fmt::Result {
-        match self {
-            LineFault::Bad => f.write_str("bad line"),
-            LineFault::Memory => f.write_str("out of memory"),
-        }
-    }
-}
-
-impl Error for LineFault {}
 
 impl From<Unread> for LineFault {
     ghost use Rattle.std.specs.Prelude.{◌≡◌};

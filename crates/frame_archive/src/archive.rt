@@ -24,8 +24,9 @@ ghost use Rattle.gate_journal.specs.declared.fault.JournalFault.{JournalFault};
 
 use crate::times::times_of;
 use crate::{ArchiveFault, OfferFault};
-use disk_model::{Disk, Memory, MemoryDisk, Orders};
-use gate_journal::{Journal, JournalFault, Times};
+use disk_model::{Disk, MemoryDisk, Orders};
+use gate_journal::{Journal, JournalFault, LONGEST_BATCH, Times};
+use octet_core::Memory;
 use record_form::{Entries, Entry, entry_length};
 use std::alloc::Global;
 use std::marker::Model;
@@ -35,7 +36,7 @@ use std::mem;
 const MOST_ENTRIES: u64 = 4_194_304;
 
 /// How many entries wait at most: those of one batch.
-const MOST_WAITING: usize = 256;
+const MOST_WAITING: usize = LONGEST_BATCH as usize;
 
 /// How many octets a batch has besides its entries: their length, their number and the next gate.
 const BATCH_OCTETS: u64 = 7;

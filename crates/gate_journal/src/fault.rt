@@ -38,10 +38,10 @@ impl From<Failed> for JournalFault {
     }
 }
 
-impl From<record_form::Memory> for JournalFault {
+impl From<octet_core::Memory> for JournalFault {
     ghost from_gives = { λ _ fault. fault ≡ Memory };
 
-    fn from(_: record_form::Memory) -> JournalFault {
+    fn from(_: octet_core::Memory) -> JournalFault {
         JournalFault::Memory
     }
 }

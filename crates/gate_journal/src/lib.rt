@@ -33,6 +33,7 @@ pub use batches::Batches;
 pub use fault::JournalFault;
 pub use journal::Journal;
 pub use order::{Times, follows};
+pub use passing::LONGEST_BATCH;
 
 // The octet of a gate behind which nothing of the journal stands. Any other than an open one is
 // closed.

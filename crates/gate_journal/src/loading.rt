@@ -9,7 +9,8 @@ use crate::JournalFault;
 use crate::batch::Batch;
 use crate::order::Times;
 use crate::passing::pass_gate;
-use record_form::{Entries, Memory};
+use octet_core::Memory;
+use record_form::Entries;
 use std::alloc::Global;
 
 /// What stands before the first gate: SLEA, and the form 1.

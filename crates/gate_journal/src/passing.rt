@@ -15,8 +15,8 @@ use record_form::{EntryFault, read_entry_ref_at, read_ert_at};
 /// The octet of a gate behind which a batch stands.
 pub const OPEN: u8 = 0xa5;
 
-// The most entries of a batch.
-const MOST: u16 = 256;
+/// The most entries of a batch.
+pub const LONGEST_BATCH: u16 = 256;
 
 /// Passes the gate at a place of a file and the batch behind it, where that gate is open: the times
 /// behind the batch, and where it ends. None where the gate isn't open.
@@ -58,7 +58,7 @@ fn pass_batch(times: Times, file: &[u8], place: usize) -> Result<(Times, usize),
     }
     let size = u32::from_be_bytes(file[place..place + 4].try_into().unwrap());
     let count = u16::from_be_bytes(file[place + 4..place + 6].try_into().unwrap());
-    if count < 1 || MOST < count {
+    if count < 1 || LONGEST_BATCH < count {
         return Err(JournalFault::Damaged {
             place: place as u64 + 4,
         });

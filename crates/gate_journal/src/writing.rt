@@ -8,8 +8,8 @@ ghost use Rattle.gate_journal.specs.File.{entries_octets};
 ghost use Rattle.gate_journal.specs.JournalState.{closed_batch};
 
 use crate::CLOSED;
-use octet_core::Octets;
-use record_form::{Entry, Memory, entry_length, write_entry};
+use octet_core::{Memory, Octets};
+use record_form::{Entry, entry_length, write_entry};
 
 /// How many octets entries have, one after another.
 pub fn entries_length(entries: &[Entry]) -> u64

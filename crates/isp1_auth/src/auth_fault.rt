@@ -1,30 +1,18 @@
-use std::error::Error;
-use std::fmt;
+use thiserror::Error;
 
 /// Why credentials are refused.
-#[derive(Clone, Copy, Debug, PartialEq, Eq)]
+#[derive(Clone, Copy, Debug, PartialEq, Eq, Error)]
 pub enum AuthFault {
     /// They are unused.
+    #[error("no credentials")]
     Missing,
     /// They aren't the SEQUENCE of CCSDS 913.1-B, or its time names no moment.
+    #[error("credentials out of form")]
     Malformed,
     /// Their time is further from now than is allowed, either way; how far, in picoseconds.
+    #[error("credentials {difference} picoseconds from now")]
     TooOld { difference: u128 },
     /// They aren't protected by the digest that this sender's name and password give.
+    #[error("credentials with a wrong digest")]
     WrongDigest,
 }
-
-impl fmt::Display for AuthFault {
-    fn fmt<W: fmt::Write>(&self, f: &mut fmt::Formatter<W>) -> fmt::Result {
-        match self {
-            AuthFault::Missing => f.write_str("no credentials"),
-            AuthFault::Malformed => f.write_str("credentials out of form"),
-            AuthFault::TooOld { difference } => {
-                write!(f, "credentials {difference} picoseconds from now")
-            }
-            AuthFault::WrongDigest => f.write_str("credentials with a wrong digest"),
-        }
-    }
-}
-
-impl Error for AuthFault {}

@@ -3,7 +3,8 @@ ghost use Rattle.std.specs.Prelude.{◌≡◌, ◌≤◌, [], ◌∷◌, ◌++�
 ghost use Rattle.std.specs.Prelude.{IfErr};
 ghost use Rattle.record_form.specs.Entry.{entry_of, entries_of};
 
-use crate::{Entry, Memory};
+use crate::Entry;
+use octet_core::Memory;
 use std::alloc::Global;
 use std::marker::Model;
 

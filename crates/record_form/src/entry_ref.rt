@@ -3,9 +3,9 @@ ghost use Rattle.std.specs.Prelude.{◌≡◌, IfOk};
 ghost use Rattle.record_form.specs.Entry.{entry_of};
 ghost use Rattle.record_form.specs.Lent.{lent_entry};
 
-use crate::{Entry, Memory};
+use crate::Entry;
 use cds_time::Cds;
-use octet_core::Octets;
+use octet_core::{Memory, Octets};
 use sle_numbers::{FrameQuality, LockStatus, ReturnProductionStatus};
 use std::alloc::Global;
 

@@ -18,7 +18,6 @@ mod fault;
 mod fields;
 mod kind;
 pub mod laws;
-mod memory;
 mod reading;
 mod writing;
 
@@ -26,6 +25,5 @@ pub use entries::Entries;
 pub use entry::Entry;
 pub use entry_ref::EntryRef;
 pub use fault::EntryFault;
-pub use memory::Memory;
 pub use reading::{read_entry, read_entry_at, read_entry_ref_at, read_ert_at};
 pub use writing::{LONGEST_ENTRY, entry_length, write_entry};

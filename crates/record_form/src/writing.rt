@@ -9,11 +9,11 @@ ghost use Rattle.record_form.specs.Spelling.{content_octets};
 ghost use Rattle.record_form.specs.declared.kind.TheConstants.{LONGEST_ANTENNA};
 ghost use Rattle.record_form.specs.declared.writing.TheConstants.{LONGEST_ENTRY};
 
+use crate::Entry;
 use crate::kind::{FRAME, LOSS_OF_SYNC, MICROS, PICOS, PRODUCTION, SEAL};
-use crate::{Entry, Memory};
 use archive_terms::LONGEST_FRAME;
 use cds_time::{Cds, Rest};
-use octet_core::Octets;
+use octet_core::{Memory, Octets};
 use sle_numbers::Numbered;
 
 /// The most octets that an entry has in a file: a frame's, with the longest antenna's identifier

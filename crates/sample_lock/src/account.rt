@@ -3,9 +3,8 @@ ghost use Rattle.std.specs.Prelude.{◌≡◌, IfOk};
 ghost use Rattle.sample_lock.specs.Ledger.{opened, posted, after, reply_to};
 
 use crate::booking::Booking;
-use crate::memory::Memory;
 use crate::order::{Order, Posting, Reply};
-use octet_core::Octets;
+use octet_core::{Memory, Octets};
 use std::alloc::Global;
 use std::marker::Model;
 use turn_lock::StandsFor;

@@ -10,6 +10,12 @@ use octet_core::Octets;
 use std::marker::Model;
 use std::{fmt, str};
 
+/// How many attributes with their values an identifier has at most.
+pub const MOST_PARTS: usize = 8;
+
+/// How many characters a value has at most.
+pub const LONGEST_VALUE: usize = 256;
+
 /// An attribute with its value, which has 1 to 256 characters from 21 to 7E but `.` and `=`.
 #[derive(Debug, Drop)]
 pub struct InstancePart {

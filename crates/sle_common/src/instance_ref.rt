@@ -8,14 +8,12 @@ ghost use Rattle.sle_common.specs.Identifier.{IsIdentifier};
 ghost use Rattle.sle_common.specs.IdentifierOctets.{part, parts};
 ghost use Rattle.sle_common.specs.InstanceRef.{part_of, parts_in, parts_of};
 
-use crate::instance_id::{InstanceId, InstancePart};
+use crate::instance_id::{InstanceId, InstancePart, MOST_PARTS};
 use crate::part_ref::{PartRef, PartSet};
 use ber_core::{BerFault, Reader, Writer, laws};
 use ber_shape::{
     Element, Members, lend_list, list_size, read_within, size_within, write_list, write_within,
 };
-
-const MOST_PARTS: usize = 8;
 
 /// The service instance that a PDU names: by the octets of its attributes and values, as they were
 /// decoded, or by an identifier of this side's own. Contracts see the list of attributes and

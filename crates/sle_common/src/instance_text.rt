@@ -9,13 +9,9 @@ ghost use Rattle.sle_common.specs.TextParts.{ReadsPart, RefusesPart};
 
 use crate::attribute::Attribute;
 use crate::id_fault::IdFault;
-use crate::instance_id::{InstanceId, InstancePart};
+use crate::instance_id::{InstanceId, InstancePart, LONGEST_VALUE, MOST_PARTS};
 use octet_core::Octets;
 use std::alloc::Global;
-
-const MOST_PARTS: usize = 8;
-
-const LONGEST_VALUE: usize = 256;
 
 impl InstanceId {
     /// The identifier that has this text. Costs one pass over it, and memory for each value.

@@ -35,7 +35,7 @@ pub use diagnostic::Diagnostic;
 pub use gvcid::{Channel, Gvcid};
 pub use id_fault::IdFault;
 pub use in_table::InTable;
-pub use instance_id::{InstanceId, InstancePart};
+pub use instance_id::{InstanceId, InstancePart, LONGEST_VALUE, MOST_PARTS};
 pub use instance_ref::InstanceRef;
 pub use number::{InvokeId, Number};
 pub use parameter::Parameter;

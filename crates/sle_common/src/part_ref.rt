@@ -6,7 +6,7 @@ ghost use Rattle.sle_common.specs.Identifier.{is_value_octet, is_value};
 ghost use Rattle.std.specs.List.{list_all};
 
 use crate::attribute::Attribute;
-use crate::instance_id::InstancePart;
+use crate::instance_id::{InstancePart, LONGEST_VALUE};
 use crate::instance_text::is_value_octet;
 use ber_core::{BerFault, Reader, Writer, element_length};
 use ber_shape::{
@@ -136,7 +136,7 @@ fn read_value<'a>(reader: &mut Reader<'a>) -> Result<&'a [u8], BerFault>
         (primitive_at (meaning_of (visible_string 1 256) value_meaning) reader.old (0x1a ∷ [])) }
     ensures octets { reader.new.octets ≡ reader.old.octets }
 {
-    let octets = reader.visible(&[0x1a], 1, 256)?;
+    let octets = reader.visible(&[0x1a], 1, LONGEST_VALUE)?;
     let place = reader.place() - octets.len();
     if !is_value(octets) {
         return Err(BerFault::BadContent { place });
@@ -147,7 +147,7 @@ fn read_value<'a>(reader: &mut Reader<'a>) -> Result<&'a [u8], BerFault>
 fn is_value(octets: &[u8]) -> bool
     ensures { result ≡ is_value octets.now }
 {
-    if octets.is_empty() || octets.len() > 256 {
+    if octets.is_empty() || octets.len() > LONGEST_VALUE {
         return false;
     }
     are_value_octets(octets)

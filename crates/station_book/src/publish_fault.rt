@@ -1,25 +1,14 @@
 // Why entries aren't published.
 
-use octet_core::Memory;
-use std::error::Error;
-use std::fmt;
+use thiserror::Error;
 
 /// Why entries aren't published.
-#[derive(Clone, Copy, Debug, PartialEq, Eq)]
+#[derive(Clone, Copy, Debug, PartialEq, Eq, Error)]
 pub enum PublishFault {
     /// The published entries followed by these are no archive.
+    #[error("the entries don't follow the published ones")]
     Foreign,
     /// Memory was refused.
+    #[error("out of memory")]
     Memory,
 }
-
-impl fmt::Display for PublishFault {
-    fn fmt<W: fmt::Write>(&self, f: &mut fmt::Formatter<W>) -> fmt::Result {
-        match self {
-            PublishFault::Foreign => f.write_str("the entries don't follow the published ones"),
-            PublishFault::Memory => Memory.fmt(f),
-        }
-    }
-}
-
-impl Error for PublishFault {}

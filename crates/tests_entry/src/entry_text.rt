@@ -1,10 +1,10 @@
 // What octets are read as in the place of an entry, as a text.
 ghost use Rattle.std.specs.Prelude.{◌≤◌, length};
 
-use octet_core::Octets;
+use octet_core::{Memory, Octets};
 use record_form::{
-    Entry, EntryFault, EntryRef, Memory, entry_length, read_entry, read_entry_at,
-    read_entry_ref_at, write_entry,
+    Entry, EntryFault, EntryRef, entry_length, read_entry, read_entry_at, read_entry_ref_at,
+    write_entry,
 };
 use sle_numbers::Numbered;
 use std::alloc::{AllocError, Global};

@@ -6,8 +6,8 @@ ghost use Rattle.gate_journal.specs.JournalState.{Keeps};
 use cds_time::{Cds, Rest};
 use disk_model::MemoryDisk;
 use gate_journal::{Journal, JournalFault, follows, laws};
-use octet_core::Octets;
-use record_form::{Entries, Entry, Memory};
+use octet_core::{Memory, Octets};
+use record_form::{Entries, Entry};
 use sle_numbers::FrameQuality;
 use std::alloc::{AllocError, Global};
 

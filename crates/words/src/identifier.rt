@@ -13,7 +13,7 @@ use crate::unread::Unread;
 use crate::word::Word;
 use crate::words_row::{Words, WriteWords};
 use octet_core::Octets;
-use sle_common::{Attribute, InstanceId, InstancePart};
+use sle_common::{Attribute, InstanceId, InstancePart, LONGEST_VALUE};
 use std::alloc::{AllocError, Global};
 
 impl Listed for Attribute {
@@ -69,9 +69,7 @@ const ROCF: &[u8] = b"rocf";
 
 const CLTU: &[u8] = b"cltu";
 
-const LONGEST_VALUE: usize = 256;
-
-const MOST_PARTS: u32 = 8;
+const MOST_PARTS: u32 = sle_common::MOST_PARTS as u32;
 
 /// The value of an attribute: 1 to 256 characters from 21 to 7E but `.` and `=`.
 pub struct ValueWord;

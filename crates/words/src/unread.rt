@@ -1,28 +1,18 @@
 // Why a word or a line gives no value.
 
 use std::alloc::{AllocError, AllocFailed};
-use std::error::Error;
-use std::fmt;
+use thiserror::Error;
 
 /// Why a word or a line gives no value.
-#[derive(Clone, Copy, Debug, PartialEq, Eq)]
+#[derive(Clone, Copy, Debug, PartialEq, Eq, Error)]
 pub enum Unread {
     /// It is outside the grammar.
+    #[error("outside the grammar")]
     Bad,
     /// There was no memory.
+    #[error("out of memory")]
     Memory,
 }
-
-impl fmt::Display for Unread {
-    fn fmt<W: fmt::Write>(&self, f: &mut fmt::Formatter<W>) -> fmt::Result {
-        match self {
-            Unread::Bad => f.write_str("outside the grammar"),
-            Unread::Memory => f.write_str("out of memory"),
-        }
-    }
-}
-
-impl Error for Unread {}
 
 impl From<AllocError> for Unread {
     ghost use Rattle.std.specs.Prelude.{◌≡◌};
