@@ -9,12 +9,14 @@ use Rattle.record_form.specs.declared.entry.Entry.TheVariants.{Frame}
 use Rattle.words.specs.Alphabet.{Of}
 use Rattle.words.specs.Line.{IsLineOf}
 use Rattle.words.specs.Line as line
+use Rattle.words.specs.Listed.{value_of}
+use Rattle.words.specs.Parts.{parts}
 use Rattle.words.specs.Row.{Row}
 use Rattle.words.specs.Steps.{◌>>=◌}
 use Rattle.words.specs.Table.{Says, of_forms}
 use Rattle.words.specs.declared.unread.Unread.{Unread}
 use Rattle.words.specs.declared.unread.Unread.TheVariants.{Bad as Unreadable, Memory as NoMemory}
-use Rattle.drill_text.specs.Script.{script, line_of, of_line, is_skipped}
+use Rattle.drill_text.specs.Script.{script, line_of, of_line, is_skipped, script_word, script_forms}
 use Rattle.drill_text.specs.declared.script_form.ScriptForm.{ScriptForm}
 use Rattle.drill_text.specs.declared.script_line.ScriptLine.{ScriptLine}
 use Rattle.drill_text.specs.declared.script_line.ScriptLine.TheVariants.{Skip, Offer}
@@ -33,6 +35,15 @@ form_reading f ws = (script.row f).read ws >>= λ p. Some (line_of f p)
 abbrev pub reading : List ℕ → Option ScriptLine
 reading text = if is_skipped text then Some Skip
     else (line.reading forms text >>= λ s. Some (line_of s.0 s.1))
+
+-- the form whose word is the first of these
+abbrev pub first_form : List (List ℕ) → Option ScriptForm
+first_form [] = None
+first_form (w ∷ ws) = value_of script_word script_forms w
+
+-- no form has the line's first word
+abbrev pub IsUnknown : List ℕ → Type 0
+IsUnknown text = (is_skipped text ≡ false) × (first_form (parts 32 text) ≡ None)
 
 -- each word of the line is in its range
 abbrev pub in_form : Option (Says script) → Type 0

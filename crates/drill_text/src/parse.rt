@@ -1,9 +1,11 @@
 // Lines of a script by their words.
 #![tactic(auto, unfolding(crate::specs::Reading::form_reading))]
 
-ghost use Rattle.std.specs.Prelude.{◌≡◌, IfOk, false};
+ghost use Rattle.std.specs.Prelude.{◌≡◌, IfOk, IsErrOf, None, false};
+ghost use Rattle.words.specs.Parts.{parts};
 ghost use Rattle.words.specs.Reading.{Gives, parts_behind};
-ghost use Rattle.drill_text.specs.Reading.{Fits, HasValidEntry, Reads, form_reading, reading};
+ghost use Rattle.drill_text.specs.Reading.{Fits, HasValidEntry, IsUnknown, Reads};
+ghost use Rattle.drill_text.specs.Reading.{first_form, form_reading, reading};
 ghost use Rattle.drill_text.specs.Script.{is_skipped};
 
 use crate::fail_row::FailRow;
@@ -17,18 +19,21 @@ use record_form::Entry;
 use std::alloc::Global;
 use words::{Listed, Nothing, Unread, Words, split_part};
 
-/// What a line of a script says, its end left away.
+/// What a line of a script says, its end left away. A line whose first word is no form's is refused
+/// as such, and not for want of memory: none is taken for it.
 #[tactic(auto, using(crate::proofs::Entries::reads_fit, crate::proofs::Entries::reads_valid))]
 pub fn parse_line(alloc: Global, line: &[u8]) -> Result<ScriptLine, LineFault>
     ensures exact { Reads result (reading line.now) }
     ensures fits { IfOk result Fits }
     ensures valid { IfOk result HasValidEntry }
+    ensures unknown { IsUnknown line.now → IsErrOf result LineFault.Bad }
 {
     read_text(alloc, line)
 }
 
 fn read_text(alloc: Global, line: &[u8]) -> Result<ScriptLine, LineFault>
-    ensures { Reads result (reading line.now) }
+    ensures exact { Reads result (reading line.now) }
+    ensures unknown { IsUnknown line.now → IsErrOf result LineFault.Bad }
 {
     if is_skipped(line) {
         return Ok(ScriptLine::Skip);
@@ -38,7 +43,8 @@ fn read_text(alloc: Global, line: &[u8]) -> Result<ScriptLine, LineFault>
 
 fn read_words(alloc: Global, line: &[u8]) -> Result<ScriptLine, Unread>
     requires { is_skipped line.now ≡ false }
-    ensures { Gives (λ says. says) result (reading line.now) }
+    ensures exact { Gives (λ says. says) result (reading line.now) }
+    ensures unknown { (first_form (parts 32 line.now) ≡ None) → IsErrOf result Unread.Bad }
 {
     let (word, words) = split_part(b' ', line);
     let form = ScriptForm::from_word(word).ok_or(Unread::Bad)?;
