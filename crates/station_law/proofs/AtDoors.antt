@@ -1,9 +1,9 @@
 -- What is at each door once one of them changes.
 use Rattle.std.proofs.Common.{◌≡◌, ℕ, zero, suc, true, Option, Some, None, List, [], ◌∷◌, length}
 use Rattle.std.proofs.Common.{◌<◌, get_or, replicate, slice_get, set, refl, sym, ap, ◌∙◌, set-set}
-use Rattle.std.proofs.Common.{arith}
+use Rattle.std.proofs.Common.{arith, Result, Ok, Err}
 use Rattle.std.proofs.lemmas.Option.{slice_get_read}
-use Rattle.std.specs.Prelude.{vec_items}
+use Rattle.std.specs.Prelude.{vec_items, OnErr}
 use Rattle.station_config.specs.declared.site.Site.{Site}
 use Rattle.station_book.specs.State as books
 use Rattle.station_links.specs.Connected.{Connected, opened}
@@ -18,6 +18,12 @@ use Rattle.station_law.specs.Doors.{acted}
 use Rattle.station_law.specs.Standing.{DoorsSeen, IsOpen, Match, IsThere, AreDoors, AreLeft, there}
 use Rattle.station_law.specs.Standing.{is_free, IsActed, IsAsked, IsOrdered, IsObeyed, HasGone}
 use Rattle.station_law.specs.Standing.{HasRan, HasActed}
+
+-- the site stays over two calls, where the second one fails
+pub site_kept : {T E : Type 0} (r : Result T E) (before mid after : DoorsSeen)
+    → mid.site ≡ before.site → OnErr r (after.site ≡ mid.site) → OnErr r (after.site ≡ before.site)
+site_kept (Ok x) before mid after same kept = tt
+site_kept (Err e) before mid after same kept = kept ∙ same
 
 -- ---- lists whose elements match at each place
 

@@ -81,6 +81,7 @@ impl Doors {
     pub fn renew(&mut self, archive: Entries) -> Result<(), Memory>
         requires { IsArchive archive }
         ensures renewed { OnOk result (AreDoors self.new (anew self.old.site archive)) }
+        ensures refused { OnErr result (self.new ≡ self.old) }
     {
         self.book = Book::new(self.alloc, &self.site, archive, 0)?;
         self.connections = nobody();
@@ -99,6 +100,7 @@ impl Doors {
         ensures published { OnOk result (self.new ≡ record self.old {
           book = after self.old.book (publish (entry_of entry.now ∷ []));
         }) }
+        ensures refused { OnErr result (self.new ≡ self.old) }
     {
         let mut batch = Entries::new(self.alloc);
         push(&mut batch, share(entry)?)?;
@@ -110,12 +112,13 @@ impl Doors {
 
     /// Does what a line says at the doors, at a reading of the clock, and answers what is said of
     /// its connection; or nothing, where it is none of these lines or in a wrong state. Want of
-    /// memory ends all.
+    /// memory ends all: then the line's connection may be lost, and the site is as it was.
     pub fn act(&mut self, line: &ScriptLine, reading: u128) -> Result<Option<SaidAt>, Memory>
         requires fits { Fits line.now }
         requires reading { reading < MOMENT_END }
         ensures acted { IfOk result (λ said. (d : Exchange) → AreDoors self.old d
             → IsActed said d (act d reading line.now) self.new) }
+        ensures refused { OnErr result (self.new.site ≡ self.old.site) }
     {
         if let ScriptLine::Open { c } = line {
             return self.open(*c, reading);
@@ -138,10 +141,11 @@ impl Doors {
         reading: u128,
     ) -> Result<Option<SaidAt>, Memory>
         requires { reading < MOMENT_END }
-        ensures { IfOk result (λ said. (d : Exchange) (l : Connected)
+        ensures gone { IfOk result (λ said. (d : Exchange) (l : Connected)
             → AreLeft self.old d turns.c → IsOpen d.site turns.c connection l
             → HasGone said d turns.c (rounds_of d.site turns.c reading turns.rounds d.book (Some l))
             self.new) }
+        ensures refused { OnErr result (self.new.site ≡ self.old.site) }
     {
         let Turns { c, rounds } = turns;
         let turn = rounds_of(
@@ -179,8 +183,9 @@ impl Doors {
 
     // Opens a connection at a reading of the clock, unless it is open.
     fn open(&mut self, c: u32, reading: u128) -> Result<Option<SaidAt>, Memory>
-        ensures { IfOk result (λ said. (d : Exchange) → AreDoors self.old d
+        ensures opened { IfOk result (λ said. (d : Exchange) → AreDoors self.old d
             → IsActed said d (opens d reading c (slice_get d.connections c)) self.new) }
+        ensures refused { OnErr result (self.new ≡ self.old) }
     {
         if !self.is_free(c) {
             return Ok(None);

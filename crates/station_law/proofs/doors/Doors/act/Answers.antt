@@ -1,7 +1,7 @@
-use Rattle.std.proofs.Common.{subst}
+use Rattle.std.proofs.Common.{ap, subst}
 use Rattle.std.proofs.lemmas.Result.{IfOk-weaker}
-use Rattle.station_law.specs.Standing.{IsActed}
-use Rattle.station_law.proofs.AtDoors.{goes, no_opening}
+use Rattle.station_law.specs.Standing.{IsActed, DoorsSeen}
+use Rattle.station_law.proofs.AtDoors.{goes, no_opening, site_kept}
 use Rattle.station_law.proofs.doors.Doors.act.Goals as goal
 
 pub returns : goal.returns
@@ -12,5 +12,7 @@ returns c = record {
       (goes c.args.self.now c.put_at.new.self c.go_on.new.self d c.args.reading
       c.in-Some.turns _ c.in-Some-put_at.connection c.obey.new.connection said are
       c.in-Some.ensures c.in-Some-put_at.ensures.before c.put_at.ensures.after c.in_ok-obey.ensures
-      rounds)) c.go_on.ensures;
+      rounds)) c.go_on.ensures.gone;
+  refused = site_kept c.go_on.result c.args.self.now c.put_at.new.self c.go_on.new.self
+      (ap (λ (d : DoorsSeen). d.site) c.put_at.ensures.after) c.go_on.ensures.refused;
 }
