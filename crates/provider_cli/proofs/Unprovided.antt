@@ -17,7 +17,7 @@ module _ {D : Type 0} (pending : D → Option Pending) (extent moment : D → �
     (is : exit ≡ code Memory)
   where
     unmade : (disk : Option D) → IfSome disk (λ old. IsSomeAnd disk (λ new. IsInit pending extent
-        faults old new output output f f exit))
+        moment images_since faults old new output output f f exit))
     unmade None = tt
     unmade (Some disk) = record {
       how = unasked;

@@ -1,5 +1,5 @@
 -- What `init` and `list` do with the file of a disk. This product's own rules.
-use Rattle.std.specs.Prelude.{◌≡◌, ◌⊎◌, ℕ, ◌<◌, Option, None, unwrap_or, IfSome, IsSomeAnd, List, [], ◌∷◌}
+use Rattle.std.specs.Prelude.{◌≡◌, ◌⊎◌, ℕ, ◌<◌, ◌≤◌, Option, None, unwrap_or, IfSome, IsSomeAnd, List, [], ◌∷◌}
 use Rattle.std.specs.Prelude.{◌++◌, codes, Result, Ok, Err, IfOk, OnOk, OnErr}
 use Rattle.std.specs.Fmt.{decimal}
 use Rattle.std.specs.List.{flat_map}
@@ -24,7 +24,7 @@ use Rattle.gate_journal.specs.declared.fault.JournalFault.TheVariants as refusal
 use Rattle.gate_journal.specs.declared.batch_fault.BatchFault.{BatchFault}
 use Rattle.gate_journal.specs.declared.batch_fault.BatchFault.TheVariants as batches
 use Rattle.gate_journal.specs.File.{StandsFor}
-use Rattle.gate_journal.specs.JournalState.{Keeps}
+use Rattle.gate_journal.specs.JournalState.{Keeps, IsBegun}
 use Rattle.gate_journal.specs.Reading.{IsNoJournal, IsDamagedAt}
 use Rattle.drill_text.specs.Reading.{entry_text}
 use Rattle.station_law.specs.Output.{Wrote}
@@ -62,21 +62,30 @@ made_status occupied = ends.ArchiveRefused
 made_status failed = ends.DiskFault
 made_status unasked = ends.Memory
 
--- A file is made on an empty disk alone, whose one image then stands for no entries; a disk that
--- isn't empty is as it was; and one that failed was empty.
-abbrev pub LeavesMade : {D : Type 0} → (D → Option Pending) → (D → ℕ) → (D → ℕ) → D → D
-    → InitOutcome → Type 0
-LeavesMade pending extent faults old new made =
-    (extent old ≡ 0) × IfSome (pending old) (λ _. Keeps (pending new) [])
-LeavesMade pending extent faults old new occupied = (0 < extent old) × (new ≡ old)
-LeavesMade pending extent faults old new failed = (extent old ≡ 0) × Rose (faults old) (faults new)
-LeavesMade pending extent faults old new unasked = new ≡ old
+module _ {D : Type 0} (pending : D → Option Pending) (extent moment : D → ℕ)
+    (images_since : D → ℕ → List ℕ → Type 0) (faults : D → ℕ) where
+  -- At every moment of a file's making a crash leaves no more than the front of a new one, which
+  -- stands for no entries.
+  abbrev pub IsBegunThroughout : D → D → Type 0
+  IsBegunThroughout old new = IfSome (pending old) (λ told. told.greatest ≤ 9)
+      → HoldsThroughout moment images_since old new IsBegun
+
+  -- A file is made on an empty disk alone, whose one image then stands for no entries; a disk that
+  -- isn't empty is as it was; and one that failed was empty.
+  abbrev pub LeavesMade : D → D → InitOutcome → Type 0
+  LeavesMade old new made = (extent old ≡ 0)
+      × IfSome (pending old) (λ _. Keeps (pending new) []) × IsBegunThroughout old new
+  LeavesMade old new occupied = (0 < extent old) × (new ≡ old)
+  LeavesMade old new failed = (extent old ≡ 0) × Rose (faults old) (faults new)
+      × IsBegunThroughout old new
+  LeavesMade old new unasked = new ≡ old
 
 -- what `init` promises of a disk and an output, by its exit code
-pub record IsInit {D : Type 0} (pending : D → Option Pending) (extent faults : D → ℕ) (old new : D)
+pub record IsInit {D : Type 0} (pending : D → Option Pending) (extent moment : D → ℕ)
+    (images_since : D → ℕ → List ℕ → Type 0) (faults : D → ℕ) (old new : D)
     (before after : Option (List ℕ)) (faults_before faults_after exit : ℕ) : Type 0 where
   pub how : InitOutcome
-  pub leaves : LeavesMade pending extent faults old new how
+  pub leaves : LeavesMade pending extent moment images_since faults old new how
   pub closes : Closes before after faults_before faults_after (made_text how) (made_status how) exit
 
 -- ---- the entries of a file

@@ -25,8 +25,9 @@ pub record IsProvided {D : Type 0} (pending : D → Option Pending) (extent mome
       after.write_faults (codes "usage" ++ 10 ∷ []) Usage exit
   pub drilled : plan ≡ Some Drill → IsDrill before after exit
   pub made : (path : List ℕ) → plan ≡ Some (Init path)
-      → IfSome old (λ found. IsSomeAnd new (λ left. IsInit pending extent faults found left
-      before.written after.written before.write_faults after.write_faults exit))
+      → IfSome old (λ found. IsSomeAnd new (λ left. IsInit pending extent moment
+      images_since faults found left before.written after.written before.write_faults
+      after.write_faults exit))
   pub listed : (path : List ℕ) → plan ≡ Some (plans.List path)
       → IfSome old (λ found. IsSomeAnd new (λ left. IsList pending moment images_since faults
       found left before.written after.written before.write_faults after.write_faults exit))

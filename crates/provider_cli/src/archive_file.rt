@@ -27,7 +27,7 @@ const DISK_FAULT: &[u8] = b"disk fault\n";
 /// Makes a new archive file on an empty disk, and says so. Answers the exit code, and hands the
 /// disk back.
 pub fn init_archive<D: Disk, O: Sink>(alloc: Global, disk: D, output: &mut O) -> (u8, D)
-    ensures { IsInit D.pending D.extent D.faults disk result.1
+    ensures { IsInit D.pending D.extent D.moment D.images_since D.faults disk result.1
         (O.written output.old) (O.written output.new)
         (O.faults output.old) (O.faults output.new)
         result.0 }
