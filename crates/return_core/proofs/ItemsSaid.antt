@@ -35,7 +35,7 @@ place_said item = grind arith
 pub archived_said : (item : Item) → is_archived (said_item item) ≡ is_archived item
 archived_said item = grind arith
 
-backlog_said : (item : Item) → is_backlog (said_item item) ≡ is_backlog item
+pub backlog_said : (item : Item) → is_backlog (said_item item) ≡ is_backlog item
 backlog_said item = grind arith
 
 end_said : (item : Item) → is_end_of_data (said_item item) ≡ is_end_of_data item

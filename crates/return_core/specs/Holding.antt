@@ -1,5 +1,5 @@
 -- The items that a delivery holds for its next message.
-use Rattle.std.specs.Prelude.{◌≡◌, ℕ, ◌-◌, Bool, not, ◌&&◌, ◌==◌, if◌then◌else◌, Option, None, List}
+use Rattle.std.specs.Prelude.{◌≡◌, ℕ, ◌-◌, ◌^◌, ◌<◌, Bool, not, ◌&&◌, ◌==◌, if◌then◌else◌, Option, None, List}
 use Rattle.std.specs.Prelude.{[], ◌∷◌, ◌++◌, length, take}
 use Rattle.std.specs.List.{list_any, sum_by}
 use Rattle.archive_terms.specs.Delivery.{backlog, end_of_data, is_notification, is_notice_item}
@@ -31,8 +31,9 @@ holding_of b place frame =
       since = b.since;
     }
 
--- the buffer's numbers are those of its items
+-- the buffer's numbers are those of its items, and its size is a number of 32 bits
 pub record IsCounted (b : Held Item) : Type 0 where
+  pub size : b.size < 2 ^ 32
   pub octets : b.octets ≡ sum_by frame_octets (items_of (select.items_of b.items))
   pub notified : b.notified ≡ list_any is_notification (items_of (select.items_of b.items))
   pub closing : b.closing ≡ list_any is_notice_item (items_of (select.items_of b.items))

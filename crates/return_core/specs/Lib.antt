@@ -3,3 +3,4 @@ pub mod Item
 pub mod Holding
 pub mod Course
 pub mod Standing
+pub mod Visits

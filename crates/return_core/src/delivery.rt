@@ -14,6 +14,7 @@ ghost use Rattle.return_core.specs.Standing.{waiting_round, StandsFor, IsNextLoo
 ghost use Rattle.return_core.specs.Course.{stopped, terms_of, with_start, without_start};
 ghost use Rattle.return_core.specs.Course.{limit_of_course, want_of_course, is_filling};
 ghost use Rattle.return_core.specs.Course.{is_offering, with_step, with_answer, held_of};
+ghost use Rattle.return_core.specs.Visits.{fate_by, discard_told};
 
 use crate::held_items::HeldItems;
 use archive_terms::laws::places_are_counts;
@@ -203,6 +204,30 @@ impl Delivery {
         match self.selection {
             Some(_) => self.held.items(),
             None => &[],
+        }
+    }
+
+    /// How many items the link's answer discards, a backlog not counted, where it discards the
+    /// buffer that is offered: a timely delivery does that with picked entries that stalled. It
+    /// costs the held items, and is asked before `settle`.
+    pub fn discards(&self, answer: Offer) -> Option<u32>
+        ensures { result ≡ discard_told (fate_by self.now (answer_of answer)) }
+    {
+        match answer {
+            Offer::Stalled if self.is_offering() => self.stall_discards(),
+            _ => None,
+        }
+    }
+
+    // How many items a stall discards of the buffer that is offered.
+    fn stall_discards(&self) -> Option<u32>
+        requires { IsTrue (is_offering self.now) }
+        ensures { result ≡ discard_told (fate_by self.now stall) }
+    {
+        if self.mode == ReturnDeliveryMode::TimelyOnline && self.held.has_archived() {
+            Some(self.held.items_told())
+        } else {
+            None
         }
     }
 

@@ -12,6 +12,7 @@ ghost use Rattle.return_core.specs.Item.{is_of_archive, are_of_archive};
 ghost use Rattle.return_core.specs.Holding.{empty_holding, takes_more, with_put, fitting};
 ghost use Rattle.return_core.specs.Holding.{filled_with, headed, ended_with, is_last_of, filled_at};
 ghost use Rattle.return_core.specs.Holding.{without_held};
+ghost use Rattle.return_core.specs.Visits.{items_told};
 
 use crate::parts;
 use archive_terms::FULL_BUFFER;
@@ -132,6 +133,14 @@ impl HeldItems {
         ensures { result ≡ list_any is_backlog (items_of self.now.told) }
     {
         parts::any_backlog(self.items())
+    }
+
+    /// How many items are held, a backlog not counted.
+    pub fn items_told(&self) -> u32
+        ensures { result ≡ items_told (items_of self.now.told) }
+    {
+        let _room = self.buffer.room();
+        parts::items_told(self.buffer.items()) as u32
     }
 
     /// Whether end of data is told.

@@ -1,7 +1,7 @@
 // Laws of deliveries over rounds, each the contract of a function that does nothing: a caller has
 // the law by the call.
 ghost use Rattle.std.specs.Prelude.{◌≡◌, ℕ, ◌^◌, ◌<◌, ◌≤◌, true, false, IsTrue, IsFalse, List, []};
-ghost use Rattle.std.specs.Prelude.{◌∷◌, ◌++◌, length, take};
+ghost use Rattle.std.specs.Prelude.{◌∷◌, ◌++◌, length, take, Option};
 ghost use Rattle.std.specs.List.{list_any};
 ghost use Rattle.archive_terms.specs.Archive.{Entry, IsArchive};
 ghost use Rattle.archive_terms.specs.Selection.{picked, is_stop_closed};
@@ -13,11 +13,13 @@ ghost use Rattle.archive_terms.specs.Rounds.{to_hand_over, TimelyShape};
 ghost use Rattle.archive_terms.specs.Glimpse.{Want, glimpse};
 ghost use Rattle.frame_select.specs.Glimpse.{as_said};
 ghost use Rattle.return_core.specs.Item.{are_of_archive};
-ghost use Rattle.return_core.specs.Course.{Course, is_offering};
+ghost use Rattle.return_core.specs.Course.{Course, is_offering, want_of_course};
 ghost use Rattle.return_core.specs.Standing.{goes_on, all_go_on, waiting_round, blocked_round};
 ghost use Rattle.return_core.specs.Standing.{answered_round, StandsFor};
+ghost use Rattle.return_core.specs.Visits.{Visit, stepped, rounds_of, IsLook, AreLooks};
+ghost use Rattle.return_core.specs.Visits.{VisitsStand};
 
-use archive_terms::laws::{complete_delivery, timely_delivery};
+use archive_terms::laws::{complete_delivery, places_are_counts, timely_delivery};
 
 /// A round in which a block of an earlier round waits leaves a delivery as it is, and one whose
 /// buffer isn't due stands whatever its link would have answered; nothing is done in a round in
@@ -38,6 +40,43 @@ pub fn rounds_without_an_offer()
         ≡ outcomes t entries rounds started ++ nothing ∷ [])
         × (outcomes t entries (rounds ++ waiting_round front now ∷ []) started
         ≡ outcomes t entries rounds started ++ nothing ∷ []) }
+{}
+
+/// The rounds of a session are rounds of a delivery: where it stood for rounds, and each visit of
+/// its session was a step on the look that it wanted, with the link's answer where an offer was
+/// made, it stands for these rounds and those of the visits; and what the visits did, handed over
+/// and told of discards is what the delivery by counts does in their rounds.
+pub fn each_visit_stands()
+    ensures { (c : Course) (t : Terms) (entries : List Entry) (rounds : List Round)
+        (visits : List Visit)
+        → StandsFor c t entries rounds
+        → AreLooks entries (last_front t.selection.first rounds) c visits
+        → IsTrue (all_go_on (rounds_of visits)) → VisitsStand c t entries rounds visits }
+{
+    places_are_counts();
+}
+
+/// A delivery that stands for rounds over an archive does so over each longer one, and the looks of
+/// its visits are looks at that one.
+pub fn a_delivery_stands_as_the_archive_grows()
+    ensures stands { (c : Course) (t : Terms) (entries later : List Entry) (rounds : List Round)
+        → StandsFor c t entries rounds → last_front t.selection.first rounds ≤ length entries
+        → IsArchive (entries ++ later) → StandsFor c t (entries ++ later) rounds }
+    ensures looks { (c : Course) (entries later : List Entry) (from : ℕ) (visits : List Visit)
+        → AreLooks entries from c visits → last_front from (rounds_of visits) ≤ length entries
+        → AreLooks (entries ++ later) from c visits }
+{}
+
+/// A look at an archive that a delivery wanted is one at the front of each longer archive, which is
+/// its length.
+pub fn a_wanted_look_is_one_at_its_front()
+    ensures look { (c : Course) (entries later : List Entry) (now : ℕ) (answer : Option Answer)
+        → IsLook (entries ++ later) c
+        (stepped (as_said (glimpse entries (want_of_course c))) now answer) }
+    ensures whole { (c : Course) (entries : List Entry) (now : ℕ) (answer : Option Answer)
+        → IsLook entries c (stepped (as_said (glimpse entries (want_of_course c))) now answer) }
+    ensures front { (entries : List Entry) (want : Want)
+        → (as_said (glimpse entries want)).front ≡ length entries }
 {}
 
 /// What a complete or offline delivery handed over in the rounds for which it stands is a prefix of

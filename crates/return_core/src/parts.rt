@@ -1,6 +1,6 @@
 // What an item is to a transfer buffer.
-ghost use Rattle.std.specs.Prelude.{◌≡◌, [], ◌∷◌, IsTrue};
-ghost use Rattle.std.specs.List.{list_any, list_all};
+ghost use Rattle.std.specs.Prelude.{◌≡◌, ◌≤◌, [], ◌∷◌, IsTrue, not, length};
+ghost use Rattle.std.specs.List.{list_any, list_all, count_by};
 ghost use Rattle.archive_terms.specs.Delivery.{is_archived, is_backlog, is_end_of_data};
 ghost use Rattle.archive_terms.specs.Delivery.{is_notice_item, is_notification, frame_octets};
 ghost use Rattle.archive_terms.specs.Delivery.{entries_of};
@@ -92,6 +92,14 @@ pub fn any_backlog(items: &[Item]) -> bool
     ensures { result ≡ list_any (λ item. is_backlog (item_of item).0) items.now }
 {
     items.iter().any(|item| is_backlog(item))
+}
+
+/// How many items there are, a backlog not counted.
+pub fn items_told(items: &[Item]) -> usize
+    ensures count { result ≡ count_by (λ item. not (is_backlog (item_of item).0)) items.now }
+    ensures within { result ≤ length items.now }
+{
+    items.iter().filter(|item| !is_backlog(item)).count()
 }
 
 /// Whether some item is end of data.
