@@ -108,7 +108,7 @@ ask_leaves s door other (ask.CltuStart first) apart = refl
 ask_leaves s door other (ask.CltuTransfer cltu) apart = refl
 ask_leaves s door other ask.CltuStop apart = refl
 
-answer_leaves : (s : State) (door other now : ℕ) (ask : Ask) → (other == door) ≡ false
+pub answer_leaves : (s : State) (door other now : ℕ) (ask : Ask) → (other == door) ≡ false
     → instance_of (asked s other now ask) door ≡ instance_of s door
 answer_leaves s door other now ask apart =
     elim (is_lost s other ask) as (λ b. instance_of (if b then s else with_ask s other now ask) door
@@ -141,7 +141,7 @@ either_taken : (b : Bool) (x y : Machine × Taken) (v : Bool) → x.0.started �
 either_taken true x y v p q = p
 either_taken false x y v p q = q
 
-started_transfer : (m : Machine) (cltu : Cltu) (now : ℕ)
+pub started_transfer : (m : Machine) (cltu : Cltu) (now : ℕ)
     → (on_transfer m cltu now).0.started ≡ m.started
 started_transfer m cltu now = at_refusal (refusal m cltu now)
   where
@@ -149,7 +149,7 @@ started_transfer m cltu now = at_refusal (refusal m cltu now)
     at_refusal None = refl
     at_refusal (Some d) = refl
 
-started_take : (m : Machine) (now : ℕ) → (on_take m now).0.started ≡ m.started
+pub started_take : (m : Machine) (now : ℕ) → (on_take m now).0.started ≡ m.started
 started_take m now = of_waiting m.waiting
   where
     of_radiation : (ws : List Cltu) → (on_radiation_of ws m now).0.started ≡ m.started
@@ -169,7 +169,7 @@ started_ended m a now =
     either (length told.waiting == 0) _ told m.started (either a.wanted _ _ m.started refl refl)
     (either a.wanted _ _ m.started refl refl)
 
-started_done : (m : Machine) (run id now : ℕ) → (on_done m run id now).started ≡ m.started
+pub started_done : (m : Machine) (run id now : ℕ) → (on_done m run id now).started ≡ m.started
 started_done m run id now = of_air m.in_air
   where
     of_air : (o : Option InAir) → (on_done_of o m run id now).started ≡ m.started
@@ -177,7 +177,7 @@ started_done m run id now = of_air m.in_air
     of_air (Some a) = either (not (is_this run id a)) _ _ m.started refl
         (either (is_of_run m a) _ _ m.started (started_ended m a now) refl)
 
-started_interrupted : (m : Machine) (run id : ℕ) → (on_interrupted m run id).started ≡ m.started
+pub started_interrupted : (m : Machine) (run id : ℕ) → (on_interrupted m run id).started ≡ m.started
 started_interrupted m run id = of_air m.in_air
   where
     of_air : (o : Option InAir) → (on_interrupted_of o m run id).started ≡ m.started
@@ -192,21 +192,21 @@ started_changed Configured m = refl
 started_changed Interrupted m = refl
 started_changed Halted m = refl
 
-started_uplink : (m : Machine) (production : CltuProductionStatus) (status : UplinkStatus)
+pub started_uplink : (m : Machine) (production : CltuProductionStatus) (status : UplinkStatus)
     → (on_uplink m production status).started ≡ m.started
 started_uplink m production status =
     let set : Machine = record m { production = production; status = status } in
     either (m.started && not (is_same m.production production)) _ _ m.started
     (started_changed production set) refl
 
-started_notice : (m : Machine) → (on_notice m).0.started ≡ m.started
+pub started_notice : (m : Machine) → (on_notice m).0.started ≡ m.started
 started_notice m = of_notices m.notices
   where
     of_notices : (ns : List Notice) → (on_notice_of ns m).0.started ≡ m.started
     of_notices [] = refl
     of_notices (n ∷ ns) = refl
 
-started_told : (s : State) (door now : ℕ) (ask : Ask)
+pub started_told : (s : State) (door now : ℕ) (ask : Ask)
     → (queue_answered s door now ask).started ≡ (asked s door now ask).queue.started
 started_told s door now ask =
     either (is_told s door now ask) _ _ (asked s door now ask).queue.started
@@ -239,7 +239,7 @@ forwards s door e = at_place (instance_of s door) refl e
     at_place None stands e = absurd (cc e)
     at_place (Some i) stands e = record { place = i; stands = stands; serves = e }
 
-other_has_none : (s : State) (door other : ℕ) → HasOneForward s.opening.services
+pub other_has_none : (s : State) (door other : ℕ) → HasOneForward s.opening.services
     → (other == door) ≡ false → has_forward s door ≡ true → has_forward s other ≡ false
 other_has_none s door other one apart e = by_other (has_forward s other) refl
   where
@@ -252,7 +252,7 @@ other_has_none s door other one apart e = by_other (has_forward s other) refl
         absurd (apart_instances s door other a.place apart a.stands (b.stands
         ∙ ap (λ n. Some n) same))
 
-not_running : (s : State) (other : ℕ) → has_forward s other ≡ false → is_running s other ≡ false
+pub not_running : (s : State) (other : ℕ) → has_forward s other ≡ false → is_running s other ≡ false
 not_running s other e = ap (λ b. b && s.queue.started) e
 
 without_leaves : (s : State) (other : ℕ) → has_forward s other ≡ false
@@ -267,7 +267,7 @@ not_false : not false ≡ true
 not_false = refl
 
 -- an ask of a door without the forward service's instance starts and stops no run
-ask_leaves_run : (s : State) (other now : ℕ) (ask : Ask) → has_forward s other ≡ false
+pub ask_leaves_run : (s : State) (other now : ℕ) (ask : Ask) → has_forward s other ≡ false
     → (asked s other now ask).queue.started ≡ s.queue.started
 ask_leaves_run s other now wanted e = by_lost (is_lost s other wanted) refl
   where
@@ -287,7 +287,7 @@ ask_leaves_run s other now wanted e = by_lost (is_lost s other wanted) refl
     by_lost true l = refl
     by_lost false l = fits wanted l
 
-call_leaves_run : (s : State) (call : Call) (door : ℕ) → HasOneForward s.opening.services
+pub call_leaves_run : (s : State) (call : Call) (door : ℕ) → HasOneForward s.opening.services
     → is_by door call ≡ false → has_forward s door ≡ true
     → (after s call).queue.started ≡ s.queue.started
 call_leaves_run s (publish entries) door one apart e =
@@ -306,7 +306,7 @@ call_leaves_run s (uplink production status reading) door one apart e =
     started_uplink s.queue production status
 call_leaves_run s (gone worker) door one apart e = refl
 
-forward_stays : (s : State) (call : Call) (door : ℕ) → is_by door call ≡ false
+pub forward_stays : (s : State) (call : Call) (door : ℕ) → is_by door call ≡ false
     → has_forward (after s call) door ≡ has_forward s door
 forward_stays s call door apart =
     ap (λ o. option_map_or (λ place. is_forward (slice_get o.services place))
@@ -369,7 +369,7 @@ lost_by s t door (ask.CltuStart first) o i r f =
 lost_by s t door (ask.CltuTransfer cltu) o i r f = ap not r
 lost_by s t door ask.CltuStop o i r f = ap not r
 
-opening_stays_over : (s : State) (h : List Event) → (replay s h).opening ≡ s.opening
+pub opening_stays_over : (s : State) (h : List Event) → (replay s h).opening ≡ s.opening
 opening_stays_over s [] = refl
 opening_stays_over s (e ∷ h) = opening_stays_over (then_after s e) h ∙ opening_stays s e.call
 

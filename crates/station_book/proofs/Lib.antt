@@ -4,5 +4,8 @@ pub mod Published
 pub mod Doors
 pub mod Bound
 pub mod Radiating
+pub mod Quiet
+pub mod Notified
+pub mod Named
 pub mod Sites
 pub mod Opened

@@ -84,16 +84,16 @@ steps_append m (x ∷ xs) ys = ap (λ zs. record { event = x; reply = (forward m
 
 -- ---- what an ask that fits knows of the run
 
-or_right : (a b : Bool) → (a || b) ≡ false → b ≡ false
+pub or_right : (a b : Bool) → (a || b) ≡ false → b ≡ false
 or_right true b e = absurd (cc e)
 or_right false b e = e
 
-of_both : (a b : Bool) → not (a && b) ≡ false → b ≡ true
+pub of_both : (a b : Bool) → not (a && b) ≡ false → b ≡ true
 of_both true true e = refl
 of_both true false e = absurd (cc e)
 of_both false b e = absurd (cc e)
 
-begins : (m : Machine) (first : ℕ) → m.started ≡ false
+pub begins : (m : Machine) (first : ℕ) → m.started ≡ false
     → forward m (queue.start first) ≡ ((on_start m first).0, started (on_start m first).1)
 begins m first none = ap (λ b. if b then (m, unfit)
     else ((on_start m first).0, started (on_start m first).1)) none

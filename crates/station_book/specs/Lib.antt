@@ -6,3 +6,5 @@ pub mod Parts
 pub mod Publishing
 pub mod Doors
 pub mod Radiation
+pub mod Notices
+pub mod Named

@@ -1,5 +1,5 @@
 // The book.
-ghost use Rattle.std.specs.Prelude.{◌≡◌, ◌<◌, ◌≤◌, IfOk, OnOk, OnErr, IfErr, IsFalse, IsTrue};
+ghost use Rattle.std.specs.Prelude.{◌≡◌, ◌^◌, ◌<◌, ◌≤◌, IfOk, OnOk, OnErr, IfErr, IsFalse, IsTrue};
 ghost use Rattle.std.specs.Prelude.{length, slice_get, slice_set, if◌then◌else◌, Some};
 ghost use Rattle.station_book.specs.History.{is_of, is_forward, is_quiet};
 ghost use Rattle.cds_time.specs.declared.cds.TheConstants.{MOMENT_END};
@@ -163,12 +163,16 @@ impl Book {
         reading.max(self.moment)
     }
 
-    /// What a look at the published entries gives. It goes over the index from the wanted place on,
-    /// and shares the octets of what it gives.
+    /// What a look at the published entries gives. They are an archive of fewer than 2^64 entries, so
+    /// that a delivery may step on it. It goes over the index from the wanted place on, and shares
+    /// the octets of what it gives.
     pub fn look(&self, want: &Want) -> Result<Glimpse, Memory>
-        ensures { IfOk result (λ g. glimpse_of g
+        ensures glimpse { IfOk result (λ g. glimpse_of g
             ≡ as_said (glimpse self.now.published (want_of want.now))) }
+        ensures archive { IsArchive self.now.published }
+        ensures count { length self.now.published < 2 ^ 64 }
     {
+        let _count = self.entries.len();
         self.index.glimpse(self.alloc, &self.entries, want)
     }
 
@@ -207,6 +211,8 @@ impl Book {
             ≡ as_said (glimpse self.old.published (want_of want.now))) }
         ensures notice { IfOk result (λ r. r.2
             ≡ notice_of self.old door (moment_at self.old reading) ask.now) }
+        ensures archive { IsArchive self.old.published }
+        ensures count { length self.old.published < 2 ^ 64 }
         ensures err { OnErr result (self.new ≡ self.old) }
     {
         let now = self.peek(reading);

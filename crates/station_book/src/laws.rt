@@ -16,6 +16,8 @@ ghost use Rattle.station_book.specs.History.{replay, IsLegal, StandsAs};
 ghost use Rattle.station_book.specs.Publishing.{published_in, FrontsRise};
 ghost use Rattle.station_book.specs.Doors.{Has, is_by, HasOneForward};
 ghost use Rattle.station_book.specs.Radiation.{run_begun, are_of_one_run, radiations, IsLawful};
+ghost use Rattle.station_book.specs.Notices.{door_of_run, are_before_stop, IsToldInTurn};
+ghost use Rattle.station_book.specs.Named.{IsMadeBy};
 
 use cltu_queue::laws as queue;
 
@@ -34,6 +36,26 @@ pub fn one_event_more()
 /// No call changes a book's origin.
 pub fn the_origin_stays()
     ensures { (s : State) (call : Call) → (after s call).opening ≡ s.opening }
+{}
+
+/// A book that stands for a list stands, after a call that is named, for the list with its event. It
+/// is `one_event_more` for a caller whose call is known, as `quit door`, so that what stands behind
+/// it has computed: the caller's own clause says by `IsMadeBy` which call it was.
+pub fn more_by()
+    ensures { (call : Call) (before book : State) (e : Event) (h : List Event)
+        → IsMadeBy call before book e → StandsAs before h → StandsAs book (h ++ e ∷ []) }
+{}
+
+/// A call that is named doesn't change a book's origin.
+pub fn origin_by()
+    ensures { (call : Call) (before book : State) (e : Event) (o : Opening)
+        → IsMadeBy call before book e → before.opening ≡ o → book.opening ≡ o }
+{}
+
+/// What a book of this origin stands for is legal from it.
+pub fn legal_by()
+    ensures { (book : State) (o : Opening) (h seen : List Event) → StandsAs book h
+        → book.opening ≡ o → seen ≡ h → IsLegal (opened o) seen }
 {}
 
 /// The published entries are those of the origin and those that the events published, in order.
@@ -97,6 +119,16 @@ pub fn lawful_radiation()
 {
     queue::lawful_radiation();
 }
+
+/// Between a run's START and its stop, the notices that are told at its door are, in order and each
+/// once, the first of those that the run's events made, but for those that a later `uplink`
+/// replaced; the others of these wait. No other door is told any.
+pub fn notices_are_told_in_turn()
+    ensures { (o : Opening) (h k : List Event) (e : Event) (door : ℕ) → HasOneForward o.services
+        → IsLegal (opened o) (h ++ e ∷ k) → door_of_run e ≡ Some door
+        → IsTrue (are_before_stop door k)
+        → IsToldInTurn (replay (opened o) (h ++ e ∷ [])) door k }
+{}
 
 /// In each legal history from a book's origin, each radiation is of a later run than the one before
 /// it, or of a later CLTU of the same run: nothing radiates twice.
