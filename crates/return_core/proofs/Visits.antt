@@ -1,19 +1,18 @@
 -- A delivery stands for the rounds of its visits.
-use Rattle.std.proofs.Common.{◌≡◌, ℕ, ◌≤◌, Bool, true, not, ◌&&◌, List, [], ◌∷◌, ◌++◌, map, Option}
+use Rattle.std.proofs.Common.{◌≡◌, ℕ, ◌≤◌, Bool, true, ◌&&◌, List, [], ◌∷◌, ◌++◌}
 use Rattle.std.proofs.Common.{Some, None, refl, sym, ap, ◌∙◌, append_assoc, arith}
-use Rattle.std.specs.List.{count_by, filter_map}
 use Rattle.std.proofs.lemmas.List.{append-nil, map-append}
 use Rattle.std.proofs.lemmas.List.Elements.{filter_map-append}
 use Rattle.std.proofs.lemmas.List.Folds.{fold-map}
 use Rattle.archive_terms.specs.Archive.{Entry}
-use Rattle.archive_terms.specs.Delivery.{Item, is_backlog, Terms, started}
+use Rattle.archive_terms.specs.Delivery.{Item, Terms, started}
 use Rattle.archive_terms.specs.Rounds.{Answer, Round, Outcome, nothing, last_front, outcomes}
 use Rattle.archive_terms.specs.Rounds.{handed_buffers}
 use Rattle.archive_terms.specs.Continuity.{told_buffers}
-use Rattle.return_core.specs.Course.{Course, with_step, with_answer}
-use Rattle.return_core.specs.Standing.{StandsFor, goes_on, handed_told, said_told, said_item}
+use Rattle.return_core.specs.Course.{Course, with_step}
+use Rattle.return_core.specs.Standing.{StandsFor, goes_on, handed_told, said_told}
 use Rattle.return_core.specs.Standing.{said_items, said_outcome, said_outcomes, fate_of}
-use Rattle.return_core.specs.Standing.{all_go_on, waiting_round, answered_round, Steps, Settles}
+use Rattle.return_core.specs.Standing.{all_go_on, waiting_round}
 use Rattle.return_core.specs.Visits.{Visit, passed, stepped, round_of, front_of, visited}
 use Rattle.return_core.specs.Visits.{after_visits, handed_in, visits_handed, fate_by, done_in}
 use Rattle.return_core.specs.Visits.{visits_done, items_told, discard_told, discards_told, IsLook}

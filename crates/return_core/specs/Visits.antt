@@ -2,18 +2,18 @@
 -- link's answer to the buffer that is offered then. A session needs no archive and no list to say
 -- this; the rounds of the delivery are a function of it.
 use Rattle.std.specs.Prelude.{◌≡◌, ℕ, ◌≤◌, not, if◌then◌else◌, Option, Some, None, List, [], ◌∷◌}
-use Rattle.std.specs.Prelude.{◌++◌, map, take, true}
+use Rattle.std.specs.Prelude.{◌++◌, map, take}
 use Rattle.std.specs.List.{count_by, filter_map}
 use Rattle.std.specs.Option.{option_map, option_map_or}
 use Rattle.archive_terms.specs.Archive.{Entry}
 use Rattle.archive_terms.specs.Delivery.{Item, is_backlog, Terms, started}
-use Rattle.archive_terms.specs.Rounds.{Answer, Outcome, nothing, Round, outcomes, last_front}
+use Rattle.archive_terms.specs.Rounds.{Answer, Outcome, nothing, Round, outcomes}
 use Rattle.archive_terms.specs.Glimpse.{Glimpse, glimpse}
 use Rattle.archive_terms.specs.Placed.{ToldItem, items_of, placed_fate}
 use Rattle.frame_select.specs.Glimpse.{as_said}
 use Rattle.return_core.specs.Course.{Run, Course, with_step, with_answer, want_of_course}
 use Rattle.return_core.specs.Standing.{StandsFor, blocked_round, waiting_round, answered_round}
-use Rattle.return_core.specs.Standing.{all_go_on, handed_by, handed_told, said_told, said_outcomes}
+use Rattle.return_core.specs.Standing.{handed_by, handed_told, said_told, said_outcomes}
 
 -- ---- visits
 

@@ -199,7 +199,7 @@ started_uplink m production status =
     either (m.started && not (is_same m.production production)) _ _ m.started
     (started_changed production set) refl
 
-pub started_notice : (m : Machine) → (on_notice m).0.started ≡ m.started
+started_notice : (m : Machine) → (on_notice m).0.started ≡ m.started
 started_notice m = of_notices m.notices
   where
     of_notices : (ns : List Notice) → (on_notice_of ns m).0.started ≡ m.started

@@ -1,7 +1,7 @@
 -- A book after a call that is named.
 use Rattle.std.proofs.Common.{◌≡◌, List, [], ◌∷◌, ◌++◌, ap, sym, subst, ◌∙◌}
 use Rattle.station_book.specs.State.{State, Opening, opened, Call, Event}
-use Rattle.station_book.specs.History.{after, event_at, IsLegal, StandsAs}
+use Rattle.station_book.specs.History.{after, IsLegal, StandsAs}
 use Rattle.station_book.specs.Named.{IsMadeBy}
 use Rattle.station_book.proofs.Histories.{opening_stays, stands_more}
 

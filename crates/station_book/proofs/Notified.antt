@@ -1,9 +1,9 @@
 -- What a run's door is told.
-use Rattle.std.proofs.Common.{◌≡◌, ℕ, ◌+◌, ◌-◌, ◌≤◌, Bool, true, false, not, ◌&&◌, ◌||◌, ◌==◌}
+use Rattle.std.proofs.Common.{◌≡◌, ℕ, ◌+◌, ◌-◌, Bool, true, false, not, ◌&&◌, ◌||◌, ◌==◌}
 use Rattle.std.proofs.Common.{if◌then◌else◌, nat_lt, Option, Some, None, is_some, Result, Ok, Err}
 use Rattle.std.proofs.Common.{List, [], ◌∷◌, ◌++◌, length, map, take as front, slice_get, IsTrue, refl, ap}
 use Rattle.std.proofs.Common.{sym, subst, ◌∙◌, append_assoc, append-nil, length-append, arith}
-use Rattle.std.specs.List.{filter_map, list_any, cons_option}
+use Rattle.std.specs.List.{list_any, cons_option}
 use Rattle.std.specs.Option.{option_map_or}
 use Rattle.std.proofs.Math.Seq.{take-append-add}
 use Rattle.std.proofs.lemmas.Bool.Decides.{nat_tests}
@@ -17,7 +17,7 @@ use Rattle.fcltu_numbers.specs.declared.cltu_start_diagnostic.CltuStartDiagnosti
 use Rattle.fcltu_numbers.specs.declared.cltu_transfer_data_diagnostic.CltuTransferDataDiagnostic.{CltuTransferDataDiagnostic}
 use Rattle.fcltu_numbers.specs.declared.uplink_status.UplinkStatus.{UplinkStatus}
 use Rattle.cltu_queue.specs.Machine.{Machine, notice_of, with_notice, ends_with_production}
-use Rattle.cltu_queue.specs.Machine.{without_last_of_production, with_radiation_notice}
+use Rattle.cltu_queue.specs.Machine.{with_radiation_notice}
 use Rattle.cltu_queue.specs.Machine.{is_this, is_of_run, is_same, on_start, on_stop, on_transfer}
 use Rattle.cltu_queue.specs.Machine.{queued_unless, refusal, on_take, on_take_of, is_idle, expired}
 use Rattle.cltu_queue.specs.Machine.{begins_at, on_radiation, on_radiation_of, radiated_at, on_done, on_done_of}
@@ -28,7 +28,6 @@ use Rattle.cltu_queue.specs.Limits.{last_run}
 use Rattle.cltu_queue.specs.Times.{is_above, latest_of}
 use Rattle.cltu_queue.specs.declared.ask.Ask.{Ask}
 use Rattle.cltu_queue.specs.declared.ask.Ask.TheVariants as ask
-use Rattle.cltu_queue.specs.declared.book_reply.BookReply.{BookReply}
 use Rattle.cltu_queue.specs.declared.book_reply.BookReply.TheVariants.{Lost}
 use Rattle.cltu_queue.specs.declared.cltu.Cltu.{Cltu}
 use Rattle.cltu_queue.specs.declared.in_air.InAir.{InAir}
@@ -36,26 +35,26 @@ use Rattle.cltu_queue.specs.declared.notice.Notice.{Notice}
 use Rattle.cltu_queue.specs.declared.taken.Taken.{Taken}
 use Rattle.cltu_queue.specs.declared.taken.Taken.TheVariants.{Idle, Waits, Expired}
 use Rattle.station_book.specs.State.{State, Opening, opened, Event, Call, publish, answer, quit}
-use Rattle.station_book.specs.State.{take, done, interrupted, uplink, gone, Reply, answered}
+use Rattle.station_book.specs.State.{take, done, interrupted, uplink, gone}
 use Rattle.station_book.specs.State.{accepted, foreign}
-use Rattle.station_book.specs.History.{moment_at, moment_of, instance_of, has_forward, is_running}
-use Rattle.station_book.specs.History.{is_forward, without_run, is_lost, queue_asked, with_ask}
+use Rattle.station_book.specs.History.{moment_at, instance_of, has_forward, is_running}
+use Rattle.station_book.specs.History.{is_forward, is_lost, queue_asked, with_ask}
 use Rattle.station_book.specs.History.{asked, reply_asked, reply_of, start_reply, is_told}
 use Rattle.station_book.specs.History.{queue_answered, may_publish, after, answer_to, reply_to}
 use Rattle.station_book.specs.History.{event_at, then_after, replay, IsLegal}
 use Rattle.station_book.specs.Doors.{is_by, HasOneForward}
 use Rattle.station_book.specs.Radiation.{where_started}
-use Rattle.station_book.specs.Notices.{door_of_run_by, door_of_run, is_stop, stops_by}
+use Rattle.station_book.specs.Notices.{door_of_run, is_stop, stops_by}
 use Rattle.station_book.specs.Notices.{are_before_stop, notice_in, notices_told, notice_at, told_at}
 use Rattle.station_book.specs.Notices.{kinds_of_take, kinds_of_end, kinds_of_production}
-use Rattle.station_book.specs.Notices.{where_in_air, kinds_made, notices_made, replaces}
-use Rattle.station_book.specs.Notices.{without_last, unreplaced, kept_behind, IsToldInTurn}
+use Rattle.station_book.specs.Notices.{where_in_air, notices_made, replaces}
+use Rattle.station_book.specs.Notices.{unreplaced, kept_behind, IsToldInTurn}
 use Rattle.station_book.proofs.Histories.{opening_stays, asked_keeps, legal_goes_on}
-use Rattle.station_book.proofs.Doors.{answer_leaves, started_transfer, started_notice}
+use Rattle.station_book.proofs.Doors.{answer_leaves, started_transfer}
 use Rattle.station_book.proofs.Doors.{other_has_none, not_running, forward_stays, call_leaves_run}
 use Rattle.station_book.proofs.Doors.{forwards, started_told, opening_stays_over, ask_leaves_run}
-use Rattle.station_book.proofs.Radiating.{of_both, or_right}
-use Rattle.station_book.proofs.Quiet.{Rests, RestsBetween, rests_between}
+use Rattle.station_book.proofs.Radiating.{or_right}
+use Rattle.station_book.proofs.Quiet.{RestsBetween, rests_between}
 
 -- ---- what the queue makes
 
@@ -130,7 +129,8 @@ done_makes m run id now = of_air m.in_air
     of_air : (o : Option InAir) → (on_done_of o m run id now).notices
         ≡ m.notices
         ++ told_of (option_map_or (λ a. if is_this run id a && is_of_run m a
-        then kinds_of_end a.wanted (length m.waiting == 0) else []) o []) (on_done_of o m run id now)
+        then kinds_of_end a.wanted (length m.waiting == 0) else []) o [])
+        (on_done_of o m run id now)
     of_air None = sym (append-nil m.notices)
     of_air (Some a) = by_cases a (is_this run id a) (is_of_run m a)
 
@@ -228,7 +228,8 @@ own_ask s door now wanted r goes = by_lost (is_lost s door wanted) refl goes
         absurd (cc (bound, none))
     fits ask.Unbind l g = absurd (cc g)
     fits (ask.CltuStart first) l g =
-        let none : s.queue.started ≡ false = or_right (not (has_forward s door)) s.queue.started l in
+        let none : s.queue.started ≡ false =
+        or_right (not (has_forward s door)) s.queue.started l in
         absurd (cc (none, r.started))
     fits (ask.CltuTransfer cltu) l g = record {
       runs = record {
@@ -318,7 +319,8 @@ own_answer : (s : State) (door reading : ℕ) (wanted : Ask) (want : Want) → R
     → (b : Bool) → b ≡ true → (n : Option Notice)
     → n ≡ (answer_to s door (moment_at s reading) wanted want).notice
     → (unreplaced false s.queue.notices ++ []
-    ≡ cons_option (if b then n else None) (queue_answered s door (moment_at s reading) wanted).notices)
+    ≡ cons_option (if b then n else None)
+    (queue_answered s door (moment_at s reading) wanted).notices)
     × (n ≡ (if b then n else None))
 own_answer s door reading wanted want r goes true e n is =
     let now = moment_at s reading in
@@ -515,7 +517,8 @@ at_start s other reading first door want false one rests e is =
     let queue_is : (after s call).queue ≡ new_run first s.queue =
     begun_queue (is_told s other (moment_at s reading) (ask.CltuStart first))
     (asked s other (moment_at s reading) (ask.CltuStart first)).queue s.queue first
-    (ap (λ b. (if b then s else with_ask s other (moment_at s reading) (ask.CltuStart first)).queue) e
+    (ap (λ b. (if b then s
+    else with_ask s other (moment_at s reading) (ask.CltuStart first)).queue) e
     ∙ start_ok s.queue first ok.1) (rests idle).notices in
     record {
       runs = record {

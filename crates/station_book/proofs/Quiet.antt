@@ -9,14 +9,13 @@ use Rattle.cltu_queue.specs.Machine.{on_notice, on_notice_of, is_this, is_of_run
 use Rattle.cltu_queue.specs.Machine.{ended, broken_off, changed_to, new_run, is_halted}
 use Rattle.cltu_queue.specs.Machine.{is_interrupted, on_transfer}
 use Rattle.cltu_queue.specs.Limits.{last_run}
-use Rattle.cltu_queue.specs.declared.cltu.Cltu.{Cltu}
 use Rattle.cltu_queue.specs.declared.in_air.InAir.{InAir}
 use Rattle.cltu_queue.specs.declared.notice.Notice.{Notice}
 use Rattle.cltu_queue.specs.declared.ask.Ask.{Ask}
 use Rattle.cltu_queue.specs.declared.ask.Ask.TheVariants as ask
 use Rattle.station_book.specs.State.{State, Opening, opened, Event, Call, publish, answer, quit}
 use Rattle.station_book.specs.State.{take, done, interrupted, uplink, gone}
-use Rattle.station_book.specs.History.{moment_at, is_running, has_forward, without_run, is_lost}
+use Rattle.station_book.specs.History.{moment_at, is_running, is_lost}
 use Rattle.station_book.specs.History.{queue_asked, with_ask, asked, is_told, may_publish, after}
 use Rattle.station_book.specs.History.{then_after, replay}
 use Rattle.station_book.proofs.Doors.{started_take, started_done, started_interrupted}

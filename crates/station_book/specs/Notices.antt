@@ -2,7 +2,7 @@
 -- CLTU-ASYNC-NOTIFY): which notices the calls of a history make, and which of them a door is told.
 -- Which notices are made, and when one replaces another, is this product's own.
 use Rattle.std.specs.Prelude.{◌≡◌, ℕ, ◌-◌, Bool, true, false, not, ◌&&◌, ◌==◌, if◌then◌else◌}
-use Rattle.std.specs.Prelude.{Option, Some, None, List, [], ◌∷◌, ◌++◌, length, map, take as front}
+use Rattle.std.specs.Prelude.{Option, None, List, [], ◌∷◌, ◌++◌, length, map, take as front}
 use Rattle.std.specs.List.{filter_map, list_any}
 use Rattle.std.specs.Option.{option_map_or}
 use Rattle.fcltu_numbers.specs.declared.cltu_notification_type.CltuNotificationType.{CltuNotificationType}
@@ -100,7 +100,8 @@ kinds_made m now (done run id _) = where_in_air m run id
 kinds_made m now (interrupted run id _) = where_in_air m run id
     (λ _. kind.ProductionInterrupted ∷ [])
 kinds_made m now (uplink production _ _) =
-    if m.started && not (is_same m.production production) then kinds_of_production production else []
+    if m.started && not (is_same m.production production) then kinds_of_production production
+    else []
 kinds_made m now _ = []
 
 -- the notices that a call makes: each tells the last CLTUs, production and uplink as they stand
