@@ -10,9 +10,11 @@
 #![tactic(auto)]
 
 mod job;
+mod leaving;
 mod turn;
 mod work;
 
 pub use job::{Job, Outcome};
+pub use leaving::{leave, told_in_turn};
 pub use turn::do_job;
 pub use work::{Plan, Shared, run_two};
