@@ -32,7 +32,7 @@ start;
 
 const FIRST_STALLED: &str = "
 start;
-4 0 stall = discarded 0(-1) 1(1);
+4 0 stall = discarded 2: 0(-1) 1(1);
 4 0 whole = sent B 2(-1);
 4 0 whole = sent 3(1);
 4 0 whole = sent E;
@@ -41,7 +41,7 @@ start;
 const SECOND_STALLED: &str = "
 start;
 4 0 whole = sent 0(-1) 1(1);
-4 0 stall = discarded 2(1) 3(1);
+4 0 stall = discarded 2: 2(1) 3(1);
 4 0 whole = sent B;
 4 0 whole = sent E;
 4 0 whole = -;";
@@ -57,15 +57,15 @@ start;
 // Two stalls in a row are told by one backlog.
 const STALLED_TWICE: &str = "
 start;
-2 0 stall = discarded 0(-1) 1(1);
-3 0 stall = discarded B 2(-1);
+2 0 stall = discarded 2: 0(-1) 1(1);
+3 0 stall = discarded 1: B 2(-1);
 4 0 whole = sent B 3(-1);
 4 9 whole = -;";
 
 // A stalled backlog alone is kept, and fills a buffer of one.
 const BACKLOG: &str = "
 start;
-1 0 stall = discarded 0(-1);
+1 0 stall = discarded 1: 0(-1);
 2 0 stall = kept B;
 2 0 whole = sent B;
 2 0 whole = sent 1(-1);";
@@ -74,7 +74,7 @@ start;
 const STOPPED: &str = "
 state = stopped true, offers false, wants false:;
 start;
-2 0 stall = discarded 0(-1) 1(1);
+2 0 stall = discarded 2: 0(-1) 1(1);
 4 0 waits = waits;
 state = stopped false, offers true, wants false: B 2(-1);
 stop;

@@ -196,25 +196,25 @@ fn told_items(alloc: Global, word: &str, items: &[Item]) -> Result<String, Alloc
     Ok(text)
 }
 
-// Settles what is offered, and says what became of it.
-fn settle(delivery: &mut Delivery, link: Link) -> &'static str {
+// What a link answers to what it is offered.
+fn answer_of(link: Link) -> Offer {
     match link {
-        Link::Stall => {
-            delivery.settle(Offer::Stalled);
-            if delivery.is_offering() {
-                "kept"
-            } else {
-                "discarded"
-            }
-        }
-        Link::Fail => {
-            delivery.settle(Offer::Failed);
-            "failed"
-        }
-        _ => {
-            delivery.settle(Offer::Whole);
-            "sent"
-        }
+        Link::Stall => Offer::Stalled,
+        Link::Fail => Offer::Failed,
+        _ => Offer::Whole,
+    }
+}
+
+// Settles what is offered, and says what became of it: of a discard, how many items it tells.
+fn settle(alloc: Global, delivery: &mut Delivery, link: Link) -> Result<String, AllocError> {
+    let answer = answer_of(link);
+    let discards = delivery.discards(answer);
+    delivery.settle(answer);
+    match (answer, discards) {
+        (_, Some(count)) => format!(in alloc; "discarded {count}:"),
+        (Offer::Whole, None) => format!(in alloc; "sent"),
+        (Offer::Stalled, None) => format!(in alloc; "kept"),
+        (Offer::Failed, None) => format!(in alloc; "failed"),
     }
 }
 
@@ -242,7 +242,7 @@ fn play_round(
         return format!(in alloc; "waits");
     }
     let items = told_items(alloc, "", delivery.current())?;
-    let word = settle(delivery, link);
+    let word = settle(alloc, delivery, link)?;
     format!(in alloc; "{word}{items}")
 }
 
