@@ -1,5 +1,5 @@
 -- Each block that was made is handed over once.
-use Rattle.std.proofs.Common.{◌≡◌, ℕ, ◌≤◌, true, false, not, ◌&&◌, if◌then◌else◌, Option, Some}
+use Rattle.std.proofs.Common.{◌≡◌, ℕ, ◌≤◌, true, false, not, ◌&&◌, if◌then◌else◌, Option, Some, None}
 use Rattle.std.proofs.Common.{List, [], ◌∷◌, ◌++◌, length, refl, sym, ap, ◌∙◌, append_assoc, arith}
 use Rattle.std.proofs.lemmas.List.{append-nil}
 use Rattle.octet_core.specs.declared.offer.Offer.{Offer}
@@ -10,13 +10,15 @@ use Rattle.link_model.specs.Calls.{blocks_in}
 use Rattle.station_config.specs.declared.site.Site.{Site}
 use Rattle.session_core.specs.declared.standing.Standing.{Standing}
 use Rattle.session_core.specs.Course.{is_live, is_blocked}
+use Rattle.session_core.specs.Inquiry.{reply_in}
 use Rattle.session_core.specs.Steps.{has_block}
 use Rattle.session_core.specs.Session.{State, Round, BookAnswer, at_first, listened, stepped}
-use Rattle.session_core.specs.Session.{Listens}
-use Rattle.session_core.specs.Session.{Speaks, listen_calls, speak_calls, spoken_state, before_step}
+use Rattle.session_core.specs.Session.{Listens, next_of}
+use Rattle.session_core.specs.Session.{Speaks, listen_calls, offer_calls, spoken_state, before_step}
 use Rattle.session_core.specs.Session.{before_speak, after_round, after_rounds, IsRound, AreRounds}
-use Rattle.session_core.specs.Session.{round_calls, session_calls}
 use Rattle.session_core.specs.Laws.{waiting, round_blocks, session_blocks, EachBlockOnce}
+use Rattle.session_core.specs.Laws.{block_calls, session_block_calls}
+use Rattle.session_core.proofs.Staying.{still_step, blocked_step, stays_stalled, stalled_block}
 
 abbrev Blocks : Type 0
 Blocks = List (List ℕ)
@@ -67,26 +69,39 @@ stuck_stepped : (site : Site) (s : State) (told : Option BookAnswer)
     → is_blocked s.standing.arrival ≡ true → has_block s.standing ≡ true
     → is_live (stepped site s told).standing.course ≡ true
     → (stepped site s told).standing.block ≡ s.standing.block
-stuck_stepped site s told stuck has live = grind arith
+stuck_stepped site s None stuck has live = refl
+stuck_stepped site s (Some told) stuck has live =
+    blocked_step site s.standing (next_of s) told.moment (reply_in told.answer) stuck has live
 
 still_stepped : (site : Site) (s : State) (told : Option BookAnswer) → is_live s.standing.course
     ≡ false → is_live (stepped site s told).standing.course ≡ false
-still_stepped site s told still = grind arith
+still_stepped site s None still = still
+still_stepped site s (Some told) still =
+    ap is_live (still_step site s.standing (next_of s) told.moment (reply_in told.answer) still)
+    ∙ still
+
+left_by : (t u : Standing) (left : Blocks) → Heard_so t left
+    → (is_blocked t.arrival ≡ true → has_block t ≡ true → is_live u.course ≡ true
+    → u.block ≡ t.block) → (is_live t.course ≡ false → is_live u.course ≡ false)
+    → Left u (step_left t u left)
+left_by t u left h stuck still = grind arith
 
 step_leaves : (site : Site) (s : State) (told : Option BookAnswer) (left : Blocks)
     → Heard_so s.standing left
     → Left (stepped site s told).standing (step_left s.standing (stepped site s told).standing left)
-step_leaves site s told left h = grind (arith, stuck_stepped site s told, still_stepped site s told)
+step_leaves site s told left h =
+    left_by s.standing (stepped site s told).standing left h (stuck_stepped site s told)
+    (still_stepped site s told)
 
 -- ---- speak
 
-speak_parts : (s : State) (spoke : Option Offer) (left : Blocks) → Speaks s spoke
-    → Left s.standing left → left ≡ blocks_in (speak_calls s spoke) ++ kept spoke left
-speak_parts s spoke left is l = grind arith
+speak_parts : (s : State) (spoke sent : Option Offer) (left : Blocks) → Speaks s spoke sent
+    → Left s.standing left → left ≡ blocks_in (offer_calls s.standing spoke) ++ kept spoke left
+speak_parts s spoke sent left is l = grind arith
 
-speak_leaves : (s : State) (spoke : Option Offer) (left : Blocks) → Speaks s spoke
-    → Left s.standing left → Left (spoken_state s spoke).standing (kept spoke left)
-speak_leaves s spoke left is l = grind arith
+speak_leaves : (s : State) (spoke sent : Option Offer) (left : Blocks) → Speaks s spoke sent
+    → Left s.standing left → Left (spoken_state s spoke sent).standing (kept spoke left)
+speak_leaves s spoke sent left is l = grind (arith, stays_stalled, stalled_block)
 
 -- ---- rounds
 
@@ -104,7 +119,7 @@ joined left made handed later one two three e f g =
 round_hands : BlocksJoin → (site : Site) (s : State) (r : Round) (left : Blocks)
     → IsRound site s r → Left s.standing left
     → Hands (after_round site s r).standing left (round_blocks site s r)
-    (blocks_in (round_calls site s r))
+    (blocks_in (block_calls site s r))
 round_hands joins site s r left is l =
     let t = before_step s r in
     let u = before_speak site s r in
@@ -117,8 +132,8 @@ round_hands joins site s r left is l =
           (joined left (round_blocks site s r) _ _ _ _ _
           (listen_parts s r.waited r.heard left is.listens l)
           (step_parts t.standing u.standing (kept r.waited left) heard)
-          (speak_parts u r.spoke _ is.speaks acted));
-      so = speak_leaves u r.spoke _ is.speaks acted;
+          (speak_parts u r.spoke r.sent _ is.speaks acted));
+      so = speak_leaves u r.spoke r.sent _ is.speaks acted;
     }
 
 linked : (left made more handed later mid after : Blocks) → left ++ made ≡ handed ++ mid
@@ -132,7 +147,7 @@ linked left made more handed later mid after e f = cc (
 rounds_hand : BlocksJoin → (site : Site) (s : State) (rounds : List Round) (left : Blocks)
     → AreRounds site s rounds → Left s.standing left
     → Hands (after_rounds site s rounds).standing left (session_blocks site s rounds)
-    (blocks_in (session_calls site s rounds))
+    (blocks_in (session_block_calls site s rounds))
 rounds_hand joins site s [] left h l = record { after = left; parts = append-nil left; so = l }
 rounds_hand joins site s (r ∷ rounds) left h l =
     let one = round_hands joins site s r left h.0 l in
@@ -141,7 +156,7 @@ rounds_hand joins site s (r ∷ rounds) left h l =
       after = rest.after;
       parts =
           linked left (round_blocks site s r) _ _ _ one.after rest.after one.parts rest.parts
-          ∙ ap (λ (x : Blocks). x ++ rest.after) (sym (joins (round_calls site s r) _));
+          ∙ ap (λ (x : Blocks). x ++ rest.after) (sym (joins (block_calls site s r) _));
       so = rest.so;
     }
 

@@ -19,8 +19,8 @@ use Rattle.isp1_auth.specs.Signed.{signed}
 -- ---- few octets
 
 pub few_octets : {X : Type 0} (tag : List ℕ) (m : Members X) (x : X) → m.Fits x
-    → nat_le (length tag + 9 + m.most) 4088 ≡ true
-    → length (canonical (constructed tag (m.trees x))) ≤ 4088
+    → nat_le (length tag + 9 + m.most) 1024 ≡ true
+    → length (canonical (constructed tag (m.trees x))) ≤ 1024
 few_octets tag m x fits short = grind (arith, structured_few tag m x fits)
 
 -- ---- credentials have at least 8 octets: each of their four elements has a tag and a length

@@ -1,5 +1,6 @@
 mod Truths
 mod Messages
+mod Staying
 mod Ends
 mod Invocations
 mod Fates
@@ -8,6 +9,7 @@ mod Faults
 mod One
 mod Longer
 mod Blocks
+mod Kept
 mod Streams
 mod Rounds
 mod Sound

@@ -12,7 +12,7 @@ use Rattle.session_core.specs.Session.{AreRounds}
 use Rattle.session_core.specs.Session.{session_calls, session_events, listened, stepped}
 use Rattle.session_core.specs.Session.{round_calls, round_events, after_round, step_events}
 use Rattle.session_core.specs.SessionState.{SessionState, Shows, IsSound, Listened, told_by}
-use Rattle.session_core.specs.SessionState.{own_events, IsSpoken}
+use Rattle.session_core.specs.SessionState.{own_events, IsSpoken, IsSent}
 use Rattle.session_core.specs.SessionState.{kept_after}
 use Rattle.session_core.specs.Steps.{round_ended}
 use Rattle.session_core.specs.Lists.{to_listen, to_step, to_speak, Part, none_made, made_listen}
@@ -175,11 +175,12 @@ goes_step law gives site old new bk reading is b calls events same h =
 
 -- ---- speak
 
-pub goes_speak : (a c : Option (List Call)) (old mid new : SessionState) → IsSpoken a c old mid
+pub goes_speak : (a b c : Option (List Call)) (old between mid new : SessionState)
+    → IsSpoken a b old between → IsSent b c between mid
     → new ≡ record mid { standing = round_ended mid.standing }
     → Goes to_speak to_listen a c old new
-goes_speak a c old mid new said is =
-    let l = spoke_by a c old mid new said is in
+goes_speak a b c old between mid new said sent is =
+    let l = spoke_by a b c old between mid new said sent is in
     record {
       own = l.own;
       told = l.told;
@@ -191,7 +192,13 @@ goes_speak a c old mid new said is =
           let shows : Shows old t = rw p.so at h.shows in
           let right : IsPart s (made_step p.waited p.heard p.told) = rw p.so at h.part_right in
           let r : Round =
-          record { waited = p.waited; heard = p.heard; told = p.told; spoke = l.spoke } in
+          record {
+            waited = p.waited;
+            heard = p.heard;
+            told = p.told;
+            spoke = l.spoke;
+            sent = l.sent;
+          } in
           record {
             rounds = h.rounds ++ r ∷ [];
             part = none_made;

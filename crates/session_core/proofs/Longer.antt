@@ -33,7 +33,8 @@ answer_in (Offered octets said) = to_offer said
 round_told : (site : Site) (s : State) (r : Round) (later : List Call)
     → map answer_in (round_calls site s r ++ later)
     ≡ offer_answers r.waited
-    ++ (poll_answers r.heard ++ (offer_answers r.spoke ++ map answer_in later))
+    ++ (poll_answers r.heard
+    ++ (offer_answers r.spoke ++ (offer_answers r.sent ++ map answer_in later)))
 round_told site s r later = grind arith
 
 -- two rounds with the same calls and events, and what is behind them
@@ -239,4 +240,7 @@ one_round_more b site reading before after was is v new calls events same goes h
       events_are = sym rest.events ∙ first.events;
       come = come ∙ first.end;
       state = λ going. rest.state ∙ first.goes (sym come ∙ going);
+      stands = λ going.
+          now.standing
+          ∙ ap (λ (s : State). s.standing) (rest.state ∙ first.goes (sym come ∙ going));
     }

@@ -55,13 +55,15 @@ pub record Same (r q : Round) (xs ys : List LinkAnswer) (es fs : List Event) : T
   pub events : es ≡ fs
 
 round_is : (r q : Round) → r.waited ≡ q.waited → r.heard ≡ q.heard → r.told ≡ q.told
-    → r.spoke ≡ q.spoke → r ≡ q
-round_is r q w h t s = grind arith
+    → r.spoke ≡ q.spoke → r.sent ≡ q.sent → r ≡ q
+round_is r q w h t s o = grind arith
 
 pub same_round : (site : Site) (door : ℕ) (s : State) (r q : Round) (xs ys : List LinkAnswer)
     (es fs : List Event) → IsRound site s r → IsRound site s q
-    → offer_answers r.waited ++ (poll_answers r.heard ++ (offer_answers r.spoke ++ xs))
-    ≡ offer_answers q.waited ++ (poll_answers q.heard ++ (offer_answers q.spoke ++ ys))
+    → offer_answers r.waited
+    ++ (poll_answers r.heard ++ (offer_answers r.spoke ++ (offer_answers r.sent ++ xs)))
+    ≡ offer_answers q.waited
+    ++ (poll_answers q.heard ++ (offer_answers q.spoke ++ (offer_answers q.sent ++ ys)))
     → round_events site door s r ++ es ≡ round_events site door s q ++ fs
     → Same r q xs ys es fs
 same_round site door s r q xs ys es fs is was h e =
@@ -70,9 +72,15 @@ same_round site door s r q xs ys es fs is was h e =
     ((rw one.0 at is.listens.polls) ∙ sym was.listens.polls) one.1 in
     let three = same_told site door (before_step s q) r.told q.told es fs
     ((rw (one.0, two.0) at is.asks) ∙ sym was.asks) (rw (one.0, two.0) at e) in
-    let four = same_offer r.spoke q.spoke xs ys
-    ((rw (one.0, two.0, three.0) at is.speaks) ∙ sym was.speaks) two.1 in
-    record { round = round_is r q one.0 two.0 three.0 four.0; answers = four.1; events = three.1 }
+    let four = same_offer r.spoke q.spoke _ _
+    ((rw (one.0, two.0, three.0) at is.speaks.offers) ∙ sym was.speaks.offers) two.1 in
+    let five = same_offer r.sent q.sent xs ys
+    ((rw (one.0, two.0, three.0, four.0) at is.speaks.sends) ∙ sym was.speaks.sends) four.1 in
+    record {
+      round = round_is r q one.0 two.0 three.0 four.0 five.0;
+      answers = five.1;
+      events = three.1;
+    }
 
 -- ---- all rounds
 

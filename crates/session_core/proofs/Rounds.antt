@@ -22,14 +22,17 @@ use Rattle.session_core.specs.Inquiry.{reply_in}
 use Rattle.session_core.specs.Steps.{Next, has_message, round_begun, waits, may_poll, handles}
 use Rattle.session_core.specs.Steps.{may_poll_by, after_wait, after_poll, after_offer, is_idle}
 use Rattle.session_core.specs.Steps.{inquiry_at, after_step, may_speak, round_ended}
+use Rattle.session_core.specs.Steps.{may_send}
+use Rattle.session_core.specs.ServiceSteps.{after_send}
 use Rattle.session_core.specs.Session.{State, BookAnswer, next_of, counted, offer_calls, poll_calls}
 use Rattle.session_core.specs.Session.{standing_waited, standing_heard, standing_spoke, cleared}
+use Rattle.session_core.specs.Session.{standing_sent, send_calls}
 use Rattle.session_core.specs.Session.{Asks, stepped, step_events, poll_space, IsArrival, IsHeard}
 use Rattle.session_core.specs.Session.{AreOctets}
 use Rattle.session_core.specs.SessionState.{SessionState, Shows, IsSound, space_of, Waited}
 use Rattle.session_core.specs.SessionState.{PolledOnce, Listened}
 use Rattle.session_core.specs.SessionState.{Hears, told_now, told_by, own_events, kept_after}
-use Rattle.session_core.specs.SessionState.{IsSpoken, Spoke}
+use Rattle.session_core.specs.SessionState.{IsSpoken, IsSent, Spoke}
 use Rattle.session_core.proofs.Streams.{WorkedOut, Gives, next_is, space_is, given_or_not}
 
 pub tells-nil : (a : Option (List Call)) → Tells a a []
@@ -145,20 +148,37 @@ events_by law site v b reading s h =
 
 -- ---- speak
 
-pub spoke_by : (a b : Option (List Call)) (old mid new : SessionState) → IsSpoken a b old mid
-    → new ≡ record mid { standing = round_ended mid.standing } → Spoke a b old new
-spoke_by a b old mid new w is =
-    let all : new ≡ record old { standing = round_ended (standing_spoke old.standing w.spoke) } =
-    is ∙ ap (λ (v : SessionState). record v { standing = round_ended v.standing }) w.new_is in
+pub spoke_by : (a b c : Option (List Call)) (old between mid new : SessionState)
+    → IsSpoken a b old between → IsSent b c between mid
+    → new ≡ record mid { standing = round_ended mid.standing } → Spoke a c old new
+spoke_by a b c old between mid new w was is =
+    let q = subst (λ (v : SessionState). IsSent b c v mid) w.new_is was in
+    let all : new
+    ≡ record old {
+      standing =
+          round_ended (standing_sent (standing_spoke old.standing w.spoke) q.sent);
+    } =
+    is ∙ ap (λ (v : SessionState). record v { standing = round_ended v.standing }) q.new_is in
     record {
       spoke = w.spoke;
-      own = offer_calls old.standing w.spoke;
-      told = w.told;
+      sent = q.sent;
+      own =
+          offer_calls old.standing w.spoke
+          ++ send_calls (standing_spoke old.standing w.spoke) q.sent;
+      told = tells-tells a b c _ _ w.told q.told;
       door = ap (λ (v : SessionState). v.door) all;
-      own_is = λ s h. ap (λ (t : Standing). offer_calls t w.spoke) h.standing;
-      speaks = λ s h. w.offers ∙ ap may_speak h.standing;
+      own_is = λ s h.
+          ap (λ (t : Standing).
+          offer_calls t w.spoke ++ send_calls (standing_spoke t w.spoke) q.sent) h.standing;
+      speaks = λ s h. record {
+        offers = w.offers ∙ ap may_speak h.standing;
+        sends =
+            q.sends ∙ ap (λ (t : Standing). may_send (standing_spoke t w.spoke)) h.standing;
+      };
       stands = λ s h. rw all (record {
-        standing = ap (λ (t : Standing). round_ended (standing_spoke t w.spoke)) h.standing;
+        standing =
+            ap (λ (t : Standing).
+            round_ended (standing_sent (standing_spoke t w.spoke) q.sent)) h.standing;
         given = h.given;
         count = h.count;
         stands = h.stands;
@@ -199,6 +219,12 @@ pub said_by : (a b : Option (List Call)) (door : ℕ) (f : Feeding) (s after : S
     → after ≡ after_offer s said → IsSpoken a b (keeping door f s) (keeping door f after)
 said_by a b door f s after said may told is =
     record { spoke = Some said; told = told; offers = may; new_is = ap (keeping door f) is }
+
+pub sent_by : (a b : Option (List Call)) (door : ℕ) (f : Feeding) (s after : Standing)
+    (said : Offer) → true ≡ may_send s → Tells a b (Offered s.outgoing said ∷ [])
+    → after ≡ after_send s said → IsSent a b (keeping door f s) (keeping door f after)
+sent_by a b door f s after said may told is =
+    record { sent = Some said; told = told; sends = may; new_is = ap (keeping door f) is }
 
 -- a poll that heard octets
 pub heard_some : (a b : Option (List Call)) (f g : Feeding) (s t : Standing) (space : ℕ)

@@ -1,6 +1,6 @@
 -- Where a round begins and the session goes on, its stream has no fault.
 use Rattle.std.proofs.Common.{◌≡◌, ℕ, true, false, List, [], ◌∷◌, Option, Some, None, refl, ap}
-use Rattle.std.proofs.Common.{arith, if◌then◌else◌}
+use Rattle.std.proofs.Common.{sym, ◌∙◌, arith, if◌then◌else◌, Bool}
 use Rattle.octet_core.specs.declared.offer.Offer.{Offer}
 use Rattle.isp1_tml.specs.declared.tml_fault.TmlFault.{TmlFault}
 use Rattle.isp1_tml.specs.Message.{Content}
@@ -12,19 +12,28 @@ use Rattle.station_config.specs.declared.site.Site.{Site}
 use Rattle.session_core.specs.declared.standing.Standing.{Standing}
 use Rattle.session_core.specs.Course.{is_going, is_blocked}
 use Rattle.session_core.specs.Inquiry.{Replied, reply_in}
-use Rattle.session_core.specs.Steps.{at_moment, acted, timed, with_heartbeat, is_idle, with_next}
+use Rattle.session_core.specs.ServiceSteps.{with_service, is_active}
+use Rattle.session_core.specs.Steps.{Next, at_moment, acted, timed, unasked, is_idle, with_next}
 use Rattle.session_core.specs.Session.{State, Round, BookAnswer, at_first, next_by, next_of}
 use Rattle.session_core.specs.Session.{listened}
 use Rattle.session_core.specs.Session.{stepped, Asks, spoken_state, before_step, before_speak}
 use Rattle.session_core.specs.Session.{after_round, after_rounds, IsRound, AreRounds}
 use Rattle.session_core.specs.SessionState.{IsSound}
+use Rattle.session_core.proofs.Staying.{stays_behind}
 use Rattle.session_core.proofs.Streams.{WorkedOut}
 
 -- ---- a session that goes on has gone on before
 
-timed_going : (s : Standing) → is_going (with_heartbeat (timed s)).course ≡ true
-    → is_going s.course ≡ true
+timed_going : (s : Standing) → is_going (timed s).course ≡ true → is_going s.course ≡ true
 timed_going s e = grind arith
+
+behind_going : (site : Site) (was : Bool) (s : Standing) (next : Next) (r : Replied)
+    → is_going (with_service site was r.glimpse
+    (unasked site r (timed (acted site s next r)))).course ≡ true
+    → is_going (acted site s next r).course ≡ true
+behind_going site was s next r e =
+    timed_going (acted site s next r)
+    (sym (ap is_going (stays_behind site was s next r).course) ∙ e)
 
 busy_going : (s t : Standing) → is_going (if is_idle s then s else t).course ≡ true
     → is_going s.course ≡ true
@@ -36,15 +45,16 @@ step_going site s None e = e
 step_going site s (Some told) e =
     let u = at_moment s.standing told.moment in
     busy_going u (with_next site u (next_of s) (reply_in told.answer))
-    (timed_going (acted site u (next_of s) (reply_in told.answer)) e)
+    (behind_going site (is_active s.standing.association) u (next_of s) (reply_in told.answer) e)
 
 listen_going : (s : State) (waited : Option Offer) (heard : Option Heard)
     → is_going (listened s waited heard).standing.course ≡ true → is_going s.standing.course ≡ true
 listen_going s waited heard e = grind arith
 
-speak_going : (s : State) (spoke : Option Offer)
-    → is_going (spoken_state s spoke).standing.course ≡ true → is_going s.standing.course ≡ true
-speak_going s spoke e = grind arith
+speak_going : (s : State) (spoke sent : Option Offer)
+    → is_going (spoken_state s spoke sent).standing.course ≡ true
+    → is_going s.standing.course ≡ true
+speak_going s spoke sent e = grind arith
 
 -- a fault ends the session
 no_fault : (site : Site) (s : Standing) (o : Option TmlFault) (m : Option Content)
@@ -59,7 +69,7 @@ told_sound site s None free asks e = grind arith
 told_sound site s (Some told) free asks e =
     let u = at_moment s.standing told.moment in
     no_fault site u (reading 0 s.came).fault _ (reply_in told.answer) free
-    (timed_going (acted site u (next_of s) (reply_in told.answer)) e)
+    (behind_going site (is_active s.standing.association) u (next_of s) (reply_in told.answer) e)
 
 -- the stream has no fault, whether octets came or not
 heard_sound : (site : Site) (s : State) (waited : Option Offer) (heard : Option Heard)
@@ -83,7 +93,7 @@ sound_round : (site : Site) (s : State) (r : Round) → IsRound site s r → IsS
 sound_round site s r is sound e =
     rw (same_came site s r)
     (heard_sound site s r.waited r.heard r.told sound is.asks
-    (speak_going (before_speak site s r) r.spoke e))
+    (speak_going (before_speak site s r) r.spoke r.sent e))
 
 pub sound_rounds : (site : Site) (s : State) (rounds : List Round) → AreRounds site s rounds
     → IsSound s → IsSound (after_rounds site s rounds)

@@ -32,15 +32,17 @@ use Rattle.session_core.specs.declared.standing.Standing.{Standing}
 use Rattle.session_core.specs.Inquiry.{Inquiry, only_asks, Replied}
 use Rattle.session_core.specs.Message.{UserContent, context, bind, unbind, peer_abort, invocation}
 use Rattle.session_core.specs.Message.{kind_of}
-use Rattle.session_core.specs.Service.{invocation_ask, with_invocation}
+use Rattle.session_core.specs.Served.{Served, unserved, prepared}
+use Rattle.session_core.specs.ServiceSteps.{service_bound, with_invocation}
 use Rattle.session_core.specs.Returns.{own_credentials, number_after, bind_return_message}
 use Rattle.session_core.specs.Returns.{unbind_return_message, with_return}
 
 -- ---- ends
 
--- at an end nothing more is offered
+-- at an end nothing more is offered, and what the service kept is gone
 abbrev pub ended_by : Standing → Ended → Standing
-ended_by s end = record s { course = Over end; block = [] }
+ended_by s end =
+    record s { course = Over end; block = []; service = unserved; outgoing = [] }
 
 abbrev pub aborted : Standing → PeerAbortDiagnostic → Standing
 aborted s diagnostic = ended_by s (ended.Aborted diagnostic)
@@ -63,15 +65,15 @@ bind_ask (Ok place) = ask.Bind place
 bind_ask (Err fault) = ask.Nothing
 
 -- A BIND that is refused asks nothing, and no more does a message that doesn't pass.
-abbrev pub passed_ask : Site → UserContent → Inquiry
-passed_ask site (bind b) = only_asks (bind_ask (bind_judged site b))
-passed_ask site (unbind u) = only_asks ask.Unbind
-passed_ask site (invocation i) = invocation_ask i
-passed_ask site _ = only_asks ask.Nothing
+abbrev pub passed_ask : Site → Served → UserContent → Inquiry
+passed_ask site served (bind b) = only_asks (bind_ask (bind_judged site b))
+passed_ask site served (unbind u) = only_asks ask.Unbind
+passed_ask site served (invocation i) = prepared served i
+passed_ask site served _ = only_asks ask.Nothing
 
-abbrev pub said_ask : Site → UserContent → Step → Inquiry
-said_ask site said Pass = passed_ask site said
-said_ask site said _ = only_asks ask.Nothing
+abbrev pub said_ask : Site → Served → UserContent → Step → Inquiry
+said_ask site served said Pass = passed_ask site served said
+said_ask site served said _ = only_asks ask.Nothing
 
 -- ---- a context
 
@@ -129,6 +131,7 @@ with_bind site s b reply =
           moved s.association
           (bind_outcome site (place_of b.initiator site.peers) judged reply);
       bound = place_bound judged reply;
+      service = service_bound site judged reply;
       numbers = number_after peer kind.bind s.numbers;
       block =
           bind_return_message site (own_credentials site peer kind.bind s.numbers s.moment)
@@ -145,12 +148,14 @@ with_denial site s =
 
 -- ---- an UNBIND
 
--- the session ends once the return was taken
+-- the session ends once the return was taken; what the service kept is gone
 abbrev pub with_unbind : Site → Standing → Standing
 with_unbind site s =
     record (with_return site s kind.unbind unbind_return_message) {
       association = moved s.association outcome.Unbound;
       course = Closing ended.Unbound;
+      service = unserved;
+      outgoing = [];
     }
 
 -- ---- what a message leads to

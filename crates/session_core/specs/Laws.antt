@@ -1,9 +1,9 @@
 -- What holds of every session.
 use Rattle.std.specs.Prelude.{◌≡◌, ℕ, ◌≤◌, Bool, true, false, not, ◌&&◌, if◌then◌else◌, Option}
-use Rattle.std.specs.Prelude.{Some, None, Ok, List, [], ◌∷◌, ◌++◌, length}
+use Rattle.std.specs.Prelude.{◌⊎◌, is_some, Some, None, Ok, List, [], ◌∷◌, ◌++◌, length}
 use Rattle.std.specs.List.{list_any}
 use Rattle.octet_core.specs.declared.offer.Offer.{Offer}
-use Rattle.octet_core.specs.declared.offer.Offer.TheVariants.{Failed as Refused}
+use Rattle.octet_core.specs.declared.offer.Offer.TheVariants.{Whole, Stalled, Failed as Refused}
 use Rattle.isp1_tml.specs.declared.tml_fault.TmlFault.{TmlFault}
 use Rattle.isp1_tml.specs.Message.{Content}
 use Rattle.isp1_tml.specs.Stream.{IsStream}
@@ -18,10 +18,12 @@ use Rattle.station_book.specs.State as book
 use Rattle.session_core.specs.declared.spoken.Spoken.TheVariants.{Going}
 use Rattle.session_core.specs.declared.standing.Standing.{Standing}
 use Rattle.session_core.specs.Course.{is_live, is_over, is_blocked}
+use Rattle.session_core.specs.ServiceSteps.{has_outgoing}
 use Rattle.session_core.specs.Steps.{Next, has_block, handles}
 use Rattle.session_core.specs.Session.{State, Round, BookAnswer, at_first, next_of, before_step}
 use Rattle.session_core.specs.Session.{before_speak, IsRound, round_calls, round_events}
 use Rattle.session_core.specs.Session.{after_round, after_rounds, AreRounds, session_calls}
+use Rattle.session_core.specs.Session.{listen_calls, offer_calls}
 use Rattle.session_core.specs.Session.{session_events, session_end, spoken_of, is_fault}
 use Rattle.session_core.specs.SessionState.{SessionState}
 use Rattle.session_core.specs.Outcome.{come_to}
@@ -82,6 +84,16 @@ session_blocks site s [] = []
 session_blocks site s (r ∷ rounds) =
     round_blocks site s r ++ session_blocks site (after_round site s r) rounds
 
+-- the calls of the link with blocks: what a service sends behind them is its own
+abbrev pub block_calls : Site → State → Round → List Call
+block_calls site s r =
+    listen_calls s r.waited r.heard ++ offer_calls (before_speak site s r).standing r.spoke
+
+abbrev pub session_block_calls : Site → State → List Round → List Call
+session_block_calls site s [] = []
+session_block_calls site s (r ∷ rounds) =
+    block_calls site s r ++ session_block_calls site (after_round site s r) rounds
+
 -- The blocks that were made are those that the link was handed, in order and each once, and at most
 -- one that wasn't: while the session lives, the one that waits.
 pub record AreHandedOnce (made handed : List (List ℕ)) (now : Standing) : Type 0 where
@@ -95,8 +107,34 @@ EachBlockOnce =
     (site : Site) (door draw entered : ℕ) (rounds : List Round)
     → AreRounds site (at_first door draw entered) rounds
     → AreHandedOnce (session_blocks site (at_first door draw entered) rounds)
-    (blocks_in (session_calls site (at_first door draw entered) rounds))
+    (blocks_in (session_block_calls site (at_first door draw entered) rounds))
     (after_rounds site (at_first door draw entered) rounds).standing
+
+-- ---- a service's message
+
+-- Behind a round its service's message is gone, handed over or dropped; or it is kept as it was
+-- offered, where it stalled or nothing was offered.
+pub record IsGoneOrKept (site : Site) (s : State) (r : Round) : Type 0 where
+  pub whole : r.sent ≡ Some Whole → (after_round site s r).standing.outgoing ≡ []
+  pub stalled : r.sent ≡ Some Stalled
+      → (after_round site s r).standing.outgoing
+      ≡ (if is_some (after_round site s r).standing.dropped then []
+      else (before_speak site s r).standing.outgoing)
+  pub unsent : r.sent ≡ None
+      → (after_round site s r).standing.outgoing ≡ (before_speak site s r).standing.outgoing
+
+-- One that is kept is offered again unchanged or not at all: it is dropped with the session's end.
+abbrev pub StaysOrGoes : Site → State → Round → Type 0
+StaysOrGoes site s r =
+    ((before_speak site s r).standing.outgoing ≡ s.standing.outgoing)
+    ⊎ ((before_speak site s r).standing.outgoing ≡ [])
+
+-- A service's message that was taken whole is offered no more, and one that stalled is offered no
+-- more unless its service keeps it, and then unchanged.
+pub record MessagesAreOnce : Type 0 where
+  pub each : (site : Site) (s : State) (r : Round) → IsGoneOrKept site s r
+  pub again : (site : Site) (s : State) (r : Round) → has_outgoing s.standing ≡ true
+      → StaysOrGoes site s r
 
 -- ---- ends
 
@@ -168,7 +206,8 @@ abbrev pub session_answers : List Round → List LinkAnswer
 session_answers [] = []
 session_answers (r ∷ rounds) =
     offer_answers r.waited
-    ++ (poll_answers r.heard ++ (offer_answers r.spoke ++ session_answers rounds))
+    ++ (poll_answers r.heard
+    ++ (offer_answers r.spoke ++ (offer_answers r.sent ++ session_answers rounds)))
 
 -- two lists of rounds in which the session does the same
 pub record DoSame (site : Site) (s : State) (rounds others : List Round) : Type 0 where
@@ -208,6 +247,8 @@ pub record OneMore (b : Began) (reading : ℕ) (rounds now : List Round) (calls 
       ≡ spoken_of (after_round b.site (state_after b rounds) round).standing.course
   pub state : come_to new ≡ Going
       → state_after b now ≡ after_round b.site (state_after b rounds) round
+  pub stands : come_to new ≡ Going
+      → new.standing ≡ (after_round b.site (state_after b rounds) round).standing
 
 -- A round of a session that hasn't ended makes the calls and events of one round of *Session*,
 -- behind those for which the session stood.

@@ -2,9 +2,11 @@ pub mod Numbers
 pub mod Course
 pub mod Inquiry
 pub mod Service
+pub mod Served
 pub mod Message
 pub mod Seen
 pub mod Returns
+pub mod ServiceSteps
 pub mod Handling
 pub mod Steps
 pub mod Session

@@ -1,6 +1,6 @@
 -- What a session has come to, and what its calls leave of that. This product's own rule.
-use Rattle.std.specs.Prelude.{◌≡◌, ℕ, ◌+◌, ◌≤◌, Bool, not, ◌&&◌, IsTrue, Option, List, [], Result}
-use Rattle.std.specs.Prelude.{OnErr, is_err, IsErr, IsOk}
+use Rattle.std.specs.Prelude.{◌≡◌, ℕ, ◌+◌, ◌≤◌, Bool, not, ◌&&◌, ◌||◌, IsTrue, Option, is_some}
+use Rattle.std.specs.Prelude.{List, [], Result, OnErr, is_err, IsErr, IsOk}
 use Rattle.link_model.specs.declared.call.Call.{Call}
 use Rattle.link_model.specs.Calls.{Tells}
 use Rattle.link_model.specs.Counts.{CountsWhere}
@@ -8,6 +8,7 @@ use Rattle.station_book.specs.State as book
 use Rattle.session_core.specs.declared.spoken.Spoken.{Spoken}
 use Rattle.session_core.specs.Course as course
 use Rattle.session_core.specs.Steps.{waits}
+use Rattle.session_core.specs.ServiceSteps.{has_outgoing}
 use Rattle.session_core.specs.Session.{spoken_of, is_fault}
 use Rattle.session_core.specs.SessionState.{SessionState}
 
@@ -39,18 +40,31 @@ is_blocked v = course.is_blocked v.standing.arrival
 abbrev pub has_waiting : SessionState → Bool
 has_waiting v = waits v.standing
 
+-- a message of its service waits
+abbrev pub has_kept : SessionState → Bool
+has_kept v = course.is_going v.standing.course && has_outgoing v.standing
+
+-- a message of its service was dropped in the latest round
+abbrev pub has_dropped : SessionState → Bool
+has_dropped v = is_some v.standing.dropped
+
+-- what a speak leaves where the block or the message stalled in it
+abbrev pub is_left : SessionState → Bool
+is_left v = has_waiting v || (has_kept v || has_dropped v)
+
+-- a block or a message of its service stalled in the latest round
+abbrev pub stalled_in : SessionState → Bool
+stalled_in v = is_blocked v || is_left v
+
+-- how many items were dropped of a message that stalled in the latest round, if one was
+abbrev pub dropped_in : SessionState → Option ℕ
+dropped_in v = v.standing.dropped
+
 -- A call found the link failed or not, and left it failed or not. The link's count of faults went
 -- up by one exactly where the link failed in this call, and one that has failed stays so.
 pub record FailsBy (was is : Bool) (before now : ℕ) : Type 0 where
   pub counts : CountsWhere (not was && is) before now
   pub stays : IsTrue was → IsTrue is
-
--- A round's offer stalled or not: the link's count of stalls went up by one where it did, and else
--- stayed. A block waits behind the round only where it did.
-pub record StallsOnce (waiting : Bool) (before now : ℕ) : Type 0 where
-  pub stalled : Bool
-  pub counts : CountsWhere stalled before now
-  pub waits : IsTrue waiting → IsTrue stalled
 
 -- In so many rounds the link's count of stalls went up by one a round at most.
 pub record StallsAtMost (rounds before now : ℕ) : Type 0 where

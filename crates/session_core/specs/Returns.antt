@@ -59,9 +59,9 @@ bound_peer site s = peer_at site.peers (bound_place s.association)
 abbrev pub return_message : {X : Type 0} → Element X → X → List ℕ
 return_message element content = spelling (pdu (canonical (element.tree content)))
 
--- whether a block has room for each of them
+-- whether a block has room for a return, a report and a notice of them (this product's own)
 abbrev pub is_short : {X : Type 0} → Element X → Bool
-is_short element = nat_le element.most 4088
+is_short element = nat_le element.most 1024
 
 -- What the bound peer invoked is answered: its return, with this provider's credentials, is the
 -- round's block.

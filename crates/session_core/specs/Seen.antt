@@ -14,7 +14,8 @@ use Rattle.session_core.specs.declared.user_message.UserMessage.{UserMessage}
 use Rattle.session_core.specs.declared.user_message.UserMessage.TheVariants as variant
 use Rattle.session_core.specs.Message.{UserContent, context, heartbeat, bind, unbind, peer_abort}
 use Rattle.session_core.specs.Message.{invocation, undecoded, out_of_place}
-use Rattle.session_core.specs.Service.{invocation_ask, invocation_of}
+use Rattle.session_core.specs.Service.{invocation_of}
+use Rattle.session_core.specs.Served.{Served, prepared}
 use Rattle.session_core.specs.Handling.{bind_judged, bind_ask}
 use Rattle.session_core.specs.Inquiry.{Inquiry, only_asks}
 
@@ -38,12 +39,12 @@ places_of site (bind b) Pass = places_of_bind site b
 places_of site _ _ = record { peer = None; instance = Err AccessDenied }
 
 -- what a message that was judged so asks, where a BIND's instance was judged so
-abbrev pub passed_ask_by : UserContent → Result ℕ BindDiagnostic → Inquiry
-passed_ask_by (bind b) judged = only_asks (bind_ask judged)
-passed_ask_by (unbind u) judged = only_asks ask.Unbind
-passed_ask_by (invocation i) judged = invocation_ask i
-passed_ask_by _ judged = only_asks ask.Nothing
+abbrev pub passed_ask_by : Served → UserContent → Result ℕ BindDiagnostic → Inquiry
+passed_ask_by served (bind b) judged = only_asks (bind_ask judged)
+passed_ask_by served (unbind u) judged = only_asks ask.Unbind
+passed_ask_by served (invocation i) judged = prepared served i
+passed_ask_by served _ judged = only_asks ask.Nothing
 
-abbrev pub ask_by : UserContent → Step → Result ℕ BindDiagnostic → Inquiry
-ask_by said Pass judged = passed_ask_by said judged
-ask_by said _ judged = only_asks ask.Nothing
+abbrev pub ask_by : Served → UserContent → Step → Result ℕ BindDiagnostic → Inquiry
+ask_by served said Pass judged = passed_ask_by served said judged
+ask_by served said _ judged = only_asks ask.Nothing

@@ -29,7 +29,9 @@ use Rattle.session_core.specs.Course.{is_over}
 use Rattle.session_core.specs.Inquiry.{call_of, reply_in}
 use Rattle.session_core.specs.Steps.{Next, round_begun, waits, after_wait, may_poll, after_poll}
 use Rattle.session_core.specs.Steps.{handles, inquiry_at, after_step, may_speak, after_offer}
-use Rattle.session_core.specs.Steps.{round_ended}
+use Rattle.session_core.specs.Steps.{may_send, round_ended}
+use Rattle.session_core.specs.Served.{unserved}
+use Rattle.session_core.specs.ServiceSteps.{after_send}
 
 -- all the octets that arrived, how many messages of them were handled, and how the session stands
 pub record State : Type 0 where
@@ -53,6 +55,9 @@ begun door draw entered =
       block = [];
       arrival = Nothing;
       relieved = false;
+      service = unserved;
+      outgoing = [];
+      dropped = None;
     }
 
 abbrev pub at_first : ℕ → ℕ → ℕ → State
@@ -90,12 +95,14 @@ pub record BookAnswer : Type 0 where
   pub answer : Answer
 
 -- The answers of a round: of the link to the block that waited, to the poll and to the round's
--- block, where these calls were made; and what the book told, if it was asked.
+-- block and to the service's message behind it, where these calls were made; and what the book
+-- told, if it was asked.
 pub record Round : Type 0 where
   pub waited : Option Offer
   pub heard : Option Heard
   pub told : Option BookAnswer
   pub spoke : Option Offer
+  pub sent : Option Offer
 
 -- ---- listen
 
@@ -192,19 +199,29 @@ abbrev pub standing_spoke : Standing → Option Offer → Standing
 standing_spoke s None = s
 standing_spoke s (Some said) = after_offer s said
 
-abbrev pub spoken_state : State → Option Offer → State
-spoken_state s spoke =
+abbrev pub standing_sent : Standing → Option Offer → Standing
+standing_sent s None = record s { dropped = None }
+standing_sent s (Some said) = after_send s said
+
+abbrev pub send_calls : Standing → Option Offer → List Call
+send_calls s None = []
+send_calls s (Some said) = Offered s.outgoing said ∷ []
+
+abbrev pub spoken_state : State → Option Offer → Option Offer → State
+spoken_state s spoke sent =
     record {
       came = s.came;
       handled = s.handled;
-      standing = round_ended (standing_spoke s.standing spoke);
+      standing = round_ended (standing_sent (standing_spoke s.standing spoke) sent);
     }
 
-abbrev pub speak_calls : State → Option Offer → List Call
-speak_calls s spoke = offer_calls s.standing spoke
+abbrev pub speak_calls : State → Option Offer → Option Offer → List Call
+speak_calls s spoke sent =
+    offer_calls s.standing spoke ++ send_calls (standing_spoke s.standing spoke) sent
 
-abbrev pub Speaks : State → Option Offer → Type 0
-Speaks s spoke = is_some spoke ≡ may_speak s.standing
+pub record Speaks (s : State) (spoke sent : Option Offer) : Type 0 where
+  pub offers : is_some spoke ≡ may_speak s.standing
+  pub sends : is_some sent ≡ may_send (standing_spoke s.standing spoke)
 
 -- what a round comes to
 abbrev pub spoken_of : Course → Spoken
@@ -230,17 +247,17 @@ abbrev pub before_speak : Site → State → Round → State
 before_speak site s r = stepped site (before_step s r) r.told
 
 abbrev pub after_round : Site → State → Round → State
-after_round site s r = spoken_state (before_speak site s r) r.spoke
+after_round site s r = spoken_state (before_speak site s r) r.spoke r.sent
 
 -- these are the answers of a round
 pub record IsRound (site : Site) (s : State) (r : Round) : Type 0 where
   pub listens : Listens s r.waited r.heard
   pub asks : Asks (before_step s r) r.told
-  pub speaks : Speaks (before_speak site s r) r.spoke
+  pub speaks : Speaks (before_speak site s r) r.spoke r.sent
 
 abbrev pub round_calls : Site → State → Round → List Call
 round_calls site s r =
-    listen_calls s r.waited r.heard ++ speak_calls (before_speak site s r) r.spoke
+    listen_calls s r.waited r.heard ++ speak_calls (before_speak site s r) r.spoke r.sent
 
 abbrev pub round_events : Site → ℕ → State → Round → List Event
 round_events site door s r = step_events site door (before_step s r) r.told

@@ -18,11 +18,12 @@ use Rattle.session_core.specs.Course.{is_going, is_over}
 use Rattle.session_core.specs.Inquiry.{Inquiry, call_of, answer_of, Replied, reply_in}
 use Rattle.session_core.specs.Numbers.{longest_piece}
 use Rattle.session_core.specs.Steps.{round_begun, waits, may_poll, is_idle, inquiry_at, after_step}
-use Rattle.session_core.specs.Steps.{may_speak}
+use Rattle.session_core.specs.Steps.{may_speak, may_send}
 use Rattle.session_core.specs.Session.{State, BookAnswer, IsHeard, Listens, Speaks, offer_calls}
 use Rattle.session_core.specs.Session.{poll_calls}
 use Rattle.session_core.specs.Session.{listen_calls, speak_calls, standing_waited, standing_heard}
-use Rattle.session_core.specs.Session.{standing_spoke, came_with, listened, spoken_state}
+use Rattle.session_core.specs.Session.{standing_spoke, standing_sent, send_calls, came_with}
+use Rattle.session_core.specs.Session.{listened, spoken_state}
 
 -- the number of its door, what its feeder holds, and how it stands
 pub record SessionState : Type 0 where
@@ -110,11 +111,12 @@ own_events site v b reading =
     if is_over v.standing.course then []
     else event_at b (call_of v.door reading (asked site v b reading)) ∷ []
 
--- At a reading the session of a door asked a book this, and stands so by the reply.
+-- At a reading the session of a door asked a book this, was told this, and stands so by it.
 pub record Acts (door reading : ℕ) (book_before book_after : book.State) (old new : Standing)
-    (ask : Inquiry) (led : Replied → Standing) : Type 0 where
+    (ask : Inquiry) (led : Replied → Standing) (told : Replied) : Type 0 where
   pub book : book_after ≡ after book_before (call_of door reading ask)
   pub standing : new ≡ led (reply_in (answer_of book_before door old.moment ask))
+  pub told_is : told ≡ reply_in (answer_of book_before door old.moment ask)
 
 -- a message is given, unless the round is idle
 abbrev pub feeder_after : Standing → Feeding → Feeding
@@ -139,12 +141,20 @@ pub record IsSpoken (before after : Option (List Call)) (old new : SessionState)
   pub offers : is_some spoke ≡ may_speak old.standing
   pub new_is : new ≡ record old { standing = standing_spoke old.standing spoke }
 
+-- behind it the service's message was offered, if it may be
+pub record IsSent (before after : Option (List Call)) (old new : SessionState) : Type 0 where
+  pub sent : Option Offer
+  pub told : Tells before after (send_calls old.standing sent)
+  pub sends : is_some sent ≡ may_send old.standing
+  pub new_is : new ≡ record old { standing = standing_sent old.standing sent }
+
 -- speak's own calls, and for each state that the session showed, what they are
 pub record Spoke (before after : Option (List Call)) (old new : SessionState) : Type 0 where
   pub spoke : Option Offer
+  pub sent : Option Offer
   pub own : List Call
   pub told : Tells before after own
   pub door : new.door ≡ old.door
-  pub own_is : (s : State) → Shows old s → own ≡ speak_calls s spoke
-  pub speaks : (s : State) → Shows old s → Speaks s spoke
-  pub stands : (s : State) → Shows old s → Shows new (spoken_state s spoke)
+  pub own_is : (s : State) → Shows old s → own ≡ speak_calls s spoke sent
+  pub speaks : (s : State) → Shows old s → Speaks s spoke sent
+  pub stands : (s : State) → Shows old s → Shows new (spoken_state s spoke sent)

@@ -23,8 +23,16 @@ use Rattle.session_core.specs.declared.standing.Standing.{Standing}
 use Rattle.session_core.specs.Course.{is_going, is_live, is_blocked, has_arrived}
 use Rattle.session_core.specs.Course.{has_closed}
 use Rattle.session_core.specs.Inquiry.{Inquiry, only_asks, Replied}
-use Rattle.session_core.specs.Message.{UserContent, said_in, judged}
+use Rattle.session_core.specs.Message.{UserContent, heartbeat as heartbeat_said, invocation}
+use Rattle.session_core.specs.Message.{said_in, judged}
 use Rattle.session_core.specs.Handling.{ended_by, aborted, said_ask, after_message}
+use Rattle.session_core.specs.Service.{leaves_running}
+use Rattle.session_core.specs.Served.{want_served}
+use Rattle.session_core.specs.ServiceSteps.{with_report, with_notice, is_active, with_service}
+use Rattle.session_core.specs.ServiceSteps.{has_outgoing}
+use Rattle.archive_terms.specs.Glimpse.{Want, wants_nothing}
+use Rattle.assoc_core.specs.declared.step.Step.{Step}
+use Rattle.assoc_core.specs.declared.step.Step.TheVariants.{Pass}
 
 -- what comes next of the stream: its next message, none yet, or its fault
 abbrev pub Next : Type 0
@@ -93,6 +101,38 @@ handles s next = not (is_idle s) && has_message next
 abbrev pub idle_ask : Standing → Inquiry
 idle_ask s = only_asks (if is_blocked s.arrival then ask.Quiet else ask.Nothing)
 
+-- ---- step: the timers
+
+abbrev pub pulse_of : Standing → Pulse
+pulse_of s = record { interval = s.interval; factor = s.factor; sent = s.sent; heard = s.heard }
+
+-- nothing was heard for the interval times the factor, or longer
+abbrev pub is_dead : Pulse → ℕ → Bool
+is_dead p now = not (p.interval == 0) && nat_le (picos (p.interval * p.factor)) (now - p.heard)
+
+-- nothing was sent for the interval, or longer
+abbrev pub is_due : Pulse → ℕ → Bool
+is_due p now = not (p.interval == 0) && nat_le (picos p.interval) (now - p.sent)
+
+-- ---- step: what a running service wants
+
+-- it wants a look unless the dead timer ends the session
+abbrev pub running_want : Standing → ℕ → Want
+running_want s now =
+    if is_dead (pulse_of s) now then wants_nothing else want_served s.service
+
+-- a service that runs before a message that leaves it running wants its look; any other is asked
+-- for what the message wants
+abbrev pub with_want : Bool → Standing → ℕ → Inquiry → Inquiry
+with_want true s now i = record i { want = running_want s now }
+with_want false s now i = i
+
+-- whether a message leaves a running service running
+abbrev pub stays_running : UserContent → Step → Bool
+stays_running heartbeat_said Pass = true
+stays_running (invocation i) Pass = leaves_running i
+stays_running _ _ = false
+
 -- the service of the instance that is bound
 abbrev pub service_of : Site → Standing → Option Service
 service_of site s =
@@ -106,15 +146,21 @@ said_to site s message = said_in (service_of site s) s.association message
 abbrev pub message_ask : Site → Standing → Content → ℕ → Inquiry
 message_ask site s message now =
     let said = said_to site s message in
-    said_ask site said (judged site s.association said now)
+    let step = judged site s.association said now in
+    with_want (stays_running said step) s now (said_ask site s.service said step)
 
 abbrev pub next_ask : Site → Standing → Next → ℕ → Inquiry
 next_ask site s (Ok (Some message)) now = message_ask site s message now
-next_ask site s _ now = only_asks ask.Nothing
+next_ask site s (Ok None) now =
+    with_want (not (has_closed s.arrival)) s now (only_asks ask.Nothing)
+next_ask site s (Err _) now = only_asks ask.Nothing
 
--- what a round asks the book, and wants of a look
+-- what a round asks the book, and wants of a look, once it has its moment
+abbrev pub inquiry_entered : Site → Standing → Next → Inquiry
+inquiry_entered site s next = if is_idle s then idle_ask s else next_ask site s next s.moment
+
 abbrev pub inquiry_at : Site → Standing → Next → ℕ → Inquiry
-inquiry_at site s next now = if is_idle s then idle_ask s else next_ask site s next now
+inquiry_at site s next now = inquiry_entered site (at_moment s now) next
 
 abbrev pub ask_of : Site → Standing → Next → ℕ → Ask
 ask_of site s next now = (inquiry_at site s next now).ask
@@ -136,17 +182,6 @@ acted site s next r = if is_idle s then s else with_next site s next r
 
 -- ---- step: the dead timer and the heartbeat
 
-abbrev pub pulse_of : Standing → Pulse
-pulse_of s = record { interval = s.interval; factor = s.factor; sent = s.sent; heard = s.heard }
-
--- nothing was heard for the interval times the factor, or longer
-abbrev pub is_dead : Pulse → ℕ → Bool
-is_dead p now = not (p.interval == 0) && nat_le (picos (p.interval * p.factor)) (now - p.heard)
-
--- nothing was sent for the interval, or longer
-abbrev pub is_due : Pulse → ℕ → Bool
-is_due p now = not (p.interval == 0) && nat_le (picos p.interval) (now - p.sent)
-
 abbrev pub timed : Standing → Standing
 timed s =
     if is_live s.course && is_dead (pulse_of s) s.moment
@@ -158,9 +193,17 @@ with_heartbeat s =
     if is_live s.course && not (has_block s) && is_due (pulse_of s) s.moment
     then record s { block = spelling heartbeat } else s
 
+-- ---- step: what is told unasked, and the service
+
+-- a report that is due, the book's notice, or else a heartbeat
+abbrev pub unasked : Site → Replied → Standing → Standing
+unasked site r s = with_heartbeat (with_notice site (with_report site s r) r.notice)
+
 -- the whole step of a session that hasn't ended, at a moment, where the book replied so
 abbrev pub after_step : Site → Standing → Next → ℕ → Replied → Standing
-after_step site s next now r = with_heartbeat (timed (acted site (at_moment s now) next r))
+after_step site s next now r =
+    with_service site (is_active s.association) r.glimpse
+    (unasked site r (timed (acted site (at_moment s now) next r)))
 
 -- ---- speak
 
@@ -173,6 +216,11 @@ abbrev pub after_offer : Standing → Offer → Standing
 after_offer s Whole = record s { block = []; sent = s.moment }
 after_offer s Stalled = s
 after_offer s Refused = record s { course = LinkFailing }
+
+-- behind the block, where none waits, the service's message is offered
+abbrev pub may_send : Standing → Bool
+may_send s =
+    is_going s.course && not (has_block s) && (not (is_blocked s.arrival) && has_outgoing s)
 
 -- a closing session ends once its block was taken whole, and one whose link fails ends with the
 -- round

@@ -1,8 +1,9 @@
 // The block that is to be offered.
-ghost use Rattle.std.specs.Prelude.{◌≡◌, ◌==◌, true, [], length, IfOk};
+ghost use Rattle.std.specs.Prelude.{◌≡◌, ◌==◌, ◌≤◌, ◌++◌, true, [], length, IfOk};
 ghost use Rattle.ber_shape.specs.Members.{structured};
 ghost use Rattle.isp1_tml.specs.Message.{heartbeat, spelling};
 ghost use Rattle.session_core.specs.Returns.{return_message, is_short};
+ghost use Rattle.session_core.specs.ServiceSteps.{has_room};
 
 use ber_core::Writer;
 use ber_shape::Pdu;
@@ -13,6 +14,9 @@ use std::marker::Model;
 
 /// How many octets a block may have.
 pub const BLOCK_ROOM: usize = 4_096;
+
+// How many octets a message of it may have, behind a return and a report too.
+const MESSAGE_ROOM: usize = 1_032;
 
 /// Whole messages that are offered as one piece, or no octets.
 #[derive(Drop)]
@@ -68,8 +72,28 @@ impl Block {
         self.writer.raw(&head(3, 0));
     }
 
-    // A return alone.
+    // Whether there is room for a message more, whatever it is.
+    pub(crate) fn has_room(&self) -> bool
+        ensures { result ≡ has_room self.now }
+    {
+        self.writer.octets().len() <= BLOCK_ROOM - MESSAGE_ROOM
+    }
+
+    // A message behind those that are there.
     #[tactic(auto, using(crate::proofs::Fits::few_octets))]
+    pub(crate) fn add<'a, P: Pdu<'a>>(&mut self, answer: &P)
+        requires fits { P.Members.shape.Fits (P.Members.seen answer.now) }
+        requires short { is_short (structured P.tag P.Members.shape P.is_tag) ≡ true }
+        requires room { length self.old ≤ 3064 }
+        ensures { self.new ≡ self.old
+            ++ return_message (structured P.tag P.Members.shape P.is_tag)
+            (P.Members.seen answer.now) }
+    {
+        self.writer.raw(&head(1, answer.length() as u32));
+        answer.encode(&mut self.writer);
+    }
+
+    // A return alone.
     pub(crate) fn put<'a, P: Pdu<'a>>(&mut self, answer: &P)
         requires fits { P.Members.shape.Fits (P.Members.seen answer.now) }
         requires short { is_short (structured P.tag P.Members.shape P.is_tag) ≡ true }
@@ -77,7 +101,6 @@ impl Block {
             (P.Members.seen answer.now) }
     {
         self.writer.clear();
-        self.writer.raw(&head(1, answer.length() as u32));
-        answer.encode(&mut self.writer);
+        self.add(answer);
     }
 }

@@ -1,5 +1,5 @@
 // What a message leads to, once the book has replied.
-ghost use Rattle.std.specs.Prelude.{◌≡◌, ◌<◌, option_copied};
+ghost use Rattle.std.specs.Prelude.{◌≡◌, ◌<◌, IfOk, option_copied};
 ghost use Rattle.cds_time.specs.declared.cds.TheConstants.{MOMENT_END};
 ghost use Rattle.bind_pdu.specs.Seen.{bind_of};
 ghost use Rattle.station_config.specs.Validity.{IsSite};
@@ -12,7 +12,8 @@ ghost use Rattle.session_core.specs.Handling.{with_denial, with_unbind, after_pa
 ghost use Rattle.session_core.specs.Handling.{invoked, after_judged};
 ghost use Rattle.session_core.specs.Inquiry.{inquiry_of, replied_of};
 ghost use Rattle.session_core.specs.Message.{judged};
-ghost use Rattle.session_core.specs.Steps.{service_of};
+ghost use Rattle.session_core.specs.ServiceSteps.{service_made};
+ghost use Rattle.session_core.specs.Steps.{service_of, stays_running};
 ghost use Rattle.session_core.specs.Seen.{said_of, places_of_bind, places_of, ask_by};
 
 use crate::bind_places::BindPlaces;
@@ -21,27 +22,67 @@ use crate::ended::Ended;
 use crate::inquiry::Inquiry;
 use crate::replied::Replied;
 use crate::returns::{bind_outcome, bind_result, bind_return, place_bound, unbind_return};
+use crate::service_state::ServiceState;
 use crate::signature::Signature;
 use crate::standing::Standing;
 use crate::user_message::UserMessage;
 use assoc_core::{Outcome, PduKind, Step, is_asked};
 use bind_pdu::Bind;
+use octet_core::Memory;
 use sle_numbers::{BindDiagnostic, PeerAbortDiagnostic};
 use station_book::{Ask, BookReply};
 use station_config::{Peer, Service, Site};
+use std::alloc::Global;
 
-// What a message that was judged so asks the book, and wants of a look.
-pub(crate) fn said_ask(message: &UserMessage<'_>, step: Step, places: BindPlaces) -> Inquiry
-    ensures { inquiry_of result ≡ ask_by (said_of message.now) step places.instance }
+// What a message that was judged so asks the book, and wants of a look, of what the service keeps.
+pub(crate) fn said_ask(
+    service: &ServiceState,
+    message: &UserMessage<'_>,
+    step: Step,
+    places: BindPlaces,
+) -> Result<Inquiry, Memory>
+    ensures { IfOk result (λ inquiry. inquiry_of inquiry
+        ≡ ask_by service.now (said_of message.now) step places.instance) }
 {
     if step != Step::Pass {
-        return Inquiry::of(Ask::Nothing);
+        return Ok(Inquiry::of(Ask::Nothing));
     }
     match (message, places.instance) {
-        (UserMessage::Bind(_), Ok(instance)) => Inquiry::of(Ask::Bind { instance }),
-        (UserMessage::Unbind(_), _) => Inquiry::of(Ask::Unbind),
-        (UserMessage::Service(invocation), _) => invocation.ask(),
-        _ => Inquiry::of(Ask::Nothing),
+        (UserMessage::Bind(_), Ok(instance)) => Ok(Inquiry::of(Ask::Bind { instance })),
+        (UserMessage::Unbind(_), _) => Ok(Inquiry::of(Ask::Unbind)),
+        (UserMessage::Service(invocation), _) => service.prepare(invocation),
+        _ => Ok(Inquiry::of(Ask::Nothing)),
+    }
+}
+
+// Whether a started service goes on behind a message that was judged so.
+pub(crate) fn stays_running(message: &UserMessage<'_>, step: Step) -> bool
+    ensures { result ≡ stays_running (said_of message.now) step }
+{
+    if step != Step::Pass {
+        return false;
+    }
+    match message {
+        UserMessage::Heartbeat => true,
+        UserMessage::Service(invocation) => invocation.leaves_running(),
+        _ => false,
+    }
+}
+
+// What is made for a BIND that was judged so, before the book is asked.
+pub(crate) fn service_made(
+    alloc: Global,
+    site: &Site,
+    instance: Result<u32, BindDiagnostic>,
+) -> Result<ServiceState, Memory>
+    ensures { IfOk result (λ made. made ≡ service_made site.now instance) }
+{
+    let Ok(place) = instance else {
+        return Ok(ServiceState::Nothing);
+    };
+    match site.instances.as_slice().get(place as usize) {
+        Some(instance) => ServiceState::new(alloc, &instance.service),
+        None => Ok(ServiceState::Nothing),
     }
 }
 
@@ -140,10 +181,18 @@ impl Standing {
     }
 
     // A BIND that passed is answered, where the book replied so.
-    fn answer_bind(&mut self, site: &Site, bind: &Bind<'_>, places: BindPlaces, reply: BookReply)
+    fn answer_bind(
+        &mut self,
+        site: &Site,
+        bind: &Bind<'_>,
+        places: BindPlaces,
+        made: ServiceState,
+        reply: BookReply,
+    )
         requires site { IsSite site.now }
         requires moment { self.old.moment < MOMENT_END }
         requires places { places ≡ places_of_bind site.now (bind_of bind.now) }
+        requires made { made ≡ service_made site.now places.instance }
         ensures { self.new ≡ with_bind site.now self.old (bind_of bind.now) reply }
     {
         let kind = PduKind::Bind {
@@ -153,6 +202,10 @@ impl Standing {
         let bound = bind_result(bind, places, reply);
         self.association.moved(bind_outcome(site, places, reply));
         self.bound = place_bound(places, reply);
+        self.service = match reply {
+            BookReply::Bound => made,
+            _ => ServiceState::Nothing,
+        };
         self.block.put(&bind_return(site, &signature, bound));
     }
 
@@ -174,14 +227,23 @@ impl Standing {
         let signature = self.sign_bound(site, PduKind::Unbind);
         self.association.moved(Outcome::Unbound);
         self.course = Course::Closing(Ended::Unbound);
+        self.drop_service();
         self.block.put(&unbind_return(&signature));
     }
 
     // A message that passed leads to this, where the book replied so.
-    fn pass(&mut self, site: &Site, message: &UserMessage<'_>, places: BindPlaces, answer: &Replied)
+    fn pass(
+        &mut self,
+        site: &Site,
+        message: &UserMessage<'_>,
+        places: BindPlaces,
+        made: ServiceState,
+        answer: &Replied,
+    )
         requires site { IsSite site.now }
         requires moment { self.old.moment < MOMENT_END }
         requires places { places ≡ places_of site.now (said_of message.now) Pass }
+        requires made { made ≡ service_made site.now places.instance }
         ensures { self.new ≡ after_passing site.now self.old (said_of message.now)
             (replied_of answer.now) }
     {
@@ -189,13 +251,13 @@ impl Standing {
             UserMessage::Context { interval, factor } => {
                 self.take_context(site, *interval, *factor);
             }
-            UserMessage::Bind(bind) => self.answer_bind(site, bind, places, answer.reply),
+            UserMessage::Bind(bind) => self.answer_bind(site, bind, places, made, answer.reply),
             UserMessage::Unbind(_) => self.answer_unbind(site),
             UserMessage::PeerAbort(abort) => {
                 let diagnostic = abort.diagnostic;
                 self.end(Ended::PeerAborted { diagnostic });
             }
-            UserMessage::Service(invocation) => invocation.conclude(self, site, answer),
+            UserMessage::Service(invocation) => self.answer_invocation(site, invocation, answer),
             UserMessage::Heartbeat | UserMessage::Undecoded | UserMessage::OutOfPlace => {}
         }
     }
@@ -207,11 +269,13 @@ impl Standing {
         message: &UserMessage<'_>,
         step: Step,
         places: BindPlaces,
+        made: ServiceState,
         answer: &Replied,
     )
         requires site { IsSite site.now }
         requires moment { self.old.moment < MOMENT_END }
         requires places { places ≡ places_of site.now (said_of message.now) step }
+        requires made { made ≡ service_made site.now places.instance }
         ensures { self.new ≡ after_judged site.now self.old (said_of message.now) step
             (replied_of answer.now) }
     {
@@ -220,7 +284,7 @@ impl Standing {
             return;
         }
         match step {
-            Step::Pass => self.pass(site, message, places, answer),
+            Step::Pass => self.pass(site, message, places, made, answer),
             Step::Denied => self.deny(site),
             Step::Abort { diagnostic } => self.abort(diagnostic),
         }

@@ -1,5 +1,6 @@
 // What holds of every session. A law's function does nothing: its contract is the law.
 ghost use Rattle.session_core.specs.Laws.{HandledInOrder, EachBlockOnce, EndsRepeat, FaultsAreLast};
+ghost use Rattle.session_core.specs.Laws.{MessagesAreOnce};
 ghost use Rattle.session_core.specs.Laws.{FaultsAreOfCalls, EndsAsItStands, OneSession};
 ghost use Rattle.session_core.specs.Laws.{NoRoundYet, OneRoundMore};
 
@@ -23,6 +24,12 @@ pub fn each_block_is_handed_over_once()
 {
     link::parts_of_two_runs_join();
 }
+
+/// A service's message that was taken whole is offered no more, and one that stalled is offered no
+/// more unless its service keeps it, and then unchanged.
+pub fn messages_are_offered_once()
+    ensures { MessagesAreOnce }
+{}
 
 /// After an end, one by a fault of its link too, a session calls neither link nor book, and repeats
 /// the end.

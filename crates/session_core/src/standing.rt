@@ -1,10 +1,11 @@
 // How a session stands, but for its stream.
-ghost use Rattle.std.specs.Prelude.{◌≡◌, IfOk, if◌then◌else◌};
+ghost use Rattle.std.specs.Prelude.{◌≡◌, [], IfOk, if◌then◌else◌};
 ghost use Rattle.session_core.specs.Course.{is_going, is_live, is_over, is_blocked};
 ghost use Rattle.session_core.specs.Course.{has_closed, is_spent};
 ghost use Rattle.session_core.specs.declared.course.Course.TheVariants.{Spent};
 ghost use Rattle.session_core.specs.declared.ended.Ended.TheVariants.{PeerClosed};
 ghost use Rattle.session_core.specs.Handling.{ended_by, aborted};
+ghost use Rattle.session_core.specs.Served.{unserved};
 ghost use Rattle.session_core.specs.Session.{begun};
 ghost use Rattle.session_core.specs.Steps.{round_begun, has_block, waits, after_wait, may_speak};
 ghost use Rattle.session_core.specs.Steps.{after_offer, at_moment, is_idle, may_poll_by};
@@ -15,6 +16,8 @@ use crate::arrival::Arrival;
 use crate::block::Block;
 use crate::course::Course;
 use crate::ended::Ended;
+use crate::outgoing::Outgoing;
+use crate::service_state::ServiceState;
 use assoc_core::Association;
 use isp1_auth::RandomNumbers;
 use isp1_tml::Beat;
@@ -48,6 +51,12 @@ pub struct Standing {
     pub arrival: Arrival,
     /// Whether this round's `listen` handed the waiting block over.
     pub relieved: bool,
+    /// What the bound service keeps.
+    pub service: ServiceState,
+    /// The service's message that is to be offered behind the block, or no octets.
+    pub outgoing: Outgoing,
+    /// How many items were dropped of a message that stalled in the latest round, if one was.
+    pub dropped: Option<u32>,
 }
 
 impl Standing {
@@ -56,6 +65,7 @@ impl Standing {
         ensures { IfOk result (λ standing. standing ≡ begun door draw now) }
     {
         let block = Block::new(alloc)?;
+        let outgoing = Outgoing::new(alloc)?;
         Ok(Standing {
             association: Association::new(),
             bound: None,
@@ -69,6 +79,9 @@ impl Standing {
             block,
             arrival: Arrival::Nothing,
             relieved: false,
+            service: ServiceState::Nothing,
+            outgoing,
+            dropped: None,
         })
     }
 
@@ -94,7 +107,7 @@ impl Standing {
     }
 
     // Whether it handles messages.
-    fn is_going(&self) -> bool
+    pub(crate) fn is_going(&self) -> bool
         ensures { result ≡ is_going self.now.course }
     {
         matches!(self.course, Course::Going)
@@ -108,7 +121,7 @@ impl Standing {
     }
 
     // Whether there is a block.
-    fn has_block(&self) -> bool
+    pub(crate) fn has_block(&self) -> bool
         ensures { result ≡ has_block self.now }
     {
         !self.block.is_empty()
@@ -183,12 +196,21 @@ impl Standing {
         self.is_blocked() || !self.is_going()
     }
 
+    // What the service kept is gone.
+    pub(crate) fn drop_service(&mut self)
+        ensures { self.new ≡ record self.old { service = unserved; outgoing = [] } }
+    {
+        self.service = ServiceState::Nothing;
+        self.outgoing.clear();
+    }
+
     // An end, at which nothing more is offered.
     pub(crate) fn end(&mut self, end: Ended)
         ensures { self.new ≡ ended_by self.old end }
     {
         self.course = Course::Over(end);
         self.block.clear();
+        self.drop_service();
     }
 
     // This provider aborts.
@@ -198,12 +220,19 @@ impl Standing {
         self.end(Ended::Aborted { diagnostic });
     }
 
+    // Whether the peer closed.
+    pub(crate) fn has_closed(&self) -> bool
+        ensures { result ≡ has_closed self.now.arrival }
+    {
+        matches!(self.arrival, Arrival::Closed)
+    }
+
     // With no message left, a close ends the session.
     pub(crate) fn end_if_closed(&mut self)
         ensures { self.new ≡ (if has_closed self.old.arrival
             then ended_by self.old PeerClosed else self.old) }
     {
-        if let Arrival::Closed = self.arrival {
+        if self.has_closed() {
             self.end(Ended::PeerClosed);
         }
     }
@@ -218,7 +247,7 @@ impl Standing {
     }
 
     // Whether the peer is taken for dead.
-    fn is_dead(&self) -> bool
+    pub(crate) fn is_dead(&self) -> bool
         ensures { result ≡ is_dead (pulse_of self.now) self.now.moment }
     {
         self.beat().dead(self.moment)

@@ -1,4 +1,4 @@
-use Rattle.session_core.specs.Outcome.{is_blocked, has_waiting}
+use Rattle.session_core.specs.Outcome.{is_blocked, is_left}
 use Rattle.session_core.proofs.Listed.{goes_round}
 use Rattle.session_core.proofs.Fates.{both_count}
 use Rattle.session_core.proofs.Stalls.{round_stalls}
@@ -18,5 +18,5 @@ returns-clause-faults g c =
 pub returns-clause-stalls : goal.returns-clause-stalls
 returns-clause-stalls g c =
     round_stalls (is_blocked c.listen.new.self) (is_blocked c.step.new.self)
-    (has_waiting c.speak.new.self) _ _ _ c.listen.ensures.stalls
-    c.in_ok-step.ensures.lists.blocked c.speak.ensures.stalls
+    (is_blocked c.speak.new.self) (is_left c.speak.new.self) _ _ _ c.listen.ensures.stalls
+    c.in_ok-step.ensures.lists.blocked c.speak.ensures.blocked c.speak.ensures.stalls

@@ -4,7 +4,7 @@ use Rattle.link_model.specs.declared.poll.Poll.{Poll}
 use Rattle.link_model.specs.Calls.{Tells, heard_of, IsWithin}
 use Rattle.session_core.proofs.Rounds.{heard_some, space_so, piece_so, arrival_so}
 use Rattle.session_core.proofs.Streams.{fed}
-use Rattle.session_core.proofs.session.hear.Goals as goal
+use Rattle.session_core.proofs.listening.hear.Goals as goal
 
 pub returns-in-Arrived-clause-heard : goal.returns-in-Arrived-clause-heard
 returns-in-Arrived-clause-heard g c =

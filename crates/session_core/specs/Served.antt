@@ -1,0 +1,89 @@
+-- What a bound service keeps, and what comes of each call that a session makes of it: a function
+-- each. A session knows no more of a service than these. They are `unfoldable`: no proof of lists
+-- or laws looks into one, and each method of `ServiceState` or of a session's that stands on one
+-- opens its own.
+--
+-- No service is built yet, so there is one variant, which keeps nothing, wants nothing and has
+-- nothing to tell.
+use Rattle.std.specs.Prelude.{ℕ, Option, None, List}
+use Rattle.octet_core.specs.declared.offer.Offer.{Offer}
+use Rattle.archive_terms.specs.Glimpse.{Want, wants_nothing, Glimpse}
+use Rattle.isp1_tml.specs.Message.{Content}
+use Rattle.station_config.specs.declared.peer.Peer.{Peer}
+use Rattle.station_config.specs.declared.service.Service.{Service}
+use Rattle.station_config.specs.declared.site.Site.{Site}
+use Rattle.assoc_core.specs.declared.outcome.Outcome.{Outcome}
+use Rattle.assoc_core.specs.declared.outcome.Outcome.TheVariants.{Kept}
+use Rattle.cltu_queue.specs.declared.ask.Ask.TheVariants as ask
+use Rattle.cltu_queue.specs.declared.notice.Notice.{Notice}
+use Rattle.session_core.specs.declared.service_state.ServiceState.{ServiceState}
+use Rattle.session_core.specs.declared.service_state.ServiceState.TheVariants.{Nothing}
+use Rattle.session_core.specs.Inquiry.{Inquiry, only_asks, Replied}
+use Rattle.session_core.specs.Service.{Invocation}
+
+abbrev pub Served : Type 0
+Served = ServiceState
+
+-- where none is bound
+abbrev pub unserved : Served
+unserved = Nothing
+
+-- a message of this provider's, by its credentials
+abbrev pub Message : Type 0
+Message = Option (List ℕ) → Content
+
+-- made for a BIND, before the book is asked
+unfoldable pub served_at : Service → Served
+served_at service = Nothing
+
+-- what a round with an invocation that passes asks of the book and wants of a look
+unfoldable pub prepared : Served → Invocation → Inquiry
+prepared Nothing i = only_asks ask.Nothing
+
+-- what a round without one wants of a look
+unfoldable pub want_served : Served → Want
+want_served Nothing = wants_nothing
+
+-- what an invocation that passed led to, by the book's reply and the look at a moment: what the
+-- service keeps then, what that makes of the association, and what is answered
+pub record Concluded : Type 0 where
+  pub served : Served
+  pub outcome : Outcome
+  pub answer : Option Message
+
+unfoldable pub concluded_by : Served → Invocation → Replied → ℕ → Concluded
+concluded_by Nothing i r now = record { served = Nothing; outcome = Kept; answer = None }
+
+-- the status report that is due in a round, if one is, and what the service keeps behind it
+pub record Reported : Type 0 where
+  pub served : Served
+  pub report : Option Message
+
+unfoldable pub reported_by : Served → Replied → ℕ → Reported
+reported_by Nothing r now = record { served = Nothing; report = None }
+
+-- how a notice of the book is told
+unfoldable pub told_by_service : Served → Notice → Option Message
+told_by_service Nothing notice = None
+
+-- the step of a round, with the look that it wanted, at a moment
+unfoldable pub served_step : Glimpse → ℕ → Served → Served
+served_step g now Nothing = Nothing
+
+-- the message that is to be offered behind the block, if one is; with the session's latest number
+-- behind those that its credentials took
+pub record Fixed : Type 0 where
+  pub message : Option Content
+  pub numbers : ℕ
+
+-- of what the service holds then, to a peer, with the session's latest number, at a moment
+unfoldable pub fixed_by : Served → Site → Option Peer → ℕ → ℕ → Fixed
+fixed_by Nothing site peer numbers now = record { message = None; numbers = numbers }
+
+-- how many items are dropped where that message stalls; none where it is kept, to be offered again
+unfoldable pub dropped_by : Served → Option ℕ
+dropped_by Nothing = None
+
+-- the link's answer to that message
+unfoldable pub served_settled : Offer → Served → Served
+served_settled answer Nothing = Nothing

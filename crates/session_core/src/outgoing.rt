@@ -1,0 +1,57 @@
+// The message of a service that is to be offered behind the block.
+ghost use Rattle.std.specs.Prelude.{◌≡◌, ◌==◌, [], length, IfOk};
+
+use ber_core::Writer;
+use octet_core::Memory;
+use std::alloc::{AllocError, Global};
+use std::marker::Model;
+
+/// How many octets it may have: those of the longest transfer buffer.
+pub const OUTGOING_ROOM: usize = 1_048_584;
+
+/// A whole message, or no octets.
+#[derive(Drop)]
+pub struct Outgoing {
+    writer: Writer,
+}
+
+impl Model for Outgoing {
+    ghost use Rattle.std.specs.Prelude.{List, ℕ, ◌≡◌, ◌+◌, length};
+
+    ghost Value = { List ℕ };
+
+    ghost view = { λ outgoing. outgoing.writer.octets };
+
+    ghost invariant = { λ outgoing. outgoing.writer.room + length outgoing.writer.octets ≡ 1048584 };
+}
+
+impl Outgoing {
+    /// No octets, and room for one message.
+    pub fn new(alloc: Global) -> Result<Outgoing, Memory>
+        ensures { IfOk result (λ outgoing. outgoing ≡ []) }
+    {
+        let writer = Writer::new(alloc, OUTGOING_ROOM).map_err(AllocError::from)?;
+        Ok(Outgoing { writer })
+    }
+
+    /// Whether there are no octets.
+    pub fn is_empty(&self) -> bool
+        ensures { result ≡ (length self.now == 0) }
+    {
+        self.writer.octets().is_empty()
+    }
+
+    /// The octets.
+    pub fn octets(&self) -> &[u8]
+        ensures { result.now ≡ self.now }
+    {
+        self.writer.octets()
+    }
+
+    /// Removes all octets.
+    pub fn clear(&mut self)
+        ensures { self.new ≡ [] }
+    {
+        self.writer.clear();
+    }
+}

@@ -1,0 +1,95 @@
+// What a bound service keeps.
+//
+// This is where the services meet a session. Each call that a session makes of one is a function
+// here, exact by a function of `specs/Served.antt`, with an arm for each service that is built; those
+// that need the session's site and numbers stand in `service_steps.rt`. None is built yet.
+ghost use Rattle.std.specs.Prelude.{◌≡◌, IfOk};
+ghost use Rattle.frame_select.specs.Want.{want_of};
+ghost use Rattle.frame_select.specs.Glimpse.{glimpse_of};
+ghost use Rattle.session_core.specs.Inquiry.{inquiry_of};
+ghost use Rattle.session_core.specs.Service.{invocation_of};
+ghost use Rattle.session_core.specs.Served.{served_at, prepared, want_served, served_step};
+ghost use Rattle.session_core.specs.Served.{dropped_by, served_settled};
+
+use crate::inquiry::Inquiry;
+use crate::service::Invocation;
+use frame_select::{Glimpse, Want};
+use octet_core::{Memory, Offer};
+use station_book::Ask;
+use station_config::Service;
+use std::alloc::Global;
+
+/// What a bound service keeps.
+#[derive(Drop)]
+pub enum ServiceState {
+    /// Nothing: none is bound, or one that isn't built.
+    Nothing,
+}
+
+impl ServiceState {
+    // That of a service, made for a BIND before the book is asked, with all the memory that it will
+    // ever have.
+    #[tactic(auto, unfolding(crate::specs::Served::served_at))]
+    pub(crate) fn new(alloc: Global, service: &Service) -> Result<ServiceState, Memory>
+        ensures { IfOk result (λ served. served ≡ served_at service.now) }
+    {
+        match service {
+            Service::Raf { .. } | Service::Rcf { .. } | Service::Cltu { .. } => {
+                Ok(ServiceState::Nothing)
+            }
+        }
+    }
+
+    // What a round with an invocation that passes asks of the book and wants of a look. The octets
+    // of a CLTU are copied, so it may want memory.
+    #[tactic(auto, unfolding(crate::specs::Served::prepared))]
+    pub(crate) fn prepare(&self, invocation: &Invocation<'_>) -> Result<Inquiry, Memory>
+        ensures { IfOk result (λ inquiry.
+            inquiry_of inquiry ≡ prepared self.now (invocation_of invocation.now)) }
+    {
+        match self {
+            ServiceState::Nothing => Ok(Inquiry::of(Ask::Nothing)),
+        }
+    }
+
+    // What a round without one wants of a look.
+    #[tactic(auto, unfolding(crate::specs::Served::want_served))]
+    pub(crate) fn want(&self) -> Want
+        ensures { want_of result ≡ want_served self.now }
+    {
+        match self {
+            ServiceState::Nothing => Want::Nothing,
+        }
+    }
+
+    // The step of a round, with the look that it wanted, at a moment.
+    #[tactic(auto, unfolding(crate::specs::Served::served_step))]
+    pub(crate) fn step(&mut self, glimpse: Glimpse, now: u128)
+        ensures { self.new ≡ served_step (glimpse_of glimpse) now self.old }
+    {
+        match self {
+            ServiceState::Nothing => {}
+        }
+    }
+
+    // How many items are dropped where the message that it has to offer stalls; none where it is
+    // kept, to be offered again.
+    #[tactic(auto, unfolding(crate::specs::Served::dropped_by))]
+    pub(crate) fn dropped(&self) -> Option<u32>
+        ensures { result ≡ dropped_by self.now }
+    {
+        match self {
+            ServiceState::Nothing => None,
+        }
+    }
+
+    // The link's answer to that message.
+    #[tactic(auto, unfolding(crate::specs::Served::served_settled))]
+    pub(crate) fn settle(&mut self, answer: Offer)
+        ensures { self.new ≡ served_settled answer self.old }
+    {
+        match self {
+            ServiceState::Nothing => {}
+        }
+    }
+}

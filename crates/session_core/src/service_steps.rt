@@ -1,0 +1,240 @@
+// The steps of a round in which a bound service has a part.
+//
+// Those that sign what they tell have an arm for each service that is built: what it answers an
+// invocation, the status report that is due, how a notice is told, and its message behind the block.
+// Its returns are signed by `Standing::sign_bound`, become the block by `Block::put`, and are added
+// to it by `Block::add`.
+ghost use Rattle.std.specs.Prelude.{◌≡◌, ◌<◌, None};
+ghost use Rattle.cds_time.specs.declared.cds.TheConstants.{MOMENT_END};
+ghost use Rattle.frame_select.specs.Want.{want_of};
+ghost use Rattle.frame_select.specs.Glimpse.{glimpse_of};
+ghost use Rattle.session_core.specs.Inquiry.{inquiry_of, replied_of};
+ghost use Rattle.session_core.specs.Service.{invocation_of};
+ghost use Rattle.session_core.specs.ServiceSteps.{with_invocation, may_tell};
+ghost use Rattle.session_core.specs.ServiceSteps.{with_report, reported, noticed, with_notice};
+ghost use Rattle.session_core.specs.ServiceSteps.{is_active, may_serve, has_outgoing, with_fixed};
+ghost use Rattle.session_core.specs.ServiceSteps.{fixed, with_service, after_stall, after_send};
+ghost use Rattle.session_core.specs.Served.{reported_by, fixed_by, dropped_by};
+ghost use Rattle.session_core.specs.Returns.{bound_peer};
+ghost use Rattle.session_core.specs.Steps.{running_want, with_want, may_send, unasked};
+
+use crate::course::Course;
+use crate::inquiry::Inquiry;
+use crate::replied::Replied;
+use crate::service::Invocation;
+use crate::service_state::ServiceState;
+use crate::standing::Standing;
+use assoc_core::State;
+use cltu_queue::Notice;
+use frame_select::{Glimpse, Want};
+use octet_core::Offer;
+use station_config::Site;
+
+// What it wants, and what it answers.
+impl Standing {
+    // What a started service wants of the look: none where the dead timer ends the session.
+    fn running_want(&self) -> Want
+        ensures { want_of result ≡ running_want self.now self.now.moment }
+    {
+        if self.is_dead() {
+            Want::Nothing
+        } else {
+            self.service.want()
+        }
+    }
+
+    // What is asked, with what a started service wants, where it goes on.
+    pub(crate) fn with_want(&self, stays: bool, inquiry: Inquiry) -> Inquiry
+        ensures { inquiry_of result
+            ≡ with_want stays self.now self.now.moment (inquiry_of inquiry) }
+    {
+        if !stays {
+            return inquiry;
+        }
+        Inquiry {
+            ask: inquiry.ask,
+            want: self.running_want(),
+        }
+    }
+
+    // An invocation that passed leads to this, where the book replied so.
+    #[tactic(auto, unfolding(crate::specs::Served::concluded_by))]
+    pub(crate) fn answer_invocation(
+        &mut self,
+        site: &Site,
+        invocation: &Invocation<'_>,
+        answer: &Replied,
+    )
+        requires { self.old.moment < MOMENT_END }
+        ensures { self.new ≡ with_invocation site.now self.old (invocation_of invocation.now)
+            (replied_of answer.now) }
+    {
+        match self.service {
+            ServiceState::Nothing => {}
+        }
+    }
+}
+
+// What is told unasked, behind the return.
+impl Standing {
+    // Whether it tells of its service in this round, and the block has room for it.
+    fn may_tell(&self) -> bool
+        ensures { result ≡ may_tell self.now }
+    {
+        self.is_going() && !self.is_blocked() && self.block.has_room()
+    }
+
+    // The status report, if one is due.
+    #[tactic(auto, unfolding(crate::specs::Served::reported_by))]
+    fn report(&mut self, site: &Site, answer: &Replied)
+        requires { self.old.moment < MOMENT_END }
+        ensures { self.new ≡ reported site.now self.old
+            (reported_by self.old.service (replied_of answer.now) self.old.moment) }
+    {
+        match self.service {
+            ServiceState::Nothing => {}
+        }
+    }
+
+    // A notice of the book.
+    #[tactic(auto, unfolding(crate::specs::Served::told_by_service))]
+    fn tell(&mut self, site: &Site, notice: Option<Notice>)
+        requires { self.old.moment < MOMENT_END }
+        ensures { self.new ≡ noticed site.now self.old notice }
+    {
+        match self.service {
+            ServiceState::Nothing => {}
+        }
+    }
+
+    fn put_report(&mut self, site: &Site, answer: &Replied)
+        requires { self.old.moment < MOMENT_END }
+        ensures { self.new ≡ with_report site.now self.old (replied_of answer.now) }
+    {
+        if self.may_tell() {
+            self.report(site, answer);
+        }
+    }
+
+    fn put_notice(&mut self, site: &Site, notice: Option<Notice>)
+        requires { self.old.moment < MOMENT_END }
+        ensures { self.new ≡ with_notice site.now self.old notice }
+    {
+        if self.may_tell() {
+            self.tell(site, notice);
+        }
+    }
+
+    // The report that is due, the book's notice, or else a heartbeat.
+    pub(crate) fn put_unasked(&mut self, site: &Site, answer: &Replied)
+        requires { self.old.moment < MOMENT_END }
+        ensures { self.new ≡ unasked site.now (replied_of answer.now) self.old }
+    {
+        self.put_report(site, answer);
+        self.put_notice(site, answer.notice);
+        self.put_heartbeat();
+    }
+}
+
+// The service's own step.
+impl Standing {
+    // Whether the service is started.
+    pub(crate) fn is_active(&self) -> bool
+        ensures { result ≡ is_active self.now.association }
+    {
+        matches!(self.association.state(), State::Active(_))
+    }
+
+    // Whether the service takes its step, where it was started before the message or not.
+    fn may_serve(&self, was: bool) -> bool
+        ensures { result ≡ may_serve was self.now }
+    {
+        was && self.is_active() && self.is_going() && !self.is_blocked()
+    }
+
+    // Whether the service has a message to offer.
+    fn has_outgoing(&self) -> bool
+        ensures { result ≡ has_outgoing self.now }
+    {
+        !self.outgoing.is_empty()
+    }
+
+    // Makes the message of what the service holds, where it is due.
+    #[tactic(auto, unfolding(crate::specs::Served::fixed_by))]
+    fn make_message(&mut self, site: &Site)
+        requires { self.old.moment < MOMENT_END }
+        ensures { self.new ≡ with_fixed self.old (fixed_by self.old.service site.now
+            (bound_peer site.now self.old) self.old.numbers self.old.moment) }
+    {
+        match self.service {
+            ServiceState::Nothing => self.outgoing.clear(),
+        }
+    }
+
+    // The same, unless one is kept.
+    fn fix(&mut self, site: &Site)
+        requires { self.old.moment < MOMENT_END }
+        ensures { self.new ≡ fixed site.now self.old }
+    {
+        if !self.has_outgoing() {
+            self.make_message(site);
+        }
+    }
+
+    // The service takes its step, and its message is to be offered, if one is due.
+    pub(crate) fn serve(&mut self, site: &Site, was: bool, glimpse: Glimpse)
+        requires { self.old.moment < MOMENT_END }
+        ensures { self.new ≡ with_service site.now was (glimpse_of glimpse) self.old }
+    {
+        if self.may_serve(was) {
+            self.service.step(glimpse, self.moment);
+            self.fix(site);
+        }
+    }
+}
+
+// Its message is offered.
+impl Standing {
+    // Whether it is.
+    pub(crate) fn may_send(&self) -> bool
+        ensures { result ≡ may_send self.now }
+    {
+        self.is_going() && !self.has_block() && !self.is_blocked() && self.has_outgoing()
+    }
+
+    // None was offered.
+    pub(crate) fn send_nothing(&mut self)
+        ensures { self.new ≡ record self.old { dropped = None } }
+    {
+        self.dropped = None;
+    }
+
+    // It stalled: the service keeps it, or drops so many items.
+    fn end_stall(&mut self)
+        ensures { self.new ≡ after_stall self.old (dropped_by self.old.service) }
+    {
+        self.dropped = self.service.dropped();
+        if self.dropped.is_some() {
+            self.outgoing.clear();
+        }
+    }
+
+    // It was offered, and answered so.
+    pub(crate) fn end_send(&mut self, answer: Offer)
+        ensures { self.new ≡ after_send self.old answer }
+    {
+        self.dropped = None;
+        match answer {
+            Offer::Whole => {
+                self.outgoing.clear();
+                self.sent = self.moment;
+                self.service.settle(answer);
+            }
+            Offer::Stalled => {
+                self.end_stall();
+                self.service.settle(answer);
+            }
+            Offer::Failed => self.course = Course::LinkFailing,
+        }
+    }
+}
