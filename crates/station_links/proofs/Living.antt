@@ -12,6 +12,7 @@ use Rattle.session_core.specs.declared.course.Course.{Course}
 use Rattle.session_core.specs.declared.course.Course.TheVariants as course
 use Rattle.session_core.specs.declared.spoken.Spoken.TheVariants.{Going}
 use Rattle.session_core.specs.Course.{is_over}
+use Rattle.session_core.specs.declared.standing.Standing.{Standing}
 use Rattle.session_core.specs.SessionState.{SessionState}
 use Rattle.session_core.specs.Outcome.{come_to}
 use Rattle.session_core.specs.Session.{State, Round, IsRound, after_round, round_calls}
@@ -50,6 +51,8 @@ pub record Behind (b : Began) (l : Connected) (before after : book.State) (readi
   pub legal : IsLegal before (round_events b.site b.door l.state r)
   pub book_is : after ≡ replay before (round_events b.site b.door l.state r)
   pub come : come_to new ≡ spoken_of (after_round b.site l.state r).standing.course
+  pub dropped : come_to new ≡ Going
+      → new.standing.dropped ≡ (after_round b.site l.state r).standing.dropped
   pub goes : come_to new ≡ Going
       → Lives b (record { c = c; session = new; steering = now }) (stands_after b.site l r)
 
@@ -110,6 +113,10 @@ behind law b l v site reading before after told calls new now same lives goes le
       legal = subst (λ (xs : List Event). IsLegal before xs) gained goes.legal;
       book_is = goes.book_is ∙ ap (λ (xs : List Event). replay before xs) gained;
       come = come;
+      dropped = λ going.
+          ap (λ (s : Standing). s.dropped) (more.stands going)
+          ∙ ap (λ (s : State). (after_round b.site s more.round).standing.dropped) here
+          ∙ ap (λ (x : Round). (after_round b.site l.state x).standing.dropped) made;
       goes = λ going. record {
         c_is = lives.c_is;
         steering =

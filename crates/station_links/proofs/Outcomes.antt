@@ -11,10 +11,10 @@ use Rattle.session_core.specs.declared.spoken.Spoken.{Spoken}
 use Rattle.session_core.specs.declared.spoken.Spoken.TheVariants as spoken
 use Rattle.session_core.specs.SessionState.{SessionState}
 use Rattle.session_core.specs.Outcome.{come_to}
-use Rattle.session_core.specs.Session.{Round, round_calls, round_events}
+use Rattle.session_core.specs.Session.{Round, after_round, round_calls, round_events}
 use Rattle.session_core.specs.Lists.{Began}
 use Rattle.station_links.specs.declared.link_line.LinkLine.{LinkLine}
-use Rattle.station_links.specs.LinkLines.{lines_in, end_of, end_lines}
+use Rattle.station_links.specs.LinkLines.{lines_in, end_of, dropped_lines, drop_lines, end_lines}
 use Rattle.station_links.specs.Connected.{Connected}
 use Rattle.station_links.specs.Rounds.{quits, left_by, stands_after, end_after, outcome_of}
 use Rattle.station_links.specs.Lives.{ConnectionState, Lives, AreLeft, Turned}
@@ -48,13 +48,20 @@ left_lives : (end : Option EndWord) (b : Began) (v : ConnectionState) (l : Conne
 left_lives None b v l h = h refl
 left_lives (Some why) b v l h = tt
 
+-- what is dropped is told where the connection is there still
+drops_same : (end : Option EndWord) (items others : Option ℕ) → (end ≡ None → items ≡ others)
+    → drop_lines end items ≡ drop_lines end others
+drops_same None items others same = ap dropped_lines (same refl)
+drops_same (Some why) items others same = refl
+
 -- ---- a round said so, and left so
 
 pub turned : (b : Began) (l : Connected) (before mid after : book.State) (reading c : ℕ)
     (calls : List Call) (new : SessionState) (now : Steering) (r : Round) (said : List LinkLine)
     (left : Option ConnectionState) (came : Spoken) (end : Option EndWord)
     → Behind b l before mid reading c calls new now r → c ≡ b.door → came ≡ come_to new
-    → end ≡ end_of came → said ≡ lines_in calls ++ end_lines end
+    → end ≡ end_of came
+    → said ≡ (lines_in calls ++ drop_lines end new.standing.dropped) ++ end_lines end
     → after ≡ replay mid (quits c mid end)
     → left ≡ left_by end (record { c = c; session = new; steering = now })
     → Turned b (outcome_of b.site b.door l before r) before after said left
@@ -67,8 +74,14 @@ turned b l before mid after reading c calls new now r said left came end behind 
     let last = quits b.door (replay before asked) (end_after b.site l r) in
     record {
       says =
-          said_is ∙ ap (λ (xs : List Call). lines_in xs ++ end_lines end) behind.calls_are
-          ∙ ap (λ (x : Option EndWord). lines_in own ++ end_lines x) e;
+          said_is
+          ∙ ap (λ (xs : List Call).
+          (lines_in xs ++ drop_lines end new.standing.dropped) ++ end_lines end) behind.calls_are
+          ∙ ap (λ (ls : List LinkLine). (lines_in own ++ ls) ++ end_lines end)
+          (drops_same end _ _ (λ none. behind.dropped (sym so ∙ none_going came (sym ended ∙ none))))
+          ∙ ap (λ (x : Option EndWord).
+          (lines_in own ++ drop_lines x (after_round b.site l.state r).standing.dropped)
+          ++ end_lines x) e;
       legal =
           legal_both before asked last behind.legal
           (quits_legal b.door (replay before asked) (end_after b.site l r));

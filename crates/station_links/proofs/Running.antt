@@ -3,7 +3,6 @@ use Rattle.std.proofs.Common.{◌≡◌, ℕ, zero, suc, ◌<◌, ◌≤◌, ◌
 use Rattle.std.proofs.Common.{Option, Some, None, List, [], ◌∷◌, ◌++◌, length, take, drop, refl}
 use Rattle.std.proofs.Common.{sym, ap, subst, ◌∙◌, if◌then◌else◌, append_assoc, arith}
 use Rattle.std.proofs.lemmas.List.{append-nil, length-take-le}
-use Rattle.std.proofs.lemmas.List.Elements.{filter_map-append}
 use Rattle.std.specs.Prelude.{is_some}
 use Rattle.link_model.specs.declared.call.Call.{Call}
 use Rattle.link_model.specs.declared.call.Call.TheVariants.{Polled, Offered}
@@ -16,17 +15,18 @@ use Rattle.station_book.specs.State as book
 use Rattle.station_book.specs.History.{replay, event_at}
 use Rattle.drill_text.specs.declared.end_word.EndWord.{EndWord}
 use Rattle.session_core.specs.Course.{is_over}
-use Rattle.session_core.specs.Steps.{waits, may_poll, may_speak}
+use Rattle.session_core.specs.Steps.{waits, may_poll, may_speak, may_send}
 use Rattle.session_core.specs.Session.{State, Round, BookAnswer, next_of, cleared, poll_space}
-use Rattle.session_core.specs.Session.{stepped}
+use Rattle.session_core.specs.Session.{stepped, standing_spoke}
 use Rattle.session_core.specs.Session.{IsArrival, IsHeard, AreOctets, IsRound, after_round}
-use Rattle.session_core.specs.Session.{round_calls, round_events, session_calls, session_events}
+use Rattle.session_core.specs.Session.{round_calls, round_events, session_events}
 use Rattle.session_core.specs.Session.{session_end, offer_calls, listen_calls}
 use Rattle.station_links.specs.declared.link_line.LinkLine.{LinkLine}
-use Rattle.station_links.specs.LinkLines.{line_in, lines_in, end_of, end_lines}
+use Rattle.station_links.specs.LinkLines.{end_of, end_lines}
 use Rattle.station_links.specs.Connected.{Connected, after_call, after_calls}
 use Rattle.station_links.specs.Rounds.{offer_answer, poll_answer, waited_at, heard_at, listened_at}
-use Rattle.station_links.specs.Rounds.{told_now, told_at, round_at, quits, stands_after}
+use Rattle.station_links.specs.Rounds.{told_now, told_at, spoke_at, round_at, quits, stands_after}
+use Rattle.station_links.specs.Rounds.{round_lines, session_lines}
 use Rattle.station_links.specs.Rounds.{end_after}
 use Rattle.station_links.specs.Run.{Order, comes, shuts, breaks, stalls_for, ordered, turns}
 use Rattle.station_links.specs.Run.{order_in, obeyed, said_by, events_by, rounds_by, ArePieces}
@@ -148,6 +148,7 @@ is_round : (site : Site) (door : ℕ) (l : Connected) (b : book.State) (reading 
 is_round site door l b reading are =
     let calls = offer_calls l.state.standing (waited_at l) in
     let polls = may_poll (cleared l.state (waited_at l)) (next_of l.state) in
+    let s = stepped site (listened_at l) (told_at site door l b reading) in
     record {
       listens = record {
         offers = offer_made l.steering (waits l.state.standing);
@@ -159,19 +160,21 @@ is_round site door l b reading are =
       asks =
           told_made (is_over (listened_at l).standing.course)
           (told_now site door (listened_at l) b reading);
-      speaks =
-          offer_made
-          (after_calls l.steering (listen_calls l.state (waited_at l) (heard_at l)))
-          (may_speak (stepped site (listened_at l) (told_at site door l b reading)).standing);
+      speaks = record {
+        offers =
+            offer_made
+            (after_calls l.steering (listen_calls l.state (waited_at l) (heard_at l)))
+            (may_speak s.standing);
+        sends =
+            offer_made
+            (after_calls
+            (after_calls l.steering (listen_calls l.state (waited_at l) (heard_at l)))
+            (offer_calls s.standing (spoke_at l s)))
+            (may_send (standing_spoke s.standing (spoke_at l s)));
+      };
     }
 
 -- ---- one round more in front
-
-lines_of_two : (xs ys : List Call) (behind : List LinkLine)
-    → lines_in (xs ++ ys) ++ behind ≡ lines_in xs ++ (lines_in ys ++ behind)
-lines_of_two xs ys behind =
-    ap (λ (ls : List LinkLine). ls ++ behind) (filter_map-append line_in xs ys)
-    ∙ append_assoc (lines_in xs) (lines_in ys) behind
 
 -- what is said, asked and made behind a round, which ended so
 turned : (site : Site) (door : ℕ) (s : State) (b : book.State) (r : Round) (end : Option EndWord)
@@ -179,20 +182,20 @@ turned : (site : Site) (door : ℕ) (s : State) (b : book.State) (r : Round) (en
     → end_of (session_end site (after_round site s r) []) ≡ end → IsRound site s r
     → (end ≡ None → IsSession site door (after_round site s r) said events rounds)
     → IsSession site door s
-    ((lines_in (round_calls site s r) ++ end_lines end) ++ (if is_some end then [] else said))
+    ((round_lines site s r ++ end_lines end) ++ (if is_some end then [] else said))
     ((round_events site door s r ++ quits door (replay b (round_events site door s r)) end)
     ++ (if is_some end then [] else events))
     (r ∷ (if is_some end then [] else rounds))
 turned site door s b r (Some why) said events rounds so is behind =
-    let own = round_calls site s r in
+    let own = round_lines site s r in
     let asked = round_events site door s r in
     let quitted = event_at (replay b asked) (quit door) ∷ [] in
     record {
       right = (is, tt);
       said_is =
-          append-nil (lines_in own ++ end_lines (Some why))
-          ∙ ap (λ (xs : List Call). lines_in xs ++ end_lines (Some why)) (sym (append-nil own))
-          ∙ ap (λ (e : Option EndWord). lines_in (own ++ []) ++ end_lines e) (sym so);
+          append-nil (own ++ end_lines (Some why))
+          ∙ ap (λ (ls : List LinkLine). ls ++ end_lines (Some why)) (sym (append-nil own))
+          ∙ ap (λ (e : Option EndWord). (own ++ []) ++ end_lines e) (sym so);
       last = quitted;
       events_are =
           append-nil (asked ++ quitted)
@@ -202,16 +205,16 @@ turned site door s b r (Some why) said events rounds so is behind =
           (record { last = replay b asked; is = refl });
     }
 turned site door s b r None said events rounds so is behind =
-    let own = round_calls site s r in
+    let own = round_lines site s r in
     let asked = round_events site door s r in
     let now = after_round site s r in
     let rest = behind refl in
     record {
       right = (is, rest.right);
       said_is =
-          ap (λ (ls : List LinkLine). ls ++ said) (append-nil (lines_in own))
-          ∙ ap (λ (ls : List LinkLine). lines_in own ++ ls) rest.said_is
-          ∙ sym (lines_of_two own (session_calls site now rounds)
+          ap (λ (ls : List LinkLine). ls ++ said) (append-nil own)
+          ∙ ap (λ (ls : List LinkLine). own ++ ls) rest.said_is
+          ∙ sym (append_assoc own (session_lines site now rounds)
           (end_lines (end_of (session_end site now rounds))));
       last = rest.last;
       events_are =

@@ -12,21 +12,27 @@ use Rattle.station_book.specs.History.{IsLegal, moment_at}
 use Rattle.session_core.specs.declared.standing.Standing.{Standing}
 use Rattle.session_core.specs.Course.{is_over}
 use Rattle.session_core.specs.Inquiry.{answer_of}
-use Rattle.session_core.specs.Steps.{may_poll, may_speak, inquiry_at}
+use Rattle.session_core.specs.Steps.{may_poll, may_speak, may_send, inquiry_at}
 use Rattle.session_core.specs.Session.{State, Round, BookAnswer, next_of, cleared, listened}
 use Rattle.session_core.specs.Session.{poll_space}
 use Rattle.session_core.specs.Session.{stepped, before_step, before_speak, IsRound}
 use Rattle.session_core.specs.Session.{event_of, step_events, offer_calls, poll_calls, listen_calls}
-use Rattle.session_core.specs.Session.{speak_calls, round_calls, round_events}
+use Rattle.session_core.specs.Session.{speak_calls, send_calls, standing_spoke, round_calls}
+use Rattle.session_core.specs.Session.{round_events}
 use Rattle.station_links.specs.Connected.{Connected, after_calls, AreLed}
 use Rattle.station_links.specs.Rounds.{offer_answer, poll_answer, waited_at, heard_at, listened_at}
-use Rattle.station_links.specs.Rounds.{told_now, told_at, spoke_at, round_at}
+use Rattle.station_links.specs.Rounds.{told_now, told_at, spoke_at, sent_at, round_at}
 use Rattle.station_links.proofs.Leading.{led_first}
 
 led_offer : (st : Steering) (s : Standing) (a : Option Offer) → AreLed st (offer_calls s a)
     → a ≡ offer_answer st (is_some a)
 led_offer st s None led = refl
 led_offer st s (Some a) led = ap (λ (o : Offer). Some o) led.0
+
+led_send : (st : Steering) (s : Standing) (a : Option Offer) → AreLed st (send_calls s a)
+    → a ≡ offer_answer st (is_some a)
+led_send st s None led = refl
+led_send st s (Some a) led = ap (λ (o : Offer). Some o) led.0
 
 led_poll : (st : Steering) (space : ℕ) (h : Option Heard) → AreLed st (poll_calls space h)
     → h ≡ poll_answer st space (is_some h)
@@ -76,9 +82,15 @@ told_of site door s b reading told t so asks read legal =
     ∙ ap (λ (over : Bool). if over then None else Some (told_now site door s b reading)) (sym here)
 
 -- a round with these answers
-abbrev made : Option Offer → Option Heard → Option BookAnswer → Option Offer → Round
-made waited heard told spoke =
-    record { waited = waited; heard = heard; told = told; spoke = spoke }
+abbrev made : Option Offer → Option Heard → Option BookAnswer → Option Offer → Option Offer → Round
+made waited heard told spoke sent =
+    record { waited = waited; heard = heard; told = told; spoke = spoke; sent = sent }
+
+-- the answer to the service's message, by the steering behind listen and the answer to the block
+abbrev sent_by : Steering → Option Offer → State → Option Offer
+sent_by st spoke s =
+    offer_answer (after_calls st (offer_calls s.standing spoke))
+    (may_send (standing_spoke s.standing spoke))
 
 pub round_is : (site : Site) (door : ℕ) (l : Connected) (b : book.State) (reading : ℕ) (r : Round)
     (t : BookAnswer) → IsRound site l.state r → r.told ≡ Some t → t.reading ≡ reading
@@ -88,7 +100,10 @@ round_is site door l b reading r t is so read led legal =
     let s = l.state in
     let st = l.steering in
     let both = led_first st (listen_calls s r.waited r.heard)
-    (speak_calls (before_speak site s r) r.spoke) led in
+    (speak_calls (before_speak site s r) r.spoke r.sent) led in
+    let last = led_first (after_calls st (listen_calls s r.waited r.heard))
+    (offer_calls (before_speak site s r).standing r.spoke)
+    (send_calls (standing_spoke (before_speak site s r).standing r.spoke) r.sent) both.1 in
     let listens = led_first st (offer_calls s.standing r.waited)
     (poll_calls (poll_space s) r.heard) both.0 in
     let waited : r.waited ≡ waited_at l =
@@ -114,15 +129,38 @@ round_is site door l b reading r t is so read led legal =
     let spoke : r.spoke ≡ spoke_at l (stepped site (listened_at l)
     (told_at site door l b reading)) =
     led_offer (after_calls st (listen_calls s r.waited r.heard)) (before_speak site s r).standing
-    r.spoke both.1
-    ∙ ap (λ (x : Bool). offer_answer (after_calls st (listen_calls s r.waited r.heard)) x) is.speaks
+    r.spoke last.0
+    ∙ ap (λ (x : Bool). offer_answer (after_calls st (listen_calls s r.waited r.heard)) x)
+    is.speaks.offers
     ∙ ap (λ (w : Option Offer). offer_answer (after_calls st (listen_calls s w r.heard))
     (may_speak (before_speak site s r).standing)) waited
     ∙ ap (λ (x : Option Heard). offer_answer (after_calls st (listen_calls s (waited_at l) x))
     (may_speak (before_speak site s r).standing)) heard
     ∙ ap (λ (u : State). spoke_at l u) after in
-    ap (λ (w : Option Offer). made w r.heard r.told r.spoke) waited
-    ∙ ap (λ (x : Option Heard). made (waited_at l) x r.told r.spoke) heard
-    ∙ ap (λ (o : Option BookAnswer). made (waited_at l) (heard_at l) o r.spoke) told
-    ∙ ap (λ (o : Option Offer). made (waited_at l) (heard_at l) (told_at site door l b reading) o)
-    spoke
+    let now = stepped site (listened_at l) (told_at site door l b reading) in
+    let sent : r.sent ≡ sent_at l now =
+    led_send
+    (after_calls (after_calls st (listen_calls s r.waited r.heard))
+    (offer_calls (before_speak site s r).standing r.spoke))
+    (standing_spoke (before_speak site s r).standing r.spoke) r.sent last.1
+    ∙ ap (λ (x : Bool).
+    offer_answer
+    (after_calls (after_calls st (listen_calls s r.waited r.heard))
+    (offer_calls (before_speak site s r).standing r.spoke)) x) is.speaks.sends
+    ∙ ap (λ (w : Option Offer).
+    sent_by (after_calls st (listen_calls s w r.heard)) r.spoke (before_speak site s r)) waited
+    ∙ ap (λ (x : Option Heard).
+    sent_by (after_calls st (listen_calls s (waited_at l) x)) r.spoke (before_speak site s r)) heard
+    ∙ ap (λ (o : Option Offer).
+    sent_by (after_calls st (listen_calls s (waited_at l) (heard_at l))) o
+    (before_speak site s r)) spoke
+    ∙ ap (λ (u : State).
+    sent_by (after_calls st (listen_calls s (waited_at l) (heard_at l))) (spoke_at l now) u)
+    after in
+    ap (λ (w : Option Offer). made w r.heard r.told r.spoke r.sent) waited
+    ∙ ap (λ (x : Option Heard). made (waited_at l) x r.told r.spoke r.sent) heard
+    ∙ ap (λ (o : Option BookAnswer). made (waited_at l) (heard_at l) o r.spoke r.sent) told
+    ∙ ap (λ (o : Option Offer).
+    made (waited_at l) (heard_at l) (told_at site door l b reading) o r.sent) spoke
+    ∙ ap (λ (o : Option Offer).
+    made (waited_at l) (heard_at l) (told_at site door l b reading) (spoke_at l now) o) sent

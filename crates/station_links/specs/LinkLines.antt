@@ -1,5 +1,6 @@
 -- What a round of a connection says in the transcript: each offer that was taken whole or stalled,
--- and how it ended. A poll, and an offer that failed, say nothing.
+-- how many items were dropped of a message that stalled, and how it ended. A poll, and an offer that
+-- failed, say nothing.
 use Rattle.std.specs.Prelude.{ℕ, Option, Some, None, List, [], ◌∷◌}
 use Rattle.std.specs.List.{filter_map}
 use Rattle.octet_core.specs.declared.offer.Offer.TheVariants.{Whole, Stalled, Failed as Refused}
@@ -54,6 +55,16 @@ end_of spoken.Going = None
 end_of (spoken.Ended end) = Some (end_word end)
 end_of spoken.LinkFault = Some word.Fault
 
+-- how many items a round dropped behind which the connection is there still, if it dropped any: the
+-- message's offer is its last call
+abbrev pub dropped_lines : Option ℕ → List LinkLine
+dropped_lines None = []
+dropped_lines (Some items) = line.Discarded items ∷ []
+
+abbrev pub drop_lines : Option EndWord → Option ℕ → List LinkLine
+drop_lines None dropped = dropped_lines dropped
+drop_lines (Some why) dropped = []
+
 abbrev pub end_lines : Option EndWord → List LinkLine
 end_lines None = []
 end_lines (Some why) = line.Ended why ∷ []
@@ -62,4 +73,5 @@ end_lines (Some why) = line.Ended why ∷ []
 abbrev pub says_of : ℕ → LinkLine → Says transcript
 says_of c (line.Sent octets) = (forms.sent, (c, octets))
 says_of c line.Stalled = (forms.stalled, c)
+says_of c (line.Discarded items) = (forms.discarded, (c, items))
 says_of c (line.Ended why) = (forms.ended, (c, why))

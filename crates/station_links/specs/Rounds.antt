@@ -13,13 +13,13 @@ use Rattle.station_book.specs.History.{moment_at, event_at, replay}
 use Rattle.drill_text.specs.declared.end_word.EndWord.{EndWord}
 use Rattle.session_core.specs.Course.{is_over}
 use Rattle.session_core.specs.Inquiry.{answer_of}
-use Rattle.session_core.specs.Steps.{waits, may_poll, may_speak, inquiry_at}
+use Rattle.session_core.specs.Steps.{waits, may_poll, may_speak, may_send, inquiry_at}
 use Rattle.session_core.specs.Session.{State, BookAnswer, Round, next_of, poll_space, cleared}
-use Rattle.session_core.specs.Session.{listened}
+use Rattle.session_core.specs.Session.{listened, standing_spoke}
 use Rattle.session_core.specs.Session.{offer_calls, listen_calls, stepped, after_round, round_calls}
 use Rattle.session_core.specs.Session.{round_events, spoken_of}
 use Rattle.station_links.specs.declared.link_line.LinkLine.{LinkLine}
-use Rattle.station_links.specs.LinkLines.{lines_in, end_of, end_lines}
+use Rattle.station_links.specs.LinkLines.{lines_in, end_of, drop_lines, end_lines}
 use Rattle.station_links.specs.Connected.{Connected, after_calls}
 
 -- ---- the answers
@@ -67,6 +67,14 @@ spoke_at l s =
     offer_answer (after_calls l.steering (listen_calls l.state (waited_at l) (heard_at l)))
     (may_speak s.standing)
 
+-- to the service's message behind it
+abbrev pub sent_at : Connected → State → Option Offer
+sent_at l s =
+    offer_answer
+    (after_calls (after_calls l.steering (listen_calls l.state (waited_at l) (heard_at l)))
+    (offer_calls s.standing (spoke_at l s)))
+    (may_send (standing_spoke s.standing (spoke_at l s)))
+
 -- the answers of a round
 abbrev pub round_at : Site → ℕ → Connected → book.State → ℕ → Round
 round_at site door l b reading =
@@ -75,6 +83,7 @@ round_at site door l b reading =
       heard = heard_at l;
       told = told_at site door l b reading;
       spoke = spoke_at l (stepped site (listened_at l) (told_at site door l b reading));
+      sent = sent_at l (stepped site (listened_at l) (told_at site door l b reading));
     }
 
 -- ---- what comes of it
@@ -107,12 +116,23 @@ stands_after site l r =
 abbrev pub end_after : Site → Connected → Round → Option EndWord
 end_after site l r = end_of (spoken_of (after_round site l.state r).standing.course)
 
+-- what a round with these answers says, but for how the connection ended
+abbrev pub round_lines : Site → State → Round → List LinkLine
+round_lines site s r =
+    let now = (after_round site s r).standing in
+    lines_in (round_calls site s r) ++ drop_lines (end_of (spoken_of now.course)) now.dropped
+
+abbrev pub session_lines : Site → State → List Round → List LinkLine
+session_lines site s [] = []
+session_lines site s (r ∷ rounds) =
+    round_lines site s r ++ session_lines site (after_round site s r) rounds
+
 abbrev pub outcome_of : Site → ℕ → Connected → book.State → Round → Outcome
 outcome_of site door l b r =
     let end = end_after site l r in
     let events = round_events site door l.state r in
     record {
-      said = lines_in (round_calls site l.state r) ++ end_lines end;
+      said = round_lines site l.state r ++ end_lines end;
       events = events ++ quits door (replay b events) end;
       next = left_by end (stands_after site l r);
     }

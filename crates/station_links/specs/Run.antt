@@ -9,12 +9,12 @@ use Rattle.station_book.specs.State.{Event, quit}
 use Rattle.station_book.specs.State as book
 use Rattle.station_book.specs.History.{event_at}
 use Rattle.drill_text.specs.declared.end_word.EndWord.{EndWord}
-use Rattle.session_core.specs.Session.{State, Round, AreRounds, AreOctets, session_calls}
+use Rattle.session_core.specs.Session.{State, Round, AreRounds, AreOctets}
 use Rattle.session_core.specs.Session.{session_events, session_end}
 use Rattle.station_links.specs.declared.link_line.LinkLine.{LinkLine}
-use Rattle.station_links.specs.LinkLines.{lines_in, end_of, end_lines}
+use Rattle.station_links.specs.LinkLines.{end_of, end_lines}
 use Rattle.station_links.specs.Connected.{Connected, steered_by}
-use Rattle.station_links.specs.Rounds.{round_at, round_of, stands_after, end_after}
+use Rattle.station_links.specs.Rounds.{round_at, round_of, stands_after, end_after, session_lines}
 
 -- a piece comes, the peer closes behind the pieces, the next poll is broken, or so many of the next
 -- offers stall
@@ -85,11 +85,11 @@ EndsWith door None events = events ≡ []
 EndsWith door (Some why) events = Quits door events
 
 -- What was said and asked is *Session* of these rounds: each taken or stalled offer of its calls,
--- and its end, once and last; and the book's events, behind which the end quits.
+-- what was dropped behind a round's calls, and its end, once and last; and the book's events, behind which the end quits.
 pub record IsSession (site : Site) (door : ℕ) (s : State) (said : List LinkLine)
     (events : List Event) (rounds : List Round) : Type 0 where
   pub right : AreRounds site s rounds
-  pub said_is : said ≡ lines_in (session_calls site s rounds)
+  pub said_is : said ≡ session_lines site s rounds
       ++ end_lines (end_of (session_end site s rounds))
   pub last : List Event
   pub events_are : events ≡ session_events site door s rounds ++ last

@@ -1,7 +1,7 @@
 // What a connection says in the transcript.
 ghost use Rattle.std.specs.Prelude.{◌≡◌, ◌++◌, ◌∷◌, [], IfOk, OnOk};
 ghost use Rattle.drill_text.specs.Transcript.{said};
-ghost use Rattle.station_links.specs.LinkLines.{lines_in, end_of, end_word, end_lines};
+ghost use Rattle.station_links.specs.LinkLines.{lines_in, end_of, end_word, drop_lines, end_lines};
 ghost use Rattle.station_links.specs.LinkLines.{fault_number, says_of};
 
 use drill_text::{EndWord, TranscriptLine};
@@ -19,6 +19,8 @@ pub enum LinkLine {
     Sent(Octets),
     /// An offer stalled.
     Stalled,
+    /// So many items were discarded, of the message that stalled.
+    Discarded(u32),
     /// The connection ended so, and isn't there any more.
     Ended(EndWord),
 }
@@ -34,6 +36,7 @@ impl LinkLine {
                 octets: octets.as_slice(),
             },
             LinkLine::Stalled => TranscriptLine::Stalled { c },
+            LinkLine::Discarded(n) => TranscriptLine::Discarded { c, n: *n },
             LinkLine::Ended(word) => TranscriptLine::Ended { c, word: *word },
         }
     }
@@ -70,6 +73,21 @@ pub(crate) fn lines_of(alloc: Global, calls: &[Call]) -> Result<Vec<LinkLine>, M
         put_call(&mut lines, call)?;
     }
     Ok(lines)
+}
+
+// How many items were dropped in a round behind which the connection is there still, if any were,
+// behind what others said.
+pub(crate) fn put_drop(
+    lines: &mut Vec<LinkLine>,
+    end: Option<EndWord>,
+    dropped: Option<u32>,
+) -> Result<(), Memory>
+    ensures { OnOk result (lines.new.items ≡ lines.old.items ++ drop_lines end dropped) }
+{
+    if let (None, Some(items)) = (end, dropped) {
+        lines.push(LinkLine::Discarded(items))?;
+    }
+    Ok(())
 }
 
 // How a connection ended, if it did, behind what others said.

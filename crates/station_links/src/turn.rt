@@ -9,7 +9,7 @@ ghost use Rattle.station_links.specs.Lives.{Lives, Turned, Leaves};
 ghost use Rattle.station_links.specs.Rounds.{round_of, quits, left_by};
 
 use crate::connection::Connection;
-use crate::link_line::{LinkLine, end_of, lines_of, put_end};
+use crate::link_line::{LinkLine, end_of, lines_of, put_drop, put_end};
 use crate::steered::make_round;
 use drill_text::EndWord;
 use octet_core::Memory;
@@ -75,6 +75,7 @@ impl Connection {
         };
         let mut said = lines_of(alloc, &calls)?;
         let end = end_of(spoken);
+        put_drop(&mut said, end, session.dropped())?;
         put_end(&mut said, end)?;
         quit_door(book, c, end);
         let connection = left_by(end, Connection { c, session, link });

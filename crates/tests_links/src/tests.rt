@@ -147,3 +147,13 @@ fn scripts_say_what_they_say(rt: HostRuntime) {
 fn a_message_that_is_not_built_is_refused(rt: HostRuntime) {
     assert_eq!(rt; says(rt.alloc(), "ask 1 stop", ""), Err(AskFault::NotBuilt));
 }
+
+#[test]
+fn what_was_dropped_is_told(rt: HostRuntime) {
+    let mut text = Octets::new(rt.alloc());
+    assert_eq!(rt;
+        write_lines(rt.alloc(), &[LinkLine::Discarded(3)], &mut text),
+        Ok(())
+    );
+    assert_eq!(rt; text.as_slice(), b"discarded 1 3\n".as_slice());
+}

@@ -4,7 +4,7 @@ ghost use Rattle.cds_time.specs.declared.cds.TheConstants.{MOMENT_END};
 ghost use Rattle.station_config.specs.Validity.{IsSite};
 
 use super::step::{Step, What, number, octets_of};
-use super::telling::{calls_told, spoken_told};
+use super::telling::{calls_told, dropped_told, spoken_told};
 use fcltu_numbers::{CltuProductionStatus, UplinkStatus};
 use frame_select::Want;
 use link_model::MemoryLink;
@@ -81,6 +81,7 @@ impl Door {
             .session
             .round(site, book, reading_of(clock), &mut self.link)?;
         self.tell(alloc, told)?;
+        dropped_told(self.session.dropped(), told)?;
         spoken_told(spoken, told)
     }
 

@@ -59,3 +59,11 @@ pub fn spoken_told(spoken: Spoken, told: &mut String) -> Result<(), AllocError> 
         Spoken::LinkFault => told.push_str("LinkFault "),
     }
 }
+
+// How many items of a service's message were dropped, if it stalled and was.
+pub fn dropped_told(dropped: Option<u32>, told: &mut String) -> Result<(), AllocError> {
+    match dropped {
+        None => Ok(()),
+        Some(items) => write!(told, "dropped {items} "),
+    }
+}

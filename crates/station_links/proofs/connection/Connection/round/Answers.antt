@@ -1,6 +1,6 @@
 use Rattle.std.proofs.Common.{sym, ap, ◌∙◌, ◌++◌}
 use Rattle.link_model.specs.MemoryLink.{LinkState}
-use Rattle.station_links.specs.LinkLines.{lines_in, end_lines}
+use Rattle.station_links.specs.LinkLines.{lines_in, drop_lines, end_lines}
 use Rattle.station_links.specs.Rounds.{round_at}
 use Rattle.station_links.proofs.Living.{behind}
 use Rattle.station_links.proofs.Outcomes.{turned}
@@ -22,5 +22,9 @@ returns-clause-round c =
     lives.c_is c.in_ok-spoken.ensures.outcome c.end_of-end.ensures
     (c.in_ok-put_end.ensures
     ∙ ap (λ xs. xs ++ end_lines c.end_of-end.result)
-    (c.in_ok-said.ensures ∙ ap lines_in c.deref.ensures.value))
+    (c.in_ok-put_drop.ensures
+    ∙ ap (λ xs. xs ++ drop_lines c.end_of-end.result c.dropped.result)
+    (c.in_ok-said.ensures ∙ ap lines_in c.deref.ensures.value)
+    ∙ ap (λ items. lines_in c.in-Some.calls.items ++ drop_lines c.end_of-end.result items)
+    c.dropped.ensures))
     c.quit_door.ensures c.left_by-connection.ensures)
