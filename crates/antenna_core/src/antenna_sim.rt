@@ -1,0 +1,126 @@
+// An antenna in memory.
+ghost use Rattle.std.specs.Prelude.{◌≡◌, ◌↔◌, ◌∷◌, [], Some, true, false, IsTrue, IsErr};
+ghost use Rattle.std.specs.Prelude.{option_copied};
+ghost use Rattle.octet_core.specs.Fault.{FailsOnlyByFault};
+ghost use Rattle.octet_core.specs.FailingCalls.{after_call};
+ghost use Rattle.octet_core.specs.Told.{Tells};
+ghost use Rattle.antenna_core.specs.Sent.{sent_by};
+ghost use Rattle.antenna_core.specs.AntennaSim.{fails_now};
+
+use crate::Antenna;
+use octet_core::{Failed, FailingCalls, Faults, Octets};
+use std::alloc::Global;
+use std::marker::Model;
+
+/// An antenna in memory, which keeps what was sent, and fails at the calls of a list and where it
+/// was told to.
+///
+/// Where memory is refused to what it keeps, it stops telling, and sends as before.
+#[derive(Debug, Drop)]
+pub struct AntennaSim {
+    alloc: Global,
+    sent: Vec<Octets>,
+    tells: bool,
+    is_broken: bool,
+    failing: FailingCalls,
+    faults: Faults,
+}
+
+impl Model for AntennaSim {
+    ghost use Rattle.antenna_core.specs.AntennaSim.{SimState, told_of};
+
+    ghost Value = { SimState };
+
+    ghost view = { λ sim. record {
+      told = told_of sim.tells sim.sent.items;
+      is_broken = sim.is_broken;
+      failing = sim.failing;
+      faults = sim.faults;
+    } };
+}
+
+impl AntennaSim {
+    /// An antenna that sent nothing yet, and whose calls of this list fail, counted from 1.
+    pub fn new(alloc: Global, failing_calls: Vec<u64>) -> AntennaSim
+        ensures { result ≡ record {
+          told = Some [];
+          is_broken = false;
+          failing = record { failing = failing_calls.items; made = 0 };
+          faults = 0;
+        } }
+    {
+        AntennaSim {
+            alloc,
+            sent: Vec::new(alloc),
+            tells: true,
+            is_broken: false,
+            failing: FailingCalls::new(failing_calls),
+            faults: Faults::new(),
+        }
+    }
+
+    /// The next send fails.
+    pub fn break_send(&mut self)
+        ensures { self.new ≡ record self.old { is_broken = true } }
+    {
+        self.is_broken = true;
+    }
+
+    /// The octets of each CLTU that was sent, the oldest first, or none once memory was refused to
+    /// them.
+    pub fn sent(&self) -> Option<&[Octets]>
+        ensures { option_copied result ≡ self.now.told }
+    {
+        if self.tells { Some(&self.sent) } else { None }
+    }
+
+    /// How often a call has failed.
+    pub fn faults(&self) -> u64
+        ensures { result ≡ self.now.faults }
+    {
+        self.faults.count()
+    }
+
+    // Keeps the octets of a CLTU that is sent.
+    fn keep(&mut self, octets: &[u8])
+        ensures told { Tells self.old.told self.new.told (octets.now ∷ []) }
+        ensures rest { self.new ≡ record self.old { told = self.new.told } }
+    {
+        let Ok(kept) = Octets::copy_of(self.alloc, octets) else {
+            self.tells = false;
+            return;
+        };
+        if self.sent.push(kept).is_err() {
+            self.tells = false;
+        }
+    }
+}
+
+impl Antenna for AntennaSim {
+    ghost sent = { λ sim. sim.told };
+
+    ghost faults = { λ sim. sim.faults };
+
+    /// Fails where the call is listed or was broken, else keeps the octets.
+    fn send(&mut self, octets: &[u8]) -> Result<(), Failed>
+        ensures told { Tells self.old.told self.new.told (sent_by result octets.now) }
+        ensures faults { FailsOnlyByFault self.old.faults self.new.faults result }
+
+        // Which calls fail, and what those behind will do.
+        ensures fails { IsErr result ↔ IsTrue (fails_now self.old) }
+        ensures rest { self.new ≡ record {
+          told = self.new.told;
+          is_broken = false;
+          failing = after_call self.old.failing;
+          faults = self.new.faults;
+        } }
+    {
+        let is_listed = self.failing.count_call();
+        if is_listed || self.is_broken {
+            self.is_broken = false;
+            return self.faults.fail();
+        }
+        self.keep(octets);
+        Ok(())
+    }
+}
