@@ -1,0 +1,3 @@
+mod OneMore
+mod Landing
+mod Mending

@@ -5,13 +5,29 @@
 // answers, and may stop telling. `MemoryFrames` is a source in memory, which fails at the calls of
 // a list.
 //
-// A call's cost grows with the calls that are listed to fail, and with nothing else.
+// `record_step` polls a source until 256 entries came or an answer is none, and stores what came as
+// one batch. It answers what the archive has acknowledged with it, what was dropped and why, and
+// whether the source's end came (`Recorded`), or why it didn't end well (`RecordFault`).
+//
+// A poll's cost grows with the calls that are listed to fail, and with nothing else. A step costs
+// a poll and an offer for each entry, one store, and where that fails a reopen and a second store
+// perhaps. No octets are copied but into the batch.
 #![tactic(auto)]
 
+mod dropped;
 mod feed;
 mod frame_source;
+pub mod laws;
 mod memory_frames;
+mod offering;
+mod polling;
+mod record_fault;
+mod recorded;
+mod step;
 
 pub use feed::Feed;
 pub use frame_source::FrameSource;
 pub use memory_frames::MemoryFrames;
+pub use record_fault::RecordFault;
+pub use recorded::Recorded;
+pub use step::record_step;

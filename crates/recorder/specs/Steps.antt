@@ -1,0 +1,154 @@
+-- What a step of the recorder does with the entries that it polled, on any disk: what it stores,
+-- what a reopen finds, and which calls of the disk it makes. This product's own rule.
+use Rattle.std.specs.Prelude.{◌≡◌, ◌⊎◌, ℕ, ◌+◌, ◌-◌, Option, Some, None, IfSome, List, [], ◌∷◌}
+use Rattle.std.specs.Prelude.{length}
+use Rattle.archive_terms.specs.Archive.{Entry}
+use Rattle.octet_core.specs.Fault.{Rose}
+use Rattle.disk_model.specs.Images.{Pending}
+use Rattle.disk_model.specs.Calls.{AllMade, FailedAtOne}
+use Rattle.disk_model.specs.declared.call.Call.{Call}
+use Rattle.gate_journal.specs.JournalState.{appending, recovering, FailsToRecover}
+use Rattle.frame_archive.specs.State.{ArchiveState, at_rest, times_of, with_stored, with_failed}
+use Rattle.frame_archive.specs.Acknowledges.{Uses}
+use Rattle.frame_archive.specs.Faults.{RefusesReopen}
+use Rattle.frame_archive.specs.declared.fault.ArchiveFault.{ArchiveFault}
+use Rattle.recorder.specs.declared.dropped.Dropped.{Dropped}
+use Rattle.recorder.specs.declared.recorded.Recorded.{Recorded}
+use Rattle.recorder.specs.declared.record_fault.RecordFault.{RecordFault}
+use Rattle.recorder.specs.declared.record_fault.RecordFault.TheVariants as faults
+use Rattle.recorder.specs.Offers.{Offered, offered, after_offers}
+
+-- ---- a store
+
+-- the counted calls of a store behind so many used octets: none where nothing waits
+abbrev pub storing : ℕ → List Entry → List Call
+storing used [] = []
+storing used (entry ∷ entries) = appending (used - 1) (entry ∷ entries)
+
+-- the counted calls that store all that waits in an archive
+abbrev pub store_of : {D : Type 0} → ArchiveState D → List Call
+store_of archive = storing archive.used archive.waiting
+
+-- what a step says it dropped
+abbrev pub dropped_of : Recorded → Dropped
+dropped_of recorded = record {
+  refused = recorded.refused;
+  full = recorded.full;
+  refusal = recorded.refusal;
+}
+
+-- a step tells these entries as stored, and these as dropped
+pub record Tells (entries : List Entry) (dropped : Dropped) (recorded : Recorded) : Type 0 where
+  pub stored : recorded.entries ≡ entries
+  pub dropped_are : dropped_of recorded ≡ dropped
+
+-- All that waits was stored as one batch.
+module _ {D : Type 0} (makes : D → Call → D → Type 0) where
+  pub record Stores (before : Offered D) (new : ArchiveState D) (recorded : Recorded) : Type 0 where
+    pub state : new ≡ with_stored before.archive new.disk
+    pub calls : AllMade makes before.archive.disk (store_of before.archive) new.disk
+    pub told : Tells before.archive.waiting before.dropped recorded
+
+-- A store of all that waits failed, and left the disk like this.
+module _ {D : Type 0} (makes fails : D → Call → D → Type 0) where
+  abbrev pub StoreFails : ArchiveState D → D → Type 0
+  StoreFails archive broken = FailedAtOne makes fails archive.disk (store_of archive) broken
+
+-- ---- the reopen behind a store that failed
+
+-- what waited before a reopen, offered once more to the archive that was opened
+abbrev pub offered_again : {D : Type 0} → Dropped → ArchiveState D → ArchiveState D → Offered D
+offered_again dropped old opened = after_offers (offered opened dropped) old.waiting
+
+module _ {D : Type 0} (pending : D → Option Pending) (makes : D → Call → D → Type 0) where
+  -- An archive was opened again. Nothing waits in it, and its file holds so many entries, which use
+  -- so many octets.
+  pub record Reopened (old opened : ArchiveState D) : Type 0 where
+    pub calls : AllMade makes old.disk recovering opened.disk
+    pub state : opened ≡ record (at_rest opened.disk old.capacity opened.used []) {
+      count = opened.count;
+      times = opened.times;
+    }
+    pub found : (entries : List Entry) × (length entries ≡ opened.count)
+        × (opened.times ≡ times_of entries)
+        × IfSome (pending old.disk) (λ told. Uses entries opened.used told.content)
+
+  -- All that waited landed in the file.
+  pub record Lands (dropped : Dropped) (old new : ArchiveState D) (recorded : Recorded)
+      : Type 0 where
+    pub reopened : Reopened old new
+    pub counted : recorded.reopened ≡ Some new.count
+    pub count : new.count ≡ old.count + length old.waiting
+    pub told : Tells old.waiting dropped recorded
+
+  -- None of it landed, and it was offered and stored once more.
+  pub record StoresAgain (dropped : Dropped) (old new : ArchiveState D) (recorded : Recorded)
+      : Type 0 where
+    pub opened : ArchiveState D
+    pub reopened : Reopened old opened
+    pub counted : recorded.reopened ≡ Some opened.count
+    pub count : opened.count ≡ old.count
+    pub stores : Stores makes (offered_again dropped old opened) new recorded
+
+  -- a store failed, and what it left was opened again
+  abbrev pub IsMended : Dropped → ArchiveState D → ArchiveState D → Recorded → Type 0
+  IsMended dropped old new recorded = Lands dropped old new recorded
+      ⊎ StoresAgain dropped old new recorded
+
+module _ {D : Type 0} (pending : D → Option Pending) (makes fails : D → Call → D → Type 0) where
+  -- What was offered is stored, by whether a reopen was made.
+  abbrev pub IsStored : Option ℕ → Offered D → ArchiveState D → Recorded → Type 0
+  IsStored None before new recorded = Stores makes before new recorded
+  IsStored (Some count) before new recorded = (broken : D)
+      × StoreFails makes fails before.archive broken
+      × IsMended pending makes before.dropped (with_failed before.archive broken) new recorded
+
+module _ {D : Type 0} (pending : D → Option Pending) (faults_of : D → ℕ)
+    (makes fails : D → Call → D → Type 0) where
+  -- A second store failed, of what was lost.
+  pub record FailsAgain (dropped : Dropped) (old new : ArchiveState D) : Type 0 where
+    pub opened : ArchiveState D
+    pub reopened : Reopened pending makes old opened
+    pub count : opened.count ≡ old.count
+    pub cause : Rose (faults_of opened.disk) (faults_of new.disk)
+    pub failed : StoreFails makes fails (offered_again dropped old opened).archive new.disk
+    pub state : new ≡ with_failed (offered_again dropped old opened).archive new.disk
+
+-- ---- what a step leaves that isn't mended
+
+module _ {D : Type 0} (pending : D → Option Pending) (faults_of : D → ℕ)
+    (makes fails : D → Call → D → Type 0) (fails_to_read : D → D → Type 0) where
+  -- a reopen failed
+  pub record ReopenFails (old new : ArchiveState D) : Type 0 where
+    pub calls : FailsToRecover makes fails fails_to_read old.disk new.disk
+    pub cause : Rose (faults_of old.disk) (faults_of new.disk)
+    pub state : new ≡ record old { disk = new.disk }
+
+  -- a reopen found another file
+  pub record IsRefused (fault : ArchiveFault) (old new : ArchiveState D) : Type 0 where
+    pub calls : AllMade makes old.disk recovering new.disk
+    pub state : new ≡ record old { disk = new.disk }
+    pub cause : RefusesReopen fault old.count old.failed (pending old.disk) (faults_of old.disk)
+        (faults_of new.disk)
+
+  -- What is left of an archive whose store failed, where the answer is a fault of the disk or of
+  -- the file. Of the others the step says what they leave in clauses of their own.
+  abbrev pub IsUnmended : RecordFault → Dropped → ArchiveState D → ArchiveState D → Type 0
+  IsUnmended faults.SourceFault dropped old new = Unit {0}
+  IsUnmended faults.DiskFault dropped old new = ReopenFails old new
+      ⊎ FailsAgain pending faults_of makes fails dropped old new
+  IsUnmended (faults.Refused fault) dropped old new = IsRefused fault old new
+  IsUnmended faults.Memory dropped old new = Unit {0}
+
+  -- the same, from the store on
+  abbrev pub IsLeft : RecordFault → Offered D → ArchiveState D → Type 0
+  IsLeft faults.SourceFault before new = Unit {0}
+  IsLeft faults.Memory before new = Unit {0}
+  IsLeft fault before new = (broken : D) × StoreFails makes fails before.archive broken
+      × Rose (faults_of before.archive.disk) (faults_of broken)
+      × IsUnmended fault before.dropped (with_failed before.archive broken) new
+
+-- the file was no other one
+abbrev pub IsNoRefusal : RecordFault → Type 0
+IsNoRefusal (faults.Refused fault) = ⊥
+IsNoRefusal _ = Unit {0}
