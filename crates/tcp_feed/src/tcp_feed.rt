@@ -1,0 +1,118 @@
+// A source of entries over a TCP listener.
+ghost use Rattle.std.specs.Prelude.{◌≡◌, false, IfOk};
+ghost use Rattle.recorder.specs.Feeds.{IsValidFeed, is_failed};
+
+use crate::heard::Heard;
+use octet_core::{Faults, Memory};
+use recorder::{Feed, FrameSource};
+use std::alloc::Global;
+use std::io;
+use std::io::Write;
+use std::marker::Model;
+use std::net::{Net, SocketAddr, TcpListener, TcpStream};
+
+// How many lines that say nothing are passed over in a call.
+const SKIPPED_LINES: u32 = 1_000;
+
+/// A source of entries over a TCP listener. Its first connection is the one that writes, a line an
+/// entry (`frame`, `loss`, `production` or `mark` of a script); empty lines and comments are passed
+/// over. Later connections are closed. It tells none of its answers.
+///
+/// Before that connection and between lines nothing has come yet; the end of its stream is the end.
+/// A port that can't be had, a connection that breaks, another line, and one that is longer than a
+/// frame of 65,536 octets needs, are faults: then it fails at each further call too. What fails is
+/// reported in a line of text.
+#[derive(Drop)]
+pub struct TcpFeed<W: Write + Send + Drop> {
+    heard: Heard,
+    reports: W,
+    faults: Faults,
+}
+
+impl<W: Write + Send + Drop> Model for TcpFeed<W> {
+    ghost use Rattle.tcp_feed.specs.FeedState.{FeedState};
+
+    ghost Value = { FeedState };
+
+    ghost view = { λ feed. record { faults = feed.faults } };
+}
+
+impl<W: Write + Send + Drop> TcpFeed<W> {
+    /// A source that listens at this address from now on, and which reports to this writer. Where
+    /// the address can't be had, its calls fail.
+    pub fn open<R: Net<Stream = TcpStream, Listener = TcpListener>>(
+        rt: &R,
+        alloc: Global,
+        address: SocketAddr,
+        reports: W,
+    ) -> Result<TcpFeed<W>, Memory>
+        ensures { IfOk result (λ feed. feed ≡ record { faults = 0 }) }
+    {
+        Ok(TcpFeed {
+            heard: Heard::new(alloc, address, listen(rt, address))?,
+            reports,
+            faults: Faults::new(),
+        })
+    }
+
+    /// Where it listens: with the system's port where it was told port 0.
+    pub fn address(&self) -> SocketAddr {
+        self.heard.address()
+    }
+
+    /// How often a call has failed.
+    pub fn faults(&self) -> u64
+        ensures { result ≡ self.now.faults }
+    {
+        self.faults.count()
+    }
+
+    /// What it reports to.
+    pub fn reports(&self) -> &W {
+        &self.reports
+    }
+}
+
+// A listener whose calls don't wait.
+fn listen<R: Net<Stream = TcpStream, Listener = TcpListener>>(
+    rt: &R,
+    address: SocketAddr,
+) -> io::Result<TcpListener> {
+    let listener = TcpListener::bind(rt, address)?;
+    listener.set_nonblocking(true)?;
+    Ok(listener)
+}
+
+// What the lines that have come say next, those that say nothing passed over.
+fn next_of(heard: &mut Heard) -> io::Result<Feed>
+    ensures valid { IfOk result IsValidFeed }
+    ensures sound { IfOk result (λ feed. is_failed feed ≡ false) }
+{
+    for _ in 0..SKIPPED_LINES {
+        if let Some(feed) = heard.go_on()? {
+            return Ok(feed);
+        }
+    }
+    Ok(Feed::NotYet)
+}
+
+impl<W: Write + Send + Drop> FrameSource for TcpFeed<W> {
+    ghost use Rattle.std.specs.Prelude.{None};
+
+    ghost answers = { λ feed. None };
+
+    ghost faults = { λ feed. feed.faults };
+
+    /// The entry of the next line that says one, where it has come whole.
+    fn next(&mut self) -> Feed {
+        match next_of(&mut self.heard) {
+            Ok(feed) => feed,
+            Err(error) => {
+                let (address, line) = (self.heard.address(), self.heard.lines().saturating_add(1));
+                let _ = writeln!(self.reports, "feed {address}: line {line}: {error}");
+                let _ = self.faults.fail::<()>();
+                Feed::Failed
+            }
+        }
+    }
+}
