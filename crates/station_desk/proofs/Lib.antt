@@ -1,6 +1,6 @@
 pub mod Readable
 pub mod Rounds
 pub mod NextLook
-pub mod Spelled
+pub mod Unsigned
 pub mod Advancing
 pub mod Saying
