@@ -433,4 +433,5 @@ def drive(launcher, run, check, outside):
     # the program that the gate left is the launcher's
     for line in [[b"drill"], [b"rehearse", b"7"], [b"list", b""]]:
         done = subprocess.run([launcher, *line], stdin=subprocess.DEVNULL, capture_output=True)
-        check(f"launcher {line}", (done.returncode, done.stdout, done.stderr), run(line))
+        check(f"launcher {line}", (done.returncode, done.stdout), run(line)[:2])
+        check(f"launcher {line}, words", bool(done.stderr), done.returncode != 0)

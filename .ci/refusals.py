@@ -1,0 +1,105 @@
+#!/usr/bin/env python3
+"""Drives the launcher into each refusal, and looks for the words that it says of it.
+
+    .ci/refusals.py PROVIDER LAUNCHER
+
+The last line is `N passed, M failed`.
+"""
+import os
+import pathlib
+import subprocess
+import sys
+import tempfile
+
+TOP = pathlib.Path(__file__).resolve().parent.parent
+
+passed = failed = 0
+
+
+def check(name, found, expected):
+    global passed, failed
+    if found == expected:
+        passed += 1
+    else:
+        failed += 1
+        print(f"refusals: {name}: found {found!r:.400}, expected {expected!r:.400}")
+
+
+def run(words, text=b"", **more):
+    """The exit code, and what was written to the two streams."""
+    if "stdin" not in more:
+        more["input"] = text
+    more.setdefault("stdout", subprocess.PIPE)
+    done = subprocess.run(words, stderr=subprocess.PIPE, timeout=120, **more)
+    return done.returncode, done.stdout, done.stderr
+
+
+SITE = b"site\n%send\n"
+PEER = b"peer MOC none sha1 60 000000000000\n"
+RAF = b"raf sagr=1.raf=onlt%d MOC timely 1 5 60\n"
+# a script, its exit code, and words that stand in what is said of it
+REFUSALS = [
+    ("a first word", b"\nfly\n", 3, [b"line 2", b"(fly)", b"no word", b"help drill"]),
+    ("a form", b"mark 1\n", 3, [b"line 1", b"(mark 1)", b"malformed", b"help drill"]),
+    ("a closed connection", b"shut 1\n", 3, [b"line 1", b"(shut 1)", b"isn't open"]),
+    ("an open one", b"open 1\nopen 1\n", 3, [b"line 2", b"(open 1)", b"open already"]),
+    ("an ask", b"ask 1 unbind\n", 3, [b"line 1", b"(ask 1 unbind)", b"isn't open"]),
+    ("what isn't built", b"take\n", 3, [b"line 1", b"(take)", b"doesn't run yet"]),
+    ("an open head", b"site\nprovider GROUND\n", 3, [b"no end", b"`end`"]),
+    ("cause 1", SITE % b"fly\n", 4, [b"line 2", b"no line has"]),
+    ("cause 2", SITE % b"provider\n", 4, [b"line 2", b"too few words"]),
+    ("cause 3", SITE % b"provider AB\n", 4, [b"line 2", b"out of its range"]),
+    ("cause 4", SITE % (PEER + PEER), 4, [b"line 3", b"once more"]),
+    ("cause 5", SITE % (RAF % 1), 4, [b"line 2", b"above it"]),
+    ("cause 6", SITE % (PEER + b"".join(RAF % n for n in range(33))), 4,
+     [b"line 35", b"thirty-third"]),
+    ("a full archive", b"site\ncapacity 64\nend\nframe 0/0/0 0 41 0 " + b"00" * 64 + b"\n", 9,
+     [b"capacity"]),
+    ("a long script", b"#" * 16_777_217, 11, [b"16777216", b"in parts"]),
+]
+
+
+def said(launcher, name, words, status, wanted, provider, **more):
+    """The launcher ends and writes as the program does, and says the words on a line of its own."""
+    own = run([provider, *words], **more)
+    found = run([launcher, *words], **more)
+    check(f"{name}, program", (own[0], own[2]), (status, b""))
+    check(f"{name}, launcher", found[:2], own[:2])
+    check(f"{name}, lines", (found[2].count(b"\n"), found[2][:10]), (1, b"provider: "))
+    for word in wanted:
+        check(f"{name}, {word}", word in found[2], True)
+
+
+def refusals(provider, launcher):
+    for name, script, status, wanted in REFUSALS:
+        said(launcher, name, ["drill"], status, wanted, provider, text=script)
+    with tempfile.TemporaryDirectory() as folder:
+        path = pathlib.Path(folder) / "x.archive"
+        path.write_bytes(b"SLEA")
+        name = bytes(path)
+        said(launcher, "a used path", ["init", path], 5, [name, b"isn't empty"], provider)
+        said(launcher, "no archive", ["list", path], 5, [name, b"octet 4"], provider)
+        said(launcher, "no file", ["list", folder + "/y"], 8, [b"/y", b"there"], provider)
+    folder = os.open("/", os.O_RDONLY)
+    said(launcher, "a read fault", ["drill"], 6, [b"can't be read"], provider, stdin=folder)
+    os.close(folder)
+    with open("/dev/full", "wb") as full:
+        for words in [["rehearse", "1"], ["drill"]]:
+            found = run([launcher, *words], b"fly\n", stdout=full)
+            is_said = b"disk is full" in found[2]
+            check(f"a write fault of {words[0]}", (found[0], is_said), (7, True))
+    # a success says nothing
+    script = (TOP / "examples/first-pass.script").read_bytes()
+    check("a success", run([launcher, "drill"], script), run([provider, "drill"], script))
+
+
+def main(provider, launcher):
+    refusals(*(str(pathlib.Path(each).resolve()) for each in (provider, launcher)))
+    print(f"{passed} passed, {failed} failed")
+    return failed > 0 or passed == 0
+
+
+if __name__ == "__main__":
+    if len(sys.argv) != 3:
+        sys.exit(__doc__)
+    sys.exit(main(*sys.argv[1:]))
