@@ -23,6 +23,8 @@ return_pdu RcfReport production|return_pdu ReturnNumbers frame_sync|return_pdu R
 return_pdu ReturnNumbers subcarrier|return_pdu ReturnNumbers carrier
 return_pdu ReturnNumbers production
 sle_common Parameter Mode|sle_common Parameter Cycle|sle_common Parameter Quality
+fcltu_service CltuInvocation Get|raf_service RafInvocation Get|rcf_service RcfInvocation Get
+return_service ReturnService.parameter name
 """
 
 # Counts, identifications, octets, spans, and numbers of this product's own: no table has them.
@@ -39,6 +41,10 @@ session_core Ended interval|session_core Ended factor|session_core Standing inte
 session_core Standing factor|station_config Instance timeout|station_config Site interval_from
 station_config Site interval_to|station_config Site factor_from|station_config Site factor_to
 fcltu_pdu * invoke|return_pdu * invoke|fcltu_pdu Throw event
+fcltu_service CltuAnswer.returned invoke|fcltu_service CltuParameter ReportingCycle
+fcltu_service CltuParameter ReturnTimeout|fcltu_service Fcltu.new timeout
+raf_service Raf.new timeout|rcf_service Rcf.new timeout|report_cycle Schedule cycle
+return_service ReturnService.new timeout
 provider_cli init_archive ->|provider_cli list_archive ->|provider_cli drill ->
 provider_cli provide_on ->|provider_cli provide ->|provider_cli tell ->|provider_cli rehearse ->
 provider_cli Status.code ->|provider_cli put_bad_site cause|station_config SiteFault cause
