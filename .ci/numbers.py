@@ -25,6 +25,7 @@ return_pdu ReturnNumbers production
 sle_common Parameter Mode|sle_common Parameter Cycle|sle_common Parameter Quality
 fcltu_service CltuInvocation Get|raf_service RafInvocation Get|rcf_service RcfInvocation Get
 return_service ReturnService.parameter name
+user_lines Told Aborted
 """
 
 # Counts, identifications, octets, spans, and numbers of this product's own: no table has them.
@@ -49,6 +50,7 @@ provider_cli init_archive ->|provider_cli list_archive ->|provider_cli drill ->
 provider_cli provide_on ->|provider_cli provide ->|provider_cli tell ->|provider_cli rehearse ->
 provider_cli Status.code ->|provider_cli put_bad_site cause|station_config SiteFault cause
 sle_numbers Numbered.number ->|sle_numbers Numbered.from_number number
+user_lines Tag.number ->|user_lines Told invoke|user_lines Told name
 """
 
 PLAIN = ("tests_", "bench_", "sample_", "kill_", "plain_")

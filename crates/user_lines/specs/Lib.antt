@@ -1,0 +1,4 @@
+pub mod Tag
+pub mod Told
+pub mod Lines
+pub mod Shown
