@@ -1,0 +1,3 @@
+pub mod Shows
+pub mod Forms
+pub mod Laws
