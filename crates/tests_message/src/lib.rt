@@ -1,9 +1,11 @@
-// Tests of the messages of transfer buffers: rows of octets, signed and unsigned. They stand above
-// `buffer_message`, and are proved once.
+// Tests of the messages of transfer buffers: rows of octets, signed and unsigned, and of items of
+// largest fields.
 #![tactic(auto)]
 
 #[cfg(test)]
 mod items;
+#[cfg(test)]
+mod largest;
 #[cfg(test)]
 mod rows;
 #[cfg(test)]
