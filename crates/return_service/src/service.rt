@@ -16,6 +16,7 @@ ghost use Rattle.return_core.specs.Item.{are_of_archive};
 ghost use Rattle.return_core.specs.Course as course;
 ghost use Rattle.return_core.specs.Course.{want_of_course, is_offering, held_of};
 ghost use Rattle.return_core.specs.Standing.{waiting_round, StandsFor, IsNextLook, Steps, Settles};
+ghost use Rattle.return_core.specs.Visits.{fate_by, discard_told};
 ghost use Rattle.report_cycle.specs.declared.schedule.TheConstants.{PICOS_A_SECOND};
 ghost use Rattle.report_cycle.specs.Schedule.{refusal as report_refusal, unless};
 ghost use Rattle.return_service.specs.Counts.{with_frames_of as counted_after};
@@ -213,6 +214,14 @@ impl ReturnService {
         ensures { items_of result.now ≡ held_of self.now.course }
     {
         self.delivery.current()
+    }
+
+    /// How many items the link's answer discards, a backlog not counted, where it discards the
+    /// buffer that is offered. It costs the held items, and is asked before `settle`.
+    pub fn discards(&self, answer: Offer) -> Option<u32>
+        ensures { result ≡ discard_told (fate_by self.now.course (answer_of answer)) }
+    {
+        self.delivery.discards(answer)
     }
 
     /// Takes the link's answer to the buffer that was offered. The frames that were handed over are

@@ -10,6 +10,9 @@ use Rattle.link_model.specs.declared.call.Heard.TheVariants.{Arrived, Nothing, C
 use Rattle.sle_numbers.specs.declared.peer_abort_diagnostic.PeerAbortDiagnostic.TheVariants.{CommunicationsFailure}
 use Rattle.station_config.specs.declared.site.Site.{Site}
 use Rattle.assoc_core.specs.Kind.{Kind}
+use Rattle.assoc_core.specs.State.{moved}
+use Rattle.assoc_core.specs.declared.outcome.Outcome.{Outcome}
+use Rattle.assoc_core.specs.declared.state.State.{State as Association}
 use Rattle.assoc_core.specs.declared.step.Step.{Step}
 use Rattle.assoc_core.specs.declared.step.Step.TheVariants.{Pass, Denied, Abort}
 use Rattle.cltu_queue.specs.declared.notice.Notice.{Notice}
@@ -24,7 +27,7 @@ use Rattle.session_core.specs.Served.{Message, concluded_by, Reported, reported_
 use Rattle.session_core.specs.Served.{dropped_by, fixed_by}
 use Rattle.session_core.specs.Service.{invocation_kind}
 use Rattle.session_core.specs.Returns.{bound_peer}
-use Rattle.session_core.specs.ServiceSteps.{answered_with, told_more, may_tell, reported, with_report}
+use Rattle.session_core.specs.ServiceSteps.{answered_with, led_to, told_more, may_tell, reported, with_report}
 use Rattle.session_core.specs.ServiceSteps.{noticed, with_notice, has_outgoing, fixed, stepped_by}
 use Rattle.session_core.specs.ServiceSteps.{with_fixed, may_serve, with_service, after_stall, is_active}
 use Rattle.session_core.specs.Handling.{after_passing, is_agreed, concluded, is_lost, after_message}
@@ -78,9 +81,13 @@ each site s r =
 
 -- ---- to the next one
 
--- it stays, or it is gone and the session doesn't go on
+-- whether its service may offer
+abbrev serves : Standing → Bool
+serves s = is_going s.course && is_active s.association
+
+-- it stays, or it is gone and the service offers nothing
 abbrev Fate : Standing → Standing → Type 0
-Fate s t = (t.outgoing ≡ s.outgoing) ⊎ ((t.outgoing ≡ []) × (is_going t.course ≡ false))
+Fate s t = (t.outgoing ≡ s.outgoing) ⊎ ((t.outgoing ≡ []) × (serves t ≡ false))
 
 if_fate : (b : Bool) (s t u : Standing) → Fate s t → Fate s u → Fate s (if b then t else u)
 if_fate true s t u h k = h
@@ -91,6 +98,25 @@ answered_same : (site : Site) (s : Standing) (k : Kind) (answer : Option Message
 answered_same site s k None = refl
 answered_same site s k (Some message) = refl
 
+from_fate : (s t u : Standing) → t.outgoing ≡ s.outgoing → Fate t u → Fate s u
+from_fate s t u e (inl same) = inl (same ∙ e)
+from_fate s t u e (inr gone) = inr gone
+
+-- where an outcome leaves the service started its message stays
+false_behind : (a b : Bool) → b ≡ false → (a && b) ≡ false
+false_behind a b e = grind arith
+
+led_fate : (s : Standing) (outcome : Outcome) → Fate s (led_to outcome s)
+led_fate s outcome = by_active (is_active now) refl
+  where
+    now : Association
+    now = moved s.association outcome
+
+    by_active : (b : Bool) → is_active now ≡ b → Fate s (led_to outcome s)
+    by_active true e = inl (rw e refl)
+    by_active false e =
+        inr (rw e refl, false_behind (is_going s.course) (is_active now) e)
+
 passing : (site : Site) (s : Standing) (said : UserContent) (r : Replied)
     → Fate s (after_passing site s said r)
 passing site s (context interval factor) r =
@@ -99,7 +125,10 @@ passing site s (bind b) r = inl refl
 passing site s (unbind u) r = inr (refl, refl)
 passing site s (peer_abort diagnostic) r = inr (refl, refl)
 passing site s (invocation i) r =
-    inl (answered_same site s (invocation_kind i) (concluded_by s.service i r s.moment).answer)
+    let done = concluded_by s.service i r s.moment in
+    let t = answered_with site s (invocation_kind i) done.answer in
+    from_fate s t (led_to done.outcome t)
+    (answered_same site s (invocation_kind i) done.answer) (led_fate t done.outcome)
 passing site s heartbeat_said r = inl refl
 passing site s undecoded r = inl refl
 passing site s out_of_place r = inl refl
@@ -155,7 +184,7 @@ unasked_same site r s =
     ∙ if_same (may_tell t) t _ (noticed_same site t r.notice)
     ∙ if_same (may_tell s) s _ (reported_same site s (reported_by s.service r s.moment))
 
--- the service's step leaves it, and makes none where the session doesn't go on
+-- the service's step leaves it, and makes none where the service may offer none
 if_true : (b : Bool) (s t : Standing) → b ≡ true → (if b then s else t) ≡ s
 if_true b s t e = rw e refl
 
@@ -173,15 +202,15 @@ served_same site was g s has =
     if_same (may_serve was s) s _
     (ap (λ (t : Standing). t.outgoing) (fixed_same site (stepped_by g s) has))
 
-not_serves : (a b c : Bool) → b ≡ false → (a && (b && c)) ≡ false
-not_serves a b c e = grind arith
+not_serves : (was active going free : Bool) → (going && active) ≡ false
+    → ((was && active) && (going && free)) ≡ false
+not_serves was active going free e = grind arith
 
-served_none : (site : Site) (was : Bool) (g : Glimpse) (s : Standing)
-    → is_going s.course ≡ false → with_service site was g s ≡ s
+served_none : (site : Site) (was : Bool) (g : Glimpse) (s : Standing) → serves s ≡ false
+    → with_service site was g s ≡ s
 served_none site was g s e =
     if_false (may_serve was s) (fixed site (stepped_by g s)) s
-    (not_serves (was && is_active s.association) (is_going s.course)
-    (not (is_blocked s.arrival)) e)
+    (not_serves was (is_active s.association) (is_going s.course) (not (is_blocked s.arrival)) e)
 
 abbrev StaysIn : Standing → Standing → Type 0
 StaysIn s t = (t.outgoing ≡ s.outgoing) ⊎ (t.outgoing ≡ [])
@@ -197,17 +226,16 @@ behind site was g s t has (inl same) =
 behind site was g s t has (inr gone) =
     inr (ap (λ (x : Standing). x.outgoing) (served_none site was g t gone.1) ∙ gone.0)
 
-from_fate : (s t u : Standing) → t.outgoing ≡ s.outgoing → Fate t u → Fate s u
-from_fate s t u e (inl same) = inl (same ∙ e)
-from_fate s t u e (inr gone) = inr gone
-
 unasked_fate : (site : Site) (r : Replied) (s t : Standing) → Fate s t
     → Fate s (unasked site r t)
 unasked_fate site r s t (inl same) = inl (unasked_same site r t ∙ same)
 unasked_fate site r s t (inr gone) =
+    let kept = stays_unasked site r t in
     inr (
       unasked_same site r t ∙ gone.0,
-      ap is_going (stays_unasked site r t).course ∙ gone.1,
+      ap (λ (c : Course). is_going c && is_active (unasked site r t).association) kept.course
+          ∙ ap (λ (a : Association). is_going t.course && is_active a) kept.association
+          ∙ gone.1,
     )
 
 times_fate : (s t : Standing) → Fate s t → Fate s (timed t)

@@ -1,4 +1,5 @@
--- What a service's part of a step leaves of a session: whether it goes on, and what listen came to.
+-- What a service's part of a step leaves of a session: whether it goes on, what listen came to, and
+-- its association.
 use Rattle.std.proofs.Common.{◌≡◌, ℕ, Bool, true, false, not, ◌&&◌, ◌||◌, Option, Some, None}
 use Rattle.std.proofs.Common.{refl, sym, ap, ◌∙◌, if◌then◌else◌, arith}
 use Rattle.archive_terms.specs.Glimpse.{Glimpse}
@@ -24,9 +25,10 @@ pub record Stays (s t : Standing) : Type 0 where
   pub course : t.course ≡ s.course
   pub arrival : t.arrival ≡ s.arrival
   pub moment : t.moment ≡ s.moment
+  pub association : t.association ≡ s.association
 
 stays : (s : Standing) → Stays s s
-stays s = record { course = refl; arrival = refl; moment = refl }
+stays s = record { course = refl; arrival = refl; moment = refl; association = refl }
 
 pub stays_on : (s t u : Standing) → Stays s t → Stays t u → Stays s u
 stays_on s t u h k =
@@ -34,6 +36,7 @@ stays_on s t u h k =
       course = k.course ∙ h.course;
       arrival = k.arrival ∙ h.arrival;
       moment = k.moment ∙ h.moment;
+      association = k.association ∙ h.association;
     }
 
 stays_if : (b : Bool) (s t : Standing) → Stays s t → Stays s (if b then t else s)
@@ -47,20 +50,25 @@ stays_else false s t h = h
 pub stays_answered : (site : Site) (s : Standing) (k : Kind) (answer : Option Message)
     → Stays s (answered_with site s k answer)
 stays_answered site s k None = stays s
-stays_answered site s k (Some message) = record { course = refl; arrival = refl; moment = refl }
+stays_answered site s k (Some message) = record { course = refl; arrival = refl; moment = refl; association = refl }
 
 -- ---- what is told unasked
 
 stays_more : (site : Site) (s : Standing) (more : Option Message)
     → Stays s (told_more site s more)
 stays_more site s None = stays s
-stays_more site s (Some message) = record { course = refl; arrival = refl; moment = refl }
+stays_more site s (Some message) = record { course = refl; arrival = refl; moment = refl; association = refl }
 
 stays_reported : (site : Site) (s : Standing) (r : Reported) → Stays s (reported site s r)
 stays_reported site s r =
     let t : Standing = record s { service = r.served } in
     let more = stays_more site t r.report in
-    record { course = more.course; arrival = more.arrival; moment = more.moment }
+    record {
+      course = more.course;
+      arrival = more.arrival;
+      moment = more.moment;
+      association = more.association;
+    }
 
 stays_report : (site : Site) (s : Standing) (r : Replied) → Stays s (with_report site s r)
 stays_report site s r =
@@ -79,7 +87,7 @@ stays_beat : (s : Standing) → Stays s (with_heartbeat s)
 stays_beat s =
     let t : Standing = record s { block = spelling heartbeat } in
     stays_if (is_live s.course && not (has_block s) && is_due (pulse_of s) s.moment) s t
-    (record { course = refl; arrival = refl; moment = refl })
+    (record { course = refl; arrival = refl; moment = refl; association = refl })
 
 pub stays_unasked : (site : Site) (r : Replied) (s : Standing) → Stays s (unasked site r s)
 stays_unasked site r s =
@@ -94,19 +102,25 @@ stays_fixed : (site : Site) (s : Standing) → Stays s (fixed site s)
 stays_fixed site s =
     stays_else (has_outgoing s) s
     (with_fixed s (fixed_by s.service site (bound_peer site s) s.numbers s.moment))
-    (record { course = refl; arrival = refl; moment = refl })
+    (record { course = refl; arrival = refl; moment = refl; association = refl })
 
 pub stays_service : (site : Site) (was : Bool) (g : Glimpse) (s : Standing)
     → Stays s (with_service site was g s)
 stays_service site was g s =
     let step = stays_fixed site (stepped_by g s) in
-    stays_if (may_serve was s) s _ (record { course = step.course; arrival = step.arrival; moment = step.moment })
+    stays_if (may_serve was s) s _
+    (record {
+      course = step.course;
+      arrival = step.arrival;
+      moment = step.moment;
+      association = step.association;
+    })
 
 -- ---- a message that stalls
 
 pub stays_stalled : (s : Standing) (items : Option ℕ) → Stays s (after_stall s items)
-stays_stalled s None = record { course = refl; arrival = refl; moment = refl }
-stays_stalled s (Some items) = record { course = refl; arrival = refl; moment = refl }
+stays_stalled s None = record { course = refl; arrival = refl; moment = refl; association = refl }
+stays_stalled s (Some items) = record { course = refl; arrival = refl; moment = refl; association = refl }
 
 pub stalled_block : (s : Standing) (items : Option ℕ) → (after_stall s items).block ≡ s.block
 stalled_block s None = refl

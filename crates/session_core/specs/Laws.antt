@@ -123,7 +123,8 @@ pub record IsGoneOrKept (site : Site) (s : State) (r : Round) : Type 0 where
   pub unsent : r.sent ≡ None
       → (after_round site s r).standing.outgoing ≡ (before_speak site s r).standing.outgoing
 
--- One that is kept is offered again unchanged or not at all: it is dropped with the session's end.
+-- One that is kept is offered again unchanged or not at all: it is gone with a STOP, and with the
+-- session's end.
 abbrev pub StaysOrGoes : Site → State → Round → Type 0
 StaysOrGoes site s r =
     ((before_speak site s r).standing.outgoing ≡ s.standing.outgoing)

@@ -2,10 +2,12 @@ pub mod Numbers
 pub mod Course
 pub mod Inquiry
 pub mod Service
+pub mod Telling
+pub mod Returns
+pub mod RafServed
 pub mod Served
 pub mod Message
 pub mod Seen
-pub mod Returns
 pub mod ServiceSteps
 pub mod Handling
 pub mod Steps

@@ -6,7 +6,7 @@ use Rattle.std.specs.Prelude.{option_and_then, option_map, slice_get, if◌then�
 use Rattle.ber_core.specs.Spelling.{canonical}
 use Rattle.cds_time.specs.Moment.{octets_of, in_micros}
 use Rattle.ber_shape.specs.Element.{Element}
-use Rattle.isp1_tml.specs.Message.{pdu, spelling}
+use Rattle.isp1_tml.specs.Message.{Content, pdu, spelling}
 use Rattle.isp1_auth.specs.declared.secret.Secret.{Secret}
 use Rattle.isp1_auth.specs.Numbers.{next_number}
 use Rattle.isp1_auth.specs.Signed.{signed}
@@ -55,9 +55,12 @@ bound_peer site s = peer_at site.peers (bound_place s.association)
 
 -- ---- messages
 
--- a return as a message
+-- a return as a message, and its octets
+abbrev pub return_content : {X : Type 0} → Element X → X → Content
+return_content element content = pdu (canonical (element.tree content))
+
 abbrev pub return_message : {X : Type 0} → Element X → X → List ℕ
-return_message element content = spelling (pdu (canonical (element.tree content)))
+return_message element content = spelling (return_content element content)
 
 -- whether a block has room for a return, a report and a notice of them (this product's own)
 abbrev pub is_short : {X : Type 0} → Element X → Bool

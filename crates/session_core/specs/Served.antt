@@ -3,23 +3,30 @@
 -- or laws looks into one, and each method of `ServiceState` or of a session's that stands on one
 -- opens its own.
 --
--- No service is built yet, so there is one variant, which keeps nothing, wants nothing and has
--- nothing to tell.
+-- RAF is built (`specs/RafServed.antt`), but for its reports and parameters. Any other service keeps
+-- nothing, wants nothing and has nothing to tell.
 use Rattle.std.specs.Prelude.{ℕ, Option, None, List}
 use Rattle.octet_core.specs.declared.offer.Offer.{Offer}
 use Rattle.archive_terms.specs.Glimpse.{Want, wants_nothing, Glimpse}
 use Rattle.isp1_tml.specs.Message.{Content}
 use Rattle.station_config.specs.declared.peer.Peer.{Peer}
 use Rattle.station_config.specs.declared.service.Service.{Service}
+use Rattle.station_config.specs.declared.service.Service.TheVariants as service
 use Rattle.station_config.specs.declared.site.Site.{Site}
 use Rattle.assoc_core.specs.declared.outcome.Outcome.{Outcome}
 use Rattle.assoc_core.specs.declared.outcome.Outcome.TheVariants.{Kept}
 use Rattle.cltu_queue.specs.declared.ask.Ask.TheVariants as ask
 use Rattle.cltu_queue.specs.declared.notice.Notice.{Notice}
+use Rattle.return_core.specs.Course.{want_of_course}
+use Rattle.return_core.specs.Mode.{answer_of}
+use Rattle.raf_service.specs.Raf.{raf_answer, concluded, raf_stepped, raf_answered}
 use Rattle.session_core.specs.declared.service_state.ServiceState.{ServiceState}
-use Rattle.session_core.specs.declared.service_state.ServiceState.TheVariants.{Nothing}
+use Rattle.session_core.specs.declared.service_state.ServiceState.TheVariants.{Nothing, Raf}
 use Rattle.session_core.specs.Inquiry.{Inquiry, only_asks, Replied}
-use Rattle.session_core.specs.Service.{Invocation}
+use Rattle.session_core.specs.Service.{Invocation, invoke_of}
+use Rattle.session_core.specs.RafServed.{raf_made, raf_asked, raf_prepared, outcome_of, returned}
+use Rattle.session_core.specs.RafServed.{raf_fixed, raf_dropped}
+pub use Rattle.session_core.specs.Telling.{Message, Fixed}
 
 abbrev pub Served : Type 0
 Served = ServiceState
@@ -28,21 +35,20 @@ Served = ServiceState
 abbrev pub unserved : Served
 unserved = Nothing
 
--- a message of this provider's, by its credentials
-abbrev pub Message : Type 0
-Message = Option (List ℕ) → Content
-
--- made for a BIND, before the book is asked
-unfoldable pub served_at : Service → Served
-served_at service = Nothing
+-- made for a BIND, before the book is asked, with the instance's return timeout
+unfoldable pub served_at : Service → ℕ → Served
+served_at (service.Raf mode size latency) timeout = Raf (raf_made mode size latency timeout)
+served_at _ timeout = Nothing
 
 -- what a round with an invocation that passes asks of the book and wants of a look
 unfoldable pub prepared : Served → Invocation → Inquiry
 prepared Nothing i = only_asks ask.Nothing
+prepared (Raf r) i = raf_prepared i r
 
 -- what a round without one wants of a look
 unfoldable pub want_served : Served → Want
 want_served Nothing = wants_nothing
+want_served (Raf r) = want_of_course r.serving.course
 
 -- what an invocation that passed led to, by the book's reply and the look at a moment: what the
 -- service keeps then, what that makes of the association, and what is answered
@@ -53,37 +59,44 @@ pub record Concluded : Type 0 where
 
 unfoldable pub concluded_by : Served → Invocation → Replied → ℕ → Concluded
 concluded_by Nothing i r now = record { served = Nothing; outcome = Kept; answer = None }
+concluded_by (Raf raf) i r now =
+    let answer = raf_answer (raf_asked i) r.glimpse raf in
+    record {
+      served = Raf (concluded (raf_asked i) r.glimpse now raf);
+      outcome = outcome_of answer;
+      answer = returned answer (invoke_of i);
+    }
 
--- the status report that is due in a round, if one is, and what the service keeps behind it
+-- the status report that is due in a round, if one is, and what the service keeps behind it; no
+-- service has any yet
 pub record Reported : Type 0 where
   pub served : Served
   pub report : Option Message
 
 unfoldable pub reported_by : Served → Replied → ℕ → Reported
-reported_by Nothing r now = record { served = Nothing; report = None }
+reported_by served r now = record { served = served; report = None }
 
--- how a notice of the book is told
+-- how a notice of the book is told; no service tells any yet
 unfoldable pub told_by_service : Served → Notice → Option Message
-told_by_service Nothing notice = None
+told_by_service served notice = None
 
 -- the step of a round, with the look that it wanted, at a moment
 unfoldable pub served_step : Glimpse → ℕ → Served → Served
 served_step g now Nothing = Nothing
+served_step g now (Raf r) = Raf (raf_stepped g now r)
 
--- the message that is to be offered behind the block, if one is; with the session's latest number
--- behind those that its credentials took
-pub record Fixed : Type 0 where
-  pub message : Option Content
-  pub numbers : ℕ
-
--- of what the service holds then, to a peer, with the session's latest number, at a moment
+-- what is to be offered of what the service holds then, to a peer, with the session's latest number,
+-- at a moment
 unfoldable pub fixed_by : Served → Site → Option Peer → ℕ → ℕ → Fixed
 fixed_by Nothing site peer numbers now = record { message = None; numbers = numbers }
+fixed_by (Raf r) site peer numbers now = raf_fixed r site peer numbers now
 
 -- how many items are dropped where that message stalls; none where it is kept, to be offered again
 unfoldable pub dropped_by : Served → Option ℕ
 dropped_by Nothing = None
+dropped_by (Raf r) = raf_dropped r
 
 -- the link's answer to that message
 unfoldable pub served_settled : Offer → Served → Served
 served_settled answer Nothing = Nothing
+served_settled answer (Raf r) = Raf (raf_answered (answer_of answer) r)

@@ -12,6 +12,7 @@ use Rattle.station_config.specs.declared.site.Site.{Site}
 use Rattle.assoc_core.specs.Kind as kind
 use Rattle.assoc_core.specs.Kind.{Kind}
 use Rattle.assoc_core.specs.State.{moved}
+use Rattle.assoc_core.specs.declared.outcome.Outcome.{Outcome}
 use Rattle.assoc_core.specs.declared.state.State.{State}
 use Rattle.assoc_core.specs.declared.state.State.TheVariants.{Active}
 use Rattle.cltu_queue.specs.declared.book_reply.BookReply.{BookReply}
@@ -32,8 +33,8 @@ use Rattle.session_core.specs.Returns.{own_credentials, number_after, bound_peer
 -- what is made for a BIND that was judged so: the service of the instance that it asks for
 abbrev pub service_made : Site → Result ℕ BindDiagnostic → Served
 service_made site (Ok place) =
-    option_map_or (λ instance. served_at instance.service) (slice_get site.instances place)
-    unserved
+    option_map_or (λ instance. served_at instance.service instance.timeout)
+    (slice_get site.instances place) unserved
 service_made site (Err why) = unserved
 
 -- it is kept where the book says that the instance is bound
@@ -48,12 +49,21 @@ answered_with site s k None = s
 answered_with site s k (Some message) =
     with_return site s k (λ credentials. spelling (message credentials))
 
+abbrev pub is_active : State → Bool
+is_active (Active _) = true
+is_active _ = false
+
+-- the association goes on by an outcome; a service that isn't started any more offers nothing
+abbrev pub led_to : Outcome → Standing → Standing
+led_to outcome s =
+    record s {
+      association = moved s.association outcome;
+      outgoing = if is_active (moved s.association outcome) then s.outgoing else [];
+    }
+
 abbrev pub with_conclusion : Site → Standing → Kind → Concluded → Standing
 with_conclusion site s k c =
-    record (answered_with site s k c.answer) {
-      association = moved s.association c.outcome;
-      service = c.served;
-    }
+    record (led_to c.outcome (answered_with site s k c.answer)) { service = c.served }
 
 -- an invocation that passed leads to this, where the book replies so
 abbrev pub with_invocation : Site → Standing → Invocation → Replied → Standing
@@ -107,10 +117,6 @@ abbrev pub with_notice : Site → Standing → Option Notice → Standing
 with_notice site s notice = if may_tell s then noticed site s notice else s
 
 -- ---- the service's own step
-
-abbrev pub is_active : State → Bool
-is_active (Active _) = true
-is_active _ = false
 
 -- whether the service takes its step, where the session was active before the message or not: where
 -- it still is

@@ -75,13 +75,14 @@ pub(crate) fn service_made(
     site: &Site,
     instance: Result<u32, BindDiagnostic>,
 ) -> Result<ServiceState, Memory>
+    requires { IsSite site.now }
     ensures { IfOk result (λ made. made ≡ service_made site.now instance) }
 {
     let Ok(place) = instance else {
         return Ok(ServiceState::Nothing);
     };
     match site.instances.as_slice().get(place as usize) {
-        Some(instance) => ServiceState::new(alloc, &instance.service),
+        Some(instance) => ServiceState::new(alloc, &instance.service, instance.timeout),
         None => Ok(ServiceState::Nothing),
     }
 }
@@ -102,7 +103,7 @@ fn is_agreed(site: &Site, interval: u16, factor: u16) -> bool
 }
 
 // The peer at a place, if there is one.
-fn peer_at(site: &Site, place: Option<u32>) -> Option<&Peer>
+pub(crate) fn peer_at(site: &Site, place: Option<u32>) -> Option<&Peer>
     ensures { option_copied result ≡ peer_at site.now.peers place }
 {
     site.peers.as_slice().get(place? as usize)
@@ -146,7 +147,7 @@ impl Standing {
     }
 
     // The place of the peer that is bound.
-    fn bound_place(&self) -> Option<u32>
+    pub(crate) fn bound_place(&self) -> Option<u32>
         ensures { result ≡ bound_place self.now.association }
     {
         Some(self.association.state().binding()?.peer)

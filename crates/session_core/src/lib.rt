@@ -24,6 +24,7 @@ mod inquiry;
 pub mod laws;
 mod listening;
 mod outgoing;
+mod raf_served;
 mod replied;
 mod returns;
 mod run;

@@ -2,6 +2,7 @@
 ghost use Rattle.std.specs.Prelude.{◌≡◌, ◌==◌, [], length, IfOk};
 
 use ber_core::Writer;
+use buffer_message::BufferMessage;
 use octet_core::Memory;
 use std::alloc::{AllocError, Global};
 use std::marker::Model;
@@ -46,6 +47,15 @@ impl Outgoing {
         ensures { result.now ≡ self.now }
     {
         self.writer.octets()
+    }
+
+    // A message alone.
+    pub(crate) fn put(&mut self, message: &BufferMessage<'_>)
+        ensures { self.new ≡ message.now }
+    {
+        let _short = message.length();
+        self.writer.clear();
+        message.put(&mut self.writer);
     }
 
     /// Removes all octets.

@@ -2,19 +2,24 @@
 //
 // This is where the services meet a session. Each call that a session makes of one is a function
 // here, exact by a function of `specs/Served.antt`, with an arm for each service that is built; those
-// that need the session's site and numbers stand in `service_steps.rt`. None is built yet.
-ghost use Rattle.std.specs.Prelude.{◌≡◌, IfOk};
+// that need the session's site and numbers stand in `service_steps.rt`. RAF is built
+// (`raf_served.rt`).
+ghost use Rattle.std.specs.Prelude.{◌≡◌, IfOk, IsTrue};
 ghost use Rattle.frame_select.specs.Want.{want_of};
 ghost use Rattle.frame_select.specs.Glimpse.{glimpse_of};
+ghost use Rattle.return_core.specs.Item.{are_of_archive};
+ghost use Rattle.station_config.specs.Validity.{IsService};
 ghost use Rattle.session_core.specs.Inquiry.{inquiry_of};
 ghost use Rattle.session_core.specs.Service.{invocation_of};
 ghost use Rattle.session_core.specs.Served.{served_at, prepared, want_served, served_step};
 ghost use Rattle.session_core.specs.Served.{dropped_by, served_settled};
 
 use crate::inquiry::Inquiry;
+use crate::raf_served::{asked, raf_made};
 use crate::service::Invocation;
 use frame_select::{Glimpse, Want};
 use octet_core::{Memory, Offer};
+use raf_service::{Raf, RafInvocation};
 use station_book::Ask;
 use station_config::Service;
 use std::alloc::Global;
@@ -24,19 +29,32 @@ use std::alloc::Global;
 pub enum ServiceState {
     /// Nothing: none is bound, or one that isn't built.
     Nothing,
+    /// An instance of return all frames.
+    Raf(Raf),
 }
 
 impl ServiceState {
     // That of a service, made for a BIND before the book is asked, with all the memory that it will
-    // ever have.
+    // ever have; and with the instance's return timeout in seconds.
     #[tactic(auto, unfolding(crate::specs::Served::served_at))]
-    pub(crate) fn new(alloc: Global, service: &Service) -> Result<ServiceState, Memory>
-        ensures { IfOk result (λ served. served ≡ served_at service.now) }
+    pub(crate) fn new(
+        alloc: Global,
+        service: &Service,
+        timeout: u16,
+    ) -> Result<ServiceState, Memory>
+        requires { IsService service.now }
+        ensures { IfOk result (λ served. served ≡ served_at service.now timeout) }
     {
         match service {
-            Service::Raf { .. } | Service::Rcf { .. } | Service::Cltu { .. } => {
-                Ok(ServiceState::Nothing)
+            Service::Raf {
+                mode,
+                size,
+                latency,
+            } => {
+                let raf = raf_made(alloc, *mode, *size, *latency, timeout)?;
+                Ok(ServiceState::Raf(raf))
             }
+            Service::Rcf { .. } | Service::Cltu { .. } => Ok(ServiceState::Nothing),
         }
     }
 
@@ -49,6 +67,10 @@ impl ServiceState {
     {
         match self {
             ServiceState::Nothing => Ok(Inquiry::of(Ask::Nothing)),
+            ServiceState::Raf(raf) => Ok(Inquiry {
+                ask: Ask::Nothing,
+                want: raf.prepare(&asked(invocation)),
+            }),
         }
     }
 
@@ -59,16 +81,21 @@ impl ServiceState {
     {
         match self {
             ServiceState::Nothing => Want::Nothing,
+            ServiceState::Raf(raf) => raf.prepare(&RafInvocation::Nothing),
         }
     }
 
     // The step of a round, with the look that it wanted, at a moment.
     #[tactic(auto, unfolding(crate::specs::Served::served_step))]
     pub(crate) fn step(&mut self, glimpse: Glimpse, now: u128)
+        requires { IsTrue (are_of_archive glimpse.items) }
         ensures { self.new ≡ served_step (glimpse_of glimpse) now self.old }
     {
         match self {
             ServiceState::Nothing => {}
+            ServiceState::Raf(raf) => {
+                let _is_offering = raf.step(glimpse, now);
+            }
         }
     }
 
@@ -80,6 +107,7 @@ impl ServiceState {
     {
         match self {
             ServiceState::Nothing => None,
+            ServiceState::Raf(raf) => raf.discards(Offer::Stalled),
         }
     }
 
@@ -90,6 +118,7 @@ impl ServiceState {
     {
         match self {
             ServiceState::Nothing => {}
+            ServiceState::Raf(raf) => raf.settle(answer),
         }
     }
 }

@@ -4,31 +4,37 @@
 // invocation, the status report that is due, how a notice is told, and its message behind the block.
 // Its returns are signed by `Standing::sign_bound`, become the block by `Block::put`, and are added
 // to it by `Block::add`.
-ghost use Rattle.std.specs.Prelude.{◌≡◌, ◌<◌, None};
+ghost use Rattle.std.specs.Prelude.{◌≡◌, ◌<◌, None, IsTrue, option_copied};
 ghost use Rattle.cds_time.specs.declared.cds.TheConstants.{MOMENT_END};
 ghost use Rattle.frame_select.specs.Want.{want_of};
 ghost use Rattle.frame_select.specs.Glimpse.{glimpse_of};
+ghost use Rattle.return_core.specs.Item.{are_of_archive};
 ghost use Rattle.session_core.specs.Inquiry.{inquiry_of, replied_of};
 ghost use Rattle.session_core.specs.Service.{invocation_of};
-ghost use Rattle.session_core.specs.ServiceSteps.{with_invocation, may_tell};
+ghost use Rattle.session_core.specs.ServiceSteps.{with_invocation, led_to, may_tell};
 ghost use Rattle.session_core.specs.ServiceSteps.{with_report, reported, noticed, with_notice};
 ghost use Rattle.session_core.specs.ServiceSteps.{is_active, may_serve, has_outgoing, with_fixed};
-ghost use Rattle.session_core.specs.ServiceSteps.{fixed, with_service, after_stall, after_send};
+ghost use Rattle.session_core.specs.ServiceSteps.{fixed, with_service, spelled, after_stall};
+ghost use Rattle.session_core.specs.ServiceSteps.{after_send};
 ghost use Rattle.session_core.specs.Served.{reported_by, fixed_by, dropped_by};
 ghost use Rattle.session_core.specs.Returns.{bound_peer};
 ghost use Rattle.session_core.specs.Steps.{running_want, with_want, may_send, unasked};
 
 use crate::course::Course;
+use crate::handling::peer_at;
 use crate::inquiry::Inquiry;
+use crate::outgoing::Outgoing;
+use crate::raf_served::{asked, put_buffer, signer_to};
 use crate::replied::Replied;
 use crate::service::Invocation;
 use crate::service_state::ServiceState;
 use crate::standing::Standing;
-use assoc_core::State;
+use assoc_core::{Outcome, State};
 use cltu_queue::Notice;
 use frame_select::{Glimpse, Want};
+use isp1_auth::RandomNumbers;
 use octet_core::Offer;
-use station_config::Site;
+use station_config::{Peer, Site};
 
 // What it wants, and what it answers.
 impl Standing {
@@ -69,8 +75,22 @@ impl Standing {
         ensures { self.new ≡ with_invocation site.now self.old (invocation_of invocation.now)
             (replied_of answer.now) }
     {
-        match self.service {
-            ServiceState::Nothing => {}
+        match &mut self.service {
+            ServiceState::Nothing => self.lead_to(Outcome::Kept),
+            ServiceState::Raf(raf) => {
+                let told = raf.conclude(&asked(invocation), &answer.glimpse, self.moment);
+                self.put_answer(site, invocation, told);
+            }
+        }
+    }
+
+    // The association goes on by an outcome; a service that isn't started any more offers nothing.
+    pub(crate) fn lead_to(&mut self, outcome: Outcome)
+        ensures { self.new ≡ led_to outcome self.old }
+    {
+        self.association.moved(outcome);
+        if !self.is_active() {
+            self.outgoing.clear();
         }
     }
 }
@@ -92,7 +112,7 @@ impl Standing {
             (reported_by self.old.service (replied_of answer.now) self.old.moment) }
     {
         match self.service {
-            ServiceState::Nothing => {}
+            ServiceState::Nothing | ServiceState::Raf(_) => {}
         }
     }
 
@@ -103,7 +123,7 @@ impl Standing {
         ensures { self.new ≡ noticed site.now self.old notice }
     {
         match self.service {
-            ServiceState::Nothing => {}
+            ServiceState::Nothing | ServiceState::Raf(_) => {}
         }
     }
 
@@ -160,15 +180,20 @@ impl Standing {
     }
 
     // Makes the message of what the service holds, where it is due.
-    #[tactic(auto, unfolding(crate::specs::Served::fixed_by))]
     fn make_message(&mut self, site: &Site)
         requires { self.old.moment < MOMENT_END }
         ensures { self.new ≡ with_fixed self.old (fixed_by self.old.service site.now
             (bound_peer site.now self.old) self.old.numbers self.old.moment) }
     {
-        match self.service {
-            ServiceState::Nothing => self.outgoing.clear(),
-        }
+        let peer = peer_at(site, self.bound_place());
+        put_message(
+            &mut self.outgoing,
+            &mut self.numbers,
+            &self.service,
+            site,
+            peer,
+            self.moment,
+        );
     }
 
     // The same, unless one is kept.
@@ -183,7 +208,8 @@ impl Standing {
 
     // The service takes its step, and its message is to be offered, if one is due.
     pub(crate) fn serve(&mut self, site: &Site, was: bool, glimpse: Glimpse)
-        requires { self.old.moment < MOMENT_END }
+        requires moment { self.old.moment < MOMENT_END }
+        requires look { IsTrue (are_of_archive glimpse.items) }
         ensures { self.new ≡ with_service site.now was (glimpse_of glimpse) self.old }
     {
         if self.may_serve(was) {
@@ -235,6 +261,30 @@ impl Standing {
                 self.service.settle(answer);
             }
             Offer::Failed => self.course = Course::LinkFailing,
+        }
+    }
+}
+
+// Makes the message of what a service holds for a peer at a moment, where it is due.
+#[tactic(auto, unfolding(crate::specs::Served::fixed_by))]
+fn put_message(
+    outgoing: &mut Outgoing,
+    numbers: &mut RandomNumbers,
+    service: &ServiceState,
+    site: &Site,
+    peer: Option<&Peer>,
+    now: u128,
+)
+    requires { now < MOMENT_END }
+    ensures outgoing { outgoing.new ≡ spelled (fixed_by service.now site.now
+        (option_copied peer.entry) numbers.old now).message }
+    ensures numbers { numbers.new ≡ (fixed_by service.now site.now (option_copied peer.entry)
+        numbers.old now).numbers }
+{
+    match service {
+        ServiceState::Nothing => outgoing.clear(),
+        ServiceState::Raf(raf) => {
+            put_buffer(outgoing, numbers, raf, signer_to(site, peer, now));
         }
     }
 }

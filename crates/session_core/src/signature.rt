@@ -30,7 +30,7 @@ impl Model for Signature {
 }
 
 // What this provider's credentials to a peer are made of.
-fn own_secret<'a>(site: &'a Site, peer: &Peer) -> Secret<'a>
+pub(crate) fn own_secret<'a>(site: &'a Site, peer: &Peer) -> Secret<'a>
     ensures { IsOwnSecret site.now peer.now result }
 {
     let hash = if peer.sha256 {

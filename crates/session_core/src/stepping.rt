@@ -3,6 +3,7 @@ ghost use Rattle.std.specs.Prelude.{◌≡◌, ◌<◌, IfOk, OnOk, OnErr, Some,
 ghost use Rattle.cds_time.specs.declared.cds.TheConstants.{MOMENT_END};
 ghost use Rattle.isp1_tml.specs.Feeding.{next_of as next_held, after_next as after_given};
 ghost use Rattle.isp1_tml.specs.Given.{content_of};
+ghost use Rattle.return_core.specs.Item.{are_of_archive};
 ghost use Rattle.station_config.specs.Validity.{IsSite};
 ghost use Rattle.station_book.specs.History.{after, moment_at, replay};
 ghost use Rattle.session_core.specs.Inquiry.{call_of, answer_of, reply_in, inquiry_of, replied_of};
@@ -24,6 +25,7 @@ use crate::standing::Standing;
 use crate::user_message::UserMessage;
 use isp1_tml::{Feeder, Message, laws};
 use octet_core::Memory;
+use return_core::laws::looks_are_of_archive;
 use station_book::{Ask, Book};
 use station_config::Site;
 use std::alloc::Global;
@@ -36,8 +38,10 @@ fn ask_book(book: &mut Book, door: u32, reading: u128, inquiry: &Inquiry) -> Res
     ensures reply { IfOk result (λ told. replied_of told
         ≡ reply_in (answer_of book.old door (moment_at book.old reading)
         (inquiry_of inquiry.now))) }
+    ensures look { IfOk result (λ told. IsTrue (are_of_archive told.glimpse.items)) }
     ensures err { OnErr result (book.new ≡ book.old) }
 {
+    looks_are_of_archive();
     let (reply, glimpse, notice) = book.answer(door, reading, &inquiry.ask, &inquiry.want)?;
     Ok(Replied {
         reply,
@@ -73,6 +77,7 @@ fn handle(
         standing.old.moment)
         (with_message asking.entry.site.now standing.old (content_of message.entry))
         (replied_of told)) }
+    ensures look { IfOk result (λ told. IsTrue (are_of_archive told.glimpse.items)) }
     ensures err { OnErr result (book.new ≡ book.old) }
 {
     let Asking {
@@ -121,6 +126,7 @@ fn take_message(
         (next_ask asking.entry.site.now standing.old (next_held feeder.old) standing.old.moment)
         (with_next asking.entry.site.now standing.old (next_held feeder.old))
         (replied_of told)) }
+    ensures look { IfOk result (λ told. IsTrue (are_of_archive told.glimpse.items)) }
     ensures err { OnErr result (book.new ≡ book.old) }
 {
     match feeder.next_message() {
@@ -157,6 +163,7 @@ fn act(
         (inquiry_entered asking.entry.site.now standing.old (next_held feeder.old))
         (acted asking.entry.site.now standing.old (next_held feeder.old))
         (replied_of told)) }
+    ensures look { IfOk result (λ told. IsTrue (are_of_archive told.glimpse.items)) }
     ensures err { OnErr result (book.new ≡ book.old) }
 {
     if standing.is_idle() {

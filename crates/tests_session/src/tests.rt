@@ -12,6 +12,7 @@ use std::process::Abort;
 use step::step_of;
 
 mod named;
+mod raf;
 mod rows;
 mod signed;
 mod station;
@@ -86,7 +87,7 @@ rcf sagr=1.spack=P.rsl-fg=1.rcf=onlc1 MOC complete 1 5 60 1/1/63\n\
 cltu sagr=1.spack=P.fsl-fg=1.cltu=cltu1 MOC 1000 100 60\n";
 
 // A site and a script.
-const SCRIPTS: [(&[u8], &str); 15] = [
+const SCRIPTS: [(&[u8], &str); 22] = [
     (SITE, rows::REFUSED),
     (SITE, rows::OUT_OF_PLACE),
     (SITE, rows::MALFORMED),
@@ -100,6 +101,13 @@ const SCRIPTS: [(&[u8], &str); 15] = [
     (SITE, rows::LOST),
     (SITE, rows::FAILING),
     (SITE, rows::LONGEST),
+    (SITE, raf::STARTED),
+    (SITE, raf::KEPT),
+    (SITE, raf::DROPPED),
+    (SITE, raf::OFFLINE),
+    (SITE, raf::TWO),
+    (SITE, raf::FAILED),
+    (raf::SITE_SIGNED, raf::SIGNED),
     (signed::SITE_SHA1, signed::SHA1),
     (signed::SITE_SHA256, signed::SHA256),
 ];

@@ -122,7 +122,7 @@ new
 open 1
 in 1 CONTEXT=heard 20
 in 1 MOC-0-5-RC=heard 101 sent OK-5
-in 1 STOP=heard 15 Aborted { diagnostic: EncodingError }
+in 1 STOP=heard 15 Aborted { diagnostic: ProtocolError }
 new
 open 1
 in 1 CONTEXT=heard 20

@@ -5,12 +5,14 @@ ghost use Rattle.station_config.specs.Validity.{IsSite};
 
 use super::step::{Step, What, number, octets_of};
 use super::telling::{calls_told, dropped_told, spoken_told};
+use cds_time::{Cds, Rest};
 use fcltu_numbers::{CltuProductionStatus, UplinkStatus};
 use frame_select::Want;
 use link_model::MemoryLink;
-use octet_core::Memory;
-use record_form::Entries;
+use octet_core::{Memory, Octets};
+use record_form::{Entries, Entry};
 use session_core::Session;
+use sle_numbers::FrameQuality;
 use station_book::{Ask, Book};
 use station_config::Site;
 use std::alloc::{AllocError, Global};
@@ -193,6 +195,27 @@ impl Station {
             .uplink(production, UplinkStatus::UplinkStatusNotAvailable, 0);
     }
 
+    // Publishes a frame of 20,000 days and so many milliseconds, received whole at the antenna A.
+    fn publish(&mut self, step: &Step<'_>) -> Result<(), AllocError> {
+        let frame = Entry::Frame {
+            ert: Cds {
+                days: 20_000,
+                millis: step.door,
+                rest: Rest::Micros(0),
+            },
+            quality: FrameQuality::Good,
+            antenna: Octets::copy_of(self.alloc, b"A")?,
+            lost: 0,
+            octets: octets_of(self.alloc, step.rest)?,
+        };
+        let mut entries = Entries::new(self.alloc);
+        entries.push(frame)?;
+        match self.book.publish(entries) {
+            Ok(()) => Ok(()),
+            Err(_) => Err(AllocError),
+        }
+    }
+
     // Does a step, and tells what it led to.
     pub fn play(
         &mut self,
@@ -207,6 +230,7 @@ impl Station {
             What::Open => self.open(step)?,
             What::Quit => self.book.quit(step.door),
             What::Uplink => self.uplink(step),
+            What::Frame => self.publish(step)?,
             What::Moment => write!(told, "{} ", self.book.peek(0) / 1_000_000)?,
             What::Bind | What::Start | What::Told => self.ask(step, told)?,
             _ => self.play_door(site, step, told)?,

@@ -32,6 +32,8 @@ pub enum What {
     Quit,
     // Production has this status.
     Uplink,
+    // A frame is published, with this time in milliseconds and these octets.
+    Frame,
     // The book's latest moment is told.
     Moment,
 }
@@ -45,7 +47,7 @@ pub struct Step<'a> {
 }
 
 // Each step by its word.
-const WORDS: [(&str, What); 17] = [
+const WORDS: [(&str, What); 18] = [
     ("clock", What::Clock),
     ("open", What::Open),
     ("piece", What::Piece),
@@ -62,6 +64,7 @@ const WORDS: [(&str, What); 17] = [
     ("told", What::Told),
     ("quit", What::Quit),
     ("uplink", What::Uplink),
+    ("frame", What::Frame),
     ("moment", What::Moment),
 ];
 

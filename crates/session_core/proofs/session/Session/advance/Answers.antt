@@ -26,8 +26,8 @@ put_unasked-requires c =
     c.in_ok-told.ensures.acts.standing c.look_at_timer.ensures
     c.peek.ensures.below
 
-pub serve-requires : goal.serve-requires
-serve-requires c =
+pub serve-requires-clause-moment : goal.serve-requires-clause-moment
+serve-requires-clause-moment c =
     moment_at_serve c.args.site.now c.args.self.now _ _ c.self.inside.standing c.enter.new.self
     c.args.book.now c.args.reading c.peek.result c.self.view_is c.peek.ensures.exact
     c.enter.ensures c.act.new.standing c.look_at_timer.new.self c.put_unasked.new.self
