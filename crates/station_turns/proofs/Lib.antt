@@ -1,0 +1,4 @@
+mod Gaining
+mod Making
+mod Replayed
+mod Readings
