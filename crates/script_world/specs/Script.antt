@@ -1,0 +1,91 @@
+-- A script as a list of events of a station's world, and the headline of it. This product's own.
+use Rattle.std.specs.Prelude.{ℕ, Option, List, [], ◌∷◌, ◌++◌, take}
+use Rattle.station_book.specs.Origin.{opening_of}
+use Rattle.station_book.specs.State.{Opening}
+use Rattle.station_config.specs.declared.site.Site.{Site}
+use Rattle.drill_text.specs.declared.script_line.ScriptLine.{ScriptLine}
+use Rattle.gate_journal.specs.JournalState.{IsOldOrNew}
+use Rattle.station_world.specs.World.{World, before_all, lives, Event, after_events}
+use Rattle.station_world.specs.Comes.{AllCome}
+use Rattle.station_world.specs.Headline.{Headline}
+use Rattle.station_world.specs.Stays.{Match, LifeGoesOn}
+use Rattle.station_world.specs.Archives.{StandsForOne}
+use Rattle.line_events.specs.Shows.{Told, View, Shows}
+use Rattle.line_events.specs.Forms.{first_events}
+use Rattle.station_law.specs.State.{State, start}
+use Rattle.station_law.specs.Said.{Handed}
+use Rattle.station_law.specs.Answer.{Answer}
+use Rattle.station_law.specs.Lines.{step, step_read}
+use Rattle.station_law.specs.Runs.{after, handed_after}
+use Rattle.script_world.specs.Events.{events_of, events_read}
+
+-- the origin of a site's book in a script
+abbrev pub origin : Site → Opening
+origin site = opening_of site [] 0
+
+-- what each START of a script has handed over, the first one first
+abbrev pub told_since : List Handed → List Told
+told_since [] = []
+told_since (last ∷ earlier) = told_since earlier
+    ++ record { door = last.connection; terms = last.terms; buffers = last.buffers } ∷ []
+
+-- what a world shows in which a script stands in this state, and its STARTs have handed this over
+abbrev pub view_of : State → List Handed → View
+view_of state starts = record {
+  published = state.store.published;
+  book = state.doors.book;
+  clock = state.clock;
+  told = told_since starts;
+}
+
+module _ {L : Type 0} (reads : L → Option ScriptLine) where
+  -- what a line answers
+  abbrev pub answers : State → L → Answer State
+  answers state line = step_read state (reads line)
+
+  -- the events of lines, one behind the other
+  abbrev pub events_from : Opening → State → World → List L → List Event
+  events_from o state w [] = []
+  events_from o state w (line ∷ lines) =
+      let events = events_read state w (reads line) in
+      events ++ events_from o (answers state line).next (after_events o w events) lines
+
+  -- those of a script: the archive is made and opened, and then its lines
+  abbrev pub script_events : Site → List L → List Event
+  script_events site lines = first_events
+      ++ events_from (origin site) (start site) (after_events (origin site) before_all first_events)
+      lines
+
+  -- the world behind them
+  abbrev pub world_behind : Site → List L → World
+  world_behind site lines = after_events (origin site) before_all (script_events site lines)
+
+  -- Some lines of a script, and further ones: their events may come; the state behind the lines is
+  -- that of the world behind them, as is what each START has handed over; that world has the
+  -- headline against the one behind the further lines; and what was done in it stays.
+  pub record IsInWorld (site : Site) (lines more : List L) : Type 0 where
+    pub come : AllCome (origin site) before_all (script_events site (lines ++ more))
+    pub shows : Shows (view_of (after answers (start site) lines)
+        (handed_after answers (start site) [] lines)) (world_behind site lines)
+    pub headline : Headline (world_behind site lines) (world_behind site (lines ++ more))
+    pub stays : Match LifeGoesOn (lives (world_behind site lines))
+        (lives (world_behind site (lines ++ more)))
+
+-- so is every script, and each front of it
+abbrev pub AreInWorld : {L : Type 0} → (L → Option ScriptLine) → Type 0
+AreInWorld {L} reads = (site : Site) (lines more : List L) → IsInWorld reads site lines more
+
+-- an image stands for one of the lists of the file behind the first few of some events
+pub record StandsBehind (o : Opening) (w : World) (events : List Event) (image : List ℕ) : Type 0
+  where
+    pub count : ℕ
+    pub stands : StandsForOne (after_events o w (take count events)).file image
+
+-- An image that stands for what is published before a line, or for that and what the line gives to
+-- stores, stands for one of the lists of the world's file behind some of the line's events.
+abbrev pub ImagesAreOfTheFile : Type 0
+ImagesAreOfTheFile =
+    (o : Opening) (state : State) (starts : List Handed) (w : World) (line : ScriptLine)
+    (image : List ℕ) → Shows (view_of state starts) w
+    → IsOldOrNew state.store.published (step state line).given image
+    → StandsBehind o w (events_of state w line) image
