@@ -1,0 +1,43 @@
+// A port that is taken, and a second connection.
+use crate::loopback::{answers, open};
+use recorder::{Feed, FrameSource};
+use std::io;
+use std::io::{Read, Write};
+use std::net::TcpStream;
+use std::test::Fail;
+use std::time::Duration;
+
+#[test]
+fn a_port_that_is_taken_is_a_fault_of_each_call(rt: HostRuntime) -> Result<(), Fail> {
+    let first = open(&rt, rt.alloc(), "127.0.0.1:0".parse()?)?;
+    let mut second = open(&rt, rt.alloc(), first.address())?;
+    let words = answers(&rt, rt.alloc(), &mut second, (b"mark 1/2/3\n", b""))?;
+    let reports = second.reports();
+    assert!(rt; words.as_str() == "failed failed " && second.faults() == 2);
+    assert!(rt; reports.ends_with(b": line 1: address in use\n"));
+    Ok(())
+}
+
+// How many octets a peer reads until its connection is closed.
+fn left(peer: &mut TcpStream) -> io::Result<usize> {
+    peer.set_read_timeout(Some(Duration::from_secs(1)))?;
+    peer.read(&mut [0; 1])
+}
+
+fn is_early<F: FrameSource>(feed: &mut F) -> bool {
+    matches!(feed.next(), Feed::NotYet)
+}
+
+#[test]
+fn a_second_connection_is_closed(rt: HostRuntime) -> Result<(), Fail> {
+    let mut feed = open(&rt, rt.alloc(), "127.0.0.1:0".parse()?)?;
+    assert!(rt; is_early(&mut feed));
+    let mut first = TcpStream::connect(&rt, feed.address())?;
+    assert!(rt; is_early(&mut feed));
+    let mut second = TcpStream::connect(&rt, feed.address())?;
+    assert!(rt; is_early(&mut feed));
+    assert!(rt; left(&mut second)? == 0);
+    first.write_all(b"mark 1/2/3\n")?;
+    assert!(rt; matches!(feed.next(), Feed::Entry(_)));
+    Ok(())
+}
