@@ -1,13 +1,19 @@
 -- What a script's peer asks fits, and is few octets.
-use Rattle.std.proofs.Common.{◌≡◌, ℕ, ◌≤◌, Bool, true, ◌&&◌, nat_le, List, [], ◌∷◌, length, refl}
-use Rattle.std.proofs.Common.{ap, ◌∙◌, arith}
+use Rattle.std.proofs.Common.{◌≡◌, ℕ, ◌+◌, ◌≤◌, Bool, true, ◌&&◌, nat_le, List, [], ◌∷◌, length}
+use Rattle.std.proofs.Common.{Option, Some, None, IfSome, refl, ap, ◌∙◌, arith}
 use Rattle.std.proofs.lemmas.Bool.{and_parts}
 use Rattle.std.specs.List.{list_all}
 use Rattle.ber_core.specs.Spelling.{canonical}
+use Rattle.ber_core.specs.Tree.{constructed}
 use Rattle.ber_core.specs.Reading.{is_visible}
 use Rattle.ber_shape.specs.Content.{IsVisible}
-use Rattle.bind_pdu.specs.Binding.{BindContent, bind}
-use Rattle.bind_pdu.specs.Unbinding.{UnbindContent, unbind}
+use Rattle.ber_shape.specs.Members.{Members, structured_few}
+use Rattle.bind_pdu.specs.Binding.{bind}
+use Rattle.cds_time.specs.Octets.{FieldsFit}
+use Rattle.cds_time.specs.declared.cds.Cds.{Cds}
+use Rattle.cds_time.specs.declared.cds.Rest.{Rest}
+use Rattle.cds_time.specs.declared.cds.Rest.TheVariants.{Micros, Picos}
+use Rattle.sle_common.specs.Time.{time, conditional_time}
 use Rattle.sle_common.specs.declared.instance_id.InstancePart.{InstancePart}
 use Rattle.words.specs.Names.{is_graphic, is_name}
 use Rattle.words.specs.Identifiers.{fits_identifier}
@@ -15,12 +21,24 @@ use Rattle.drill_text.specs.Asks.{ask}
 use Rattle.drill_text.specs.declared.ask_line.AskLine.TheVariants.{Bind}
 use Rattle.station_links.specs.Asked.{port, bind_asked}
 
-pub few_bind : (b : BindContent) → bind.Fits b → length (canonical (bind.tree b)) ≤ 65536
-few_bind b fits = omega (arith, bind.few b fits)
+pub few_pdu : {X : Type 0} (tag : List ℕ) (m : Members X) (x : X) → m.Fits x
+    → nat_le (length tag + 9 + m.most) 65536 ≡ true
+    → length (canonical (constructed tag (m.trees x))) ≤ 65536
+few_pdu tag m x fits short = grind (arith, structured_few tag m x fits)
 
-pub few_unbind : (u : UnbindContent) → unbind.Fits u
-    → length (canonical (unbind.tree u)) ≤ 65536
-few_unbind u fits = omega (arith, unbind.few u fits)
+-- ---- times
+
+form_fits : (days millis : ℕ) (rest : Rest)
+    → FieldsFit (record { days = days; millis = millis; rest = rest })
+    → time.Fits (record { days = days; millis = millis; rest = rest })
+form_fits days millis (Micros n) fit = record { fields = fit; form = refl }
+form_fits days millis (Picos n) fit = record { fields = fit; form = refl }
+
+pub conditional_fits : (t : Option Cds) → IfSome t (λ t. FieldsFit t) → conditional_time.Fits t
+conditional_fits None fit = tt
+conditional_fits (Some t) fit = form_fits t.days t.millis t.rest fit
+
+-- ---- names
 
 graphic_visible : (c : ℕ) → is_graphic c ≡ true → is_visible c ≡ true
 graphic_visible c e = grind arith

@@ -1,14 +1,20 @@
 -- The messages that a script's peer sends: with unused credentials, from the port PORT1.
-use Rattle.std.specs.Prelude.{◌≡◌, ℕ, Option, Some, None, List, codes}
+use Rattle.std.specs.Prelude.{◌≡◌, ℕ, Bool, nat_le, Option, Some, None, List, codes}
 use Rattle.ber_core.specs.Spelling.{canonical}
+use Rattle.ber_shape.specs.Element.{Element}
 use Rattle.bind_pdu.specs.Binding.{bind, BindContent}
 use Rattle.bind_pdu.specs.Unbinding.{unbind, UnbindContent}
+use Rattle.cds_time.specs.declared.cds.Cds.{Cds}
 use Rattle.isp1_tml.specs.Message.{Content, context, pdu, spelling}
+use Rattle.return_pdu.specs.Starting.{RafStartContent, raf_start}
+use Rattle.return_pdu.specs.Stopping.{StopContent, stop}
 use Rattle.sle_common.specs.declared.instance_id.InstancePart.{InstancePart}
+use Rattle.sle_numbers.specs.declared.requested_frame_quality.RequestedFrameQuality.{RequestedFrameQuality}
 use Rattle.sle_numbers.specs.UnbindReason.{number_of}
 use Rattle.sle_numbers.specs.declared.unbind_reason.UnbindReason.TheVariants.{End}
 use Rattle.drill_text.specs.declared.ask_line.AskLine.{AskLine}
 use Rattle.drill_text.specs.declared.ask_line.AskLine.TheVariants.{Context, Bind, Unbind}
+use Rattle.drill_text.specs.declared.ask_line.AskLine.TheVariants.{StartRaf, Stop}
 
 abbrev pub port : List ℕ
 port = codes "PORT1"
@@ -27,13 +33,34 @@ bind_asked name service version id =
 abbrev pub unbind_asked : UnbindContent
 unbind_asked = record { credentials = None; reason = number_of End }
 
--- the message of an `ask`, if it is built: context, BIND and UNBIND are
+-- START of RAF and STOP have the invoke id 0
+abbrev pub start_asked : Option Cds → Option Cds → RequestedFrameQuality → RafStartContent
+start_asked first last quality =
+    record {
+      credentials = None;
+      invoke = 0;
+      start = first;
+      stop = last;
+      quality = quality;
+    }
+
+abbrev pub stop_asked : StopContent
+stop_asked = record { credentials = None; invoke = 0 }
+
+-- the message of an `ask`, if it is built: context, BIND, UNBIND, START of RAF and STOP are
 abbrev pub message_of : AskLine → Option Content
 message_of (Context interval factor) = Some (context interval factor)
 message_of (Bind name service version id) =
     Some (pdu (canonical (bind.tree (bind_asked name service version id))))
 message_of Unbind = Some (pdu (canonical (unbind.tree unbind_asked)))
+message_of (StartRaf first last quality) =
+    Some (pdu (canonical (raf_start.tree (start_asked first last quality))))
+message_of Stop = Some (pdu (canonical (stop.tree stop_asked)))
 message_of _ = None
+
+-- whether every value of a PDU has few octets (this product's own)
+abbrev pub is_short : {X : Type 0} → Element X → Bool
+is_short element = nat_le element.most 65536
 
 -- these octets are the message's, which is built
 abbrev pub IsAsked : List ℕ → Option Content → Type 0

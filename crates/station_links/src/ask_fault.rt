@@ -7,7 +7,7 @@ use octet_core::Memory;
 /// Why a peer's message doesn't arrive.
 #[derive(Clone, Copy, Debug, PartialEq, Eq)]
 pub enum AskFault {
-    /// Its form isn't built: context, BIND and UNBIND are.
+    /// Its form isn't built: context, BIND, UNBIND, START of RAF and STOP are.
     NotBuilt,
     /// Memory was refused.
     Memory,

@@ -1,23 +1,28 @@
 // The messages that a script's peer sends.
-ghost use Rattle.std.specs.Prelude.{◌≡◌, ◌≤◌, IfOk, IfErr, None};
+ghost use Rattle.std.specs.Prelude.{◌≡◌, ◌≤◌, true, IfOk, IfErr, None};
 ghost use Rattle.ber_core.specs.Spelling.{canonical};
+ghost use Rattle.ber_shape.specs.Members.{structured};
 ghost use Rattle.bind_pdu.specs.Binding.{bind};
-ghost use Rattle.bind_pdu.specs.Seen.{bind_of, unbind_of};
 ghost use Rattle.bind_pdu.specs.Unbinding.{unbind};
+ghost use Rattle.return_pdu.specs.Starting.{raf_start};
+ghost use Rattle.return_pdu.specs.Stopping.{stop};
 ghost use Rattle.isp1_tml.specs.Message.{pdu, context, header, spelling};
 ghost use Rattle.drill_text.specs.Asks.{ask};
-ghost use Rattle.station_links.specs.Asked.{message_of, unbind_asked, bind_asked, IsAsked};
+ghost use Rattle.station_links.specs.Asked.{message_of, unbind_asked, bind_asked, start_asked};
+ghost use Rattle.station_links.specs.Asked.{stop_asked, is_short, IsAsked};
 ghost use Rattle.station_links.specs.declared.ask_fault.AskFault.TheVariants.{NotBuilt};
 
 use crate::ask_fault::AskFault;
 use ber_core::Writer;
 use ber_shape::Pdu;
 use bind_pdu::{Bind, Unbind};
+use cds_time::Cds;
 use drill_text::AskLine;
 use isp1_tml::head;
 use octet_core::{Memory, Octets};
+use return_pdu::{RafStart, Stop};
 use sle_common::{Credentials, InstanceId, InstanceRef};
-use sle_numbers::{Numbered, UnbindReason};
+use sle_numbers::{Numbered, RequestedFrameQuality, UnbindReason};
 use std::alloc::{AllocError, Global};
 
 // The port from which a script's peer binds.
@@ -41,6 +46,12 @@ pub(crate) fn message_of(alloc: Global, line: &AskLine) -> Result<Octets, AskFau
             id,
         } => Ok(bind_message(alloc, name, *service, *version, id)?),
         AskLine::Unbind => Ok(unbind_message(alloc)?),
+        AskLine::StartRaf {
+            start,
+            stop,
+            quality,
+        } => Ok(start_message(alloc, *start, *stop, *quality)?),
+        AskLine::Stop => Ok(stop_message(alloc)?),
         _ => Err(AskFault::NotBuilt),
     }
 }
@@ -68,6 +79,19 @@ fn begin(alloc: Global, length: usize) -> Result<Writer, Memory>
     Ok(writer)
 }
 
+// The message of a PDU.
+#[tactic(auto, using(crate::proofs::Fits::few_pdu))]
+fn pdu_message<'a, P: Pdu<'a>>(alloc: Global, sent: &P) -> Result<Octets, Memory>
+    requires fits { P.Members.shape.Fits (P.Members.seen sent.now) }
+    requires short { is_short (structured P.tag P.Members.shape P.is_tag) ≡ true }
+    ensures { IfOk result (λ octets. octets ≡ spelling (pdu (canonical
+        ((structured P.tag P.Members.shape P.is_tag).tree (P.Members.seen sent.now))))) }
+{
+    let mut writer = begin(alloc, sent.length())?;
+    sent.encode(&mut writer);
+    Octets::copy_of(alloc, writer.octets())
+}
+
 fn bind_message<'a>(
     alloc: Global,
     name: &'a Octets,
@@ -87,17 +111,7 @@ fn bind_message<'a>(
         version,
         instance: InstanceRef::Own(id),
     };
-    put_bind(alloc, &sent)
-}
-
-fn put_bind(alloc: Global, message: &Bind<'_>) -> Result<Octets, Memory>
-    requires { bind.Fits (bind_of message.now) }
-    ensures { IfOk result (λ octets. octets
-        ≡ spelling (pdu (canonical (bind.tree (bind_of message.now))))) }
-{
-    let mut writer = begin(alloc, message.length())?;
-    message.encode(&mut writer);
-    Octets::copy_of(alloc, writer.octets())
+    pdu_message(alloc, &sent)
 }
 
 fn unbind_message(alloc: Global) -> Result<Octets, Memory>
@@ -108,15 +122,36 @@ fn unbind_message(alloc: Global) -> Result<Octets, Memory>
         credentials: Credentials::Unused,
         reason: UnbindReason::End.number(),
     };
-    put_unbind(alloc, &sent)
+    pdu_message(alloc, &sent)
 }
 
-fn put_unbind(alloc: Global, message: &Unbind<'_>) -> Result<Octets, Memory>
-    requires { unbind.Fits (unbind_of message.now) }
+#[tactic(auto, using(crate::proofs::Fits::conditional_fits))]
+fn start_message(
+    alloc: Global,
+    start: Option<Cds>,
+    stop: Option<Cds>,
+    quality: RequestedFrameQuality,
+) -> Result<Octets, Memory>
     ensures { IfOk result (λ octets. octets
-        ≡ spelling (pdu (canonical (unbind.tree (unbind_of message.now))))) }
+        ≡ spelling (pdu (canonical (raf_start.tree (start_asked start stop quality))))) }
 {
-    let mut writer = begin(alloc, message.length())?;
-    message.encode(&mut writer);
-    Octets::copy_of(alloc, writer.octets())
+    let sent = RafStart {
+        credentials: Credentials::Unused,
+        invoke: 0,
+        start,
+        stop,
+        quality,
+    };
+    pdu_message(alloc, &sent)
+}
+
+fn stop_message(alloc: Global) -> Result<Octets, Memory>
+    ensures { IfOk result (λ octets. octets
+        ≡ spelling (pdu (canonical (stop.tree stop_asked)))) }
+{
+    let sent = Stop {
+        credentials: Credentials::Unused,
+        invoke: 0,
+    };
+    pdu_message(alloc, &sent)
 }

@@ -19,7 +19,7 @@ raf sagr=1.spack=P.rsl-fg=1.raf=onlc1 MOC complete 1 5 60\n";
 
 // Lines, behind each of which connection 1 makes a round, and what it says. The first has a BIND of
 // MOC to onlc1, version 5, in two pieces, and the second the same by its words.
-const SCRIPTS: [(&str, &str); 4] = [
+const SCRIPTS: [(&str, &str); 5] = [
     (
         "\
 ask 1 context 30 5
@@ -52,6 +52,23 @@ round 1 1",
         "\
 stalled 1
 sent 1 0100000000000011bf650e80001a0753544154494f4e800105
+",
+    ),
+    (
+        "\
+ask 1 context 30 5
+ask 1 bind MOC 0 5 sagr=1.spack=P.rsl-fg=1.raf=onlc1
+ask 1 start 20000/2/0 20000/1/0 0
+ask 1 start none 20000/1/5p 2
+ask 1 stop
+ask 1 unbind",
+        "\
+sent 1 0100000000000011bf650e80001a0753544154494f4e800105
+sent 1 010000000000000ca10a8000020100a103810103
+sent 1 0100000000000009a10780000201008000
+sent 1 0100000000000009a30780000201008000
+sent 1 0100000000000007bf670480008000
+ended 1 unbound
 ",
     ),
     (
@@ -145,7 +162,10 @@ fn scripts_say_what_they_say(rt: HostRuntime) {
 
 #[test]
 fn a_message_that_is_not_built_is_refused(rt: HostRuntime) {
-    assert_eq!(rt; says(rt.alloc(), "ask 1 stop", ""), Err(AskFault::NotBuilt));
+    assert_eq!(rt;
+        says(rt.alloc(), "ask 1 report now", ""),
+        Err(AskFault::NotBuilt)
+    );
 }
 
 #[test]
