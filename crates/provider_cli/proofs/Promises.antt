@@ -33,8 +33,8 @@ use Rattle.provider_cli.specs.Drilled.{GainsAll, GainsSome, HasText, text_by, st
 use Rattle.provider_cli.specs.Drilled.{DrillOutcome, ran, cut_off, given_up, unread, too_long}
 use Rattle.provider_cli.specs.Drilled.{never}
 use Rattle.provider_cli.specs.Drilled.{Drilled, Completes}
-use Rattle.provider_cli.specs.Headline.{HasHeadline, terms_of, IsDelivered, HasRun, IsSent, sent}
-use Rattle.provider_cli.specs.Headline.{IsStreamed, IsReadOf, items_in, StaysRight}
+use Rattle.provider_cli.specs.Headline.{HasHeadline, HasWorld, terms_of, IsDelivered, HasRun}
+use Rattle.provider_cli.specs.Headline.{IsSent, sent, IsStreamed, IsReadOf, items_in, StaysRight}
 use Rattle.provider_cli.specs.Headline.{StaysTold}
 use Rattle.provider_cli.specs.Laws.{Laws}
 use Rattle.provider_cli.specs.Lines.{lines_of}
@@ -218,6 +218,10 @@ each_start (Some script) IsSo so = λ s is. so script s is
 pub has_headline : Laws → (input : Option (List ℕ)) → HasHeadline input
 has_headline laws None = tt
 has_headline laws (Some script) = λ site lines _. laws.headline site lines
+
+pub has_world : Laws → (input : Option (List ℕ)) → HasWorld input
+has_world laws None = tt
+has_world laws (Some script) = λ site first more rest _. laws.world site first more
 
 -- ---- completeness
 

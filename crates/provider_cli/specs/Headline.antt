@@ -20,6 +20,8 @@ use Rattle.station_law.specs.Said.{sent_text}
 use Rattle.station_desk.specs.Start.{selection}
 use Rattle.station_law.specs.Lines.{step_text}
 use Rattle.station_law.specs.Runs.{transcript, transcript_from, Headline}
+use Rattle.script_world.specs.Script.{IsInWorld}
+use Rattle.drill_text.specs.Reading.{reading}
 use Rattle.provider_cli.specs.Lines.{lines_of}
 use Rattle.provider_cli.specs.Script.{script_of, runs}
 use Rattle.provider_cli.specs.Outside.{Outside}
@@ -36,6 +38,15 @@ HasHeadline input =
     IfSome input (λ script. (site : Site) (lines : List (List ℕ))
     → script_of (lines_of script) ≡ runs site lines
     → Headline step_text (new_world site) lines)
+
+-- The lines that run are events of a station's world. Behind any first ones of them stands the
+-- world of their events: its state is the script's, its STARTs did what was handed over, and it has
+-- the headline against the world behind any more of them.
+abbrev pub HasWorld : Option (List ℕ) → Type 0
+HasWorld input =
+    IfSome input (λ script. (site : Site) (first more rest : List (List ℕ))
+    → script_of (lines_of script) ≡ runs site (first ++ more ++ rest)
+    → IsInWorld reading site first more)
 
 -- what a START of the desk asks for, in buffers of two items
 abbrev pub terms_of : ℕ → Start → Terms

@@ -26,6 +26,7 @@ use Rattle.station_law.specs.Lines.{step_text}
 use Rattle.station_law.specs.Runs.{Headline}
 use Rattle.station_law.specs.Connections.{AreSessions}
 use Rattle.drill_text.specs.Reading.{reading}
+use Rattle.script_world.specs.Script.{AreInWorld}
 
 pub record Laws : Type 0 where
   pub begins : (entries : List (ℕ × Entry)) (closed : Bool) (items : List Item)
@@ -54,5 +55,6 @@ pub record Laws : Type 0 where
   pub messages : (told : List ToldBuffer) → AreReadable told
       → AllByRecursion IsMessage (map buffer_message told)
   pub connections : AreSessions reading
+  pub world : AreInWorld reading
   pub streams : (place : ℕ) (messages : List Content) → AllByRecursion IsMessage messages
       → IsStream place (spellings messages) messages [] None

@@ -15,6 +15,7 @@ use crate::status::Status;
 use archive_terms::laws::{offline_rounds, prefix_of_all_items};
 use isp1_tml::laws::spelled_is_read;
 use octet_core::{Sink, Source};
+use script_world::laws::a_script_is_events;
 use station_desk::laws::a_start_is_read;
 use station_law::Stop;
 use station_law::laws::{a_start_hands_over, connections_are_sessions, headline_law};
@@ -45,6 +46,7 @@ fn laws()
     ensures { Laws }
 {
     headline_law();
+    a_script_is_events();
     connections_are_sessions();
     a_start_hands_over();
     a_start_is_read();

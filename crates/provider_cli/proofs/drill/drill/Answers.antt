@@ -1,6 +1,6 @@
 use Rattle.provider_cli.specs.Outside.{Outside, showing}
 use Rattle.provider_cli.proofs.Promises.{delivered, read_of, streamed, stays_right, stays_told}
-use Rattle.provider_cli.proofs.Promises.{each_start, each_sent, has_headline, completes}
+use Rattle.provider_cli.proofs.Promises.{each_start, each_sent, has_headline, has_world, completes}
 use Rattle.provider_cli.proofs.Sessions.{each_connection, is_session, has_history}
 use Rattle.provider_cli.proofs.drill.drill.Goals as goal
 
@@ -22,6 +22,7 @@ returns g c =
       script = c.read_and_run.ensures.script;
       complete = completes before after c.read_and_run.result c.read_and_run.ensures;
       headline = has_headline laws before.left;
+      world = has_world laws before.left;
       delivered = each_start before.left _ (delivered laws);
       sent = each_sent laws before after c.read_and_run.result c.read_and_run.ensures.text;
       streamed = each_start before.left _ (streamed laws);
