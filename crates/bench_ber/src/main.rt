@@ -1,41 +1,75 @@
 // Reads and writes a transfer buffer of ten frames of 1,115 octets as often as its first word says,
-// and prints how many frames and octets there were. The second word says how: `read` decodes each
-// buffer, checked whole, and reads its items out; `write` encodes the items; `calls` reads by the
-// calls of a reader alone, with no value and no CHOICE. `bench/ber` times all three.
+// and prints how many frames and octets there were. The second word says how: `read` decodes the
+// buffer of a message, checked whole, and reads its items out; `write` makes a message of the items
+// and puts it; `items` encodes as many items one by one, with no message around them, which is how
+// `write` was done before there were messages; `calls` reads by the calls of a reader alone, with
+// no value and no CHOICE. `bench/ber` times all four.
 #![tactic(auto)]
 
+ghost use Rattle.std.specs.Prelude.{IsTrue};
+ghost use Rattle.frame_select.specs.Item.{items_of};
+ghost use Rattle.buffer_message.specs.Fitting.{fits_message};
 ghost use Rattle.return_pdu.specs.TransferItem.{ItemFits};
 ghost use Rattle.return_pdu.specs.Seen.{item_of};
 
 use ber_core::{BerFault, Reader, Writer};
+use buffer_message::{BufferMessage, ReturnService};
+use cds_time::{Cds, Rest};
+use frame_select::Item;
+use isp1_tml::HEADER;
+use octet_core::{Memory, Octets};
 use return_pdu::{TransferBuffer, TransferItem, buffer_head, buffer_length};
+use sle_numbers::FrameQuality;
+use std::alloc::Global;
 use std::{env, io};
 
 const FRAMES: usize = 10;
 
 const FRAME: [u8; 1115] = [0x55; 1115];
 
-// What stands before the ten frames, and in each before its octets.
-const BUFFER_START: [u8; 4] = [0xa8, 0x82, 0x2c, 0xc4];
-
-const FRAME_START: [u8; 31] = [
-    0xa0, 0x82, 0x04, 0x76, 0x80, 0, 0x80, 8, 0x4e, 0x20, 0, 0, 0x03, 0xe8, 0, 0, 0x81, 1, 0x41, 2,
-    1, 0, 2, 1, 0, 0x80, 0, 4, 0x82, 0x04, 0x5b,
-];
+// The octets of a buffer of ten such frames.
+const BUFFER: usize = 11_464;
 
 #[derive(Clone, Copy)]
 enum Way {
     Read,
     Write,
+    Items,
     Calls,
 }
 
 fn way_of(word: &str) -> Way {
     match word {
         "write" => Way::Write,
+        "items" => Way::Items,
         "calls" => Way::Calls,
         _ => Way::Read,
     }
+}
+
+/// A frame as it was received.
+fn frame(alloc: Global) -> Result<Item, Memory> {
+    Ok(Item::Frame {
+        place: 0,
+        ert: Cds {
+            days: 20_000,
+            millis: 1_000,
+            rest: Rest::Micros(0),
+        },
+        quality: FrameQuality::Good,
+        antenna: Octets::copy_of(alloc, b"A")?,
+        continuity: 0,
+        octets: Octets::copy_of(alloc, &FRAME)?,
+    })
+}
+
+/// The frames of a buffer.
+fn frames(alloc: Global) -> Result<Vec<Item>, Memory> {
+    let mut items = Vec::new(alloc);
+    for _ in 0..FRAMES {
+        items.push(frame(alloc)?)?;
+    }
+    Ok(items)
 }
 
 /// Decodes a buffer and reads its items out, and answers how many octets its frames have.
@@ -78,7 +112,7 @@ fn pass_buffer(buffer: &[u8]) -> Result<usize, BerFault> {
 }
 
 /// Writes a buffer of ten times this item, where it fits.
-fn write_buffer(item: &TransferItem, writer: &mut Writer)
+fn write_items(item: &TransferItem, writer: &mut Writer)
     requires { ItemFits (item_of item.now) }
 {
     let length = item.length();
@@ -94,19 +128,17 @@ fn write_buffer(item: &TransferItem, writer: &mut Writer)
     }
 }
 
-/// The octets of a buffer of ten frames, where they fit.
-fn start_buffer(writer: &mut Writer) {
-    put(&BUFFER_START, writer);
-    for _ in 0..FRAMES {
-        put(&FRAME_START, writer);
-        put(&FRAME, writer);
+/// Puts the message of these items, where it fits, and answers how many octets it put.
+fn write_message(items: &[Item], writer: &mut Writer) -> usize
+    requires { IsTrue (fits_message (items_of items.now)) }
+{
+    let message = BufferMessage::unsigned(ReturnService::Raf, items);
+    writer.clear();
+    if writer.room() < message.length() {
+        return 0;
     }
-}
-
-fn put(octets: &[u8], writer: &mut Writer) {
-    if octets.len() <= writer.room() {
-        writer.raw(octets);
-    }
+    message.put(writer);
+    writer.octets().len()
 }
 
 /// Reads the buffer as often as asked, and answers how many octets its frames had together.
@@ -123,27 +155,61 @@ fn read_often(rounds: u64, by_calls: bool, buffer: &[u8]) -> Result<usize, BerFa
     Ok(octets)
 }
 
+/// Puts the message of the items as often as asked, and answers how many octets the frames had
+/// together.
+fn write_often(rounds: u64, items: &[Item], writer: &mut Writer) -> usize {
+    let mut octets: usize = 0;
+    if !BufferMessage::fits(items) {
+        return 0;
+    }
+    for _ in 0..rounds {
+        let put = write_message(items, writer);
+        octets = octets.wrapping_add(put / (HEADER + BUFFER) * FRAMES * FRAME.len());
+    }
+    octets
+}
+
 /// Writes the first item of the buffer ten times, as often as asked, and answers how many octets
 /// the frames had together.
-fn write_often(rounds: u64, buffer: &[u8], writer: &mut Writer) -> Result<usize, BerFault> {
+fn items_often(rounds: u64, buffer: &[u8], writer: &mut Writer) -> Result<usize, BerFault> {
     let mut octets: usize = 0;
     let Some(item) = TransferBuffer::decode_raf(buffer)?.next() else {
         return Ok(0);
     };
     for _ in 0..rounds {
         writer.clear();
-        write_buffer(&item, writer);
-        octets = octets.wrapping_add(writer.octets().len() / 11_464 * FRAMES * FRAME.len());
+        write_items(&item, writer);
+        octets = octets.wrapping_add(writer.octets().len() / BUFFER * FRAMES * FRAME.len());
     }
     Ok(octets)
 }
 
-fn run(rounds: u64, way: Way, buffer: &[u8], spare: &mut Writer) -> Result<usize, BerFault> {
+/// Works as often as asked on the buffer of these items, and answers how many octets the frames
+/// had together.
+fn run(
+    rounds: u64,
+    way: Way,
+    items: &[Item],
+    buffer: &[u8],
+    spare: &mut Writer,
+) -> Result<usize, BerFault> {
     match way {
         Way::Read => read_often(rounds, false, buffer),
         Way::Calls => read_often(rounds, true, buffer),
-        Way::Write => write_often(rounds, buffer, spare),
+        Way::Write => Ok(write_often(rounds, items, spare)),
+        Way::Items => items_often(rounds, buffer, spare),
     }
+}
+
+/// The message of these items, where they go into one, and a writer that has room for it.
+fn start(alloc: Global, items: &[Item]) -> Option<(Writer, Writer)> {
+    if !BufferMessage::fits(items) {
+        return None;
+    }
+    let message = BufferMessage::unsigned(ReturnService::Raf, items);
+    let written = message.written(alloc).ok()?;
+    let spare = Writer::new(alloc, message.length()).ok()?;
+    Some((written, spare))
 }
 
 fn main(rt: HostRuntime) -> io::Result<()> {
@@ -153,14 +219,14 @@ fn main(rt: HostRuntime) -> io::Result<()> {
         way = way_of(word.as_str());
         rounds = word.as_str().parse::<u64>().unwrap_or(rounds);
     }
-    let (Ok(mut writer), Ok(mut spare)) = (
-        Writer::new(rt.alloc(), 20_000),
-        Writer::new(rt.alloc(), 20_000),
-    ) else {
+    let Ok(items) = frames(rt.alloc()) else {
         return rt.println("no memory");
     };
-    start_buffer(&mut writer);
-    let Ok(octets) = run(rounds, way, writer.octets(), &mut spare) else {
+    let Some((message, mut spare)) = start(rt.alloc(), &items) else {
+        return rt.println("no memory");
+    };
+    let buffer = message.octets().get(HEADER..).unwrap_or(&[]);
+    let Ok(octets) = run(rounds, way, &items, buffer, &mut spare) else {
         return rt.println("fault");
     };
     let frames = rounds.wrapping_mul(FRAMES as u64);
