@@ -1,3 +1,5 @@
 mod OneMore
 mod Landing
 mod Mending
+mod NoRoom
+mod Short

@@ -16,9 +16,9 @@ use Rattle.recorder.specs.declared.dropped.Dropped.{Dropped}
 use Rattle.recorder.specs.declared.recorded.Recorded.{Recorded}
 use Rattle.recorder.specs.declared.record_fault.RecordFault.{RecordFault}
 use Rattle.recorder.specs.declared.record_fault.RecordFault.TheVariants as faults
-use Rattle.recorder.specs.Offers.{Offered, offered, after_offers}
+use Rattle.recorder.specs.Offers.{Offered, offered, after_offers, offered_to, IsCutShort}
 use Rattle.recorder.specs.Steps.{storing, Stores, StoreFails, Reopened, IsMended, IsStored}
-use Rattle.recorder.specs.Steps.{IsUnmended, IsLeft}
+use Rattle.recorder.specs.Steps.{IsUnmended, IsLeft, IsLeftBroken}
 
 -- an answer that is an error isn't Ok
 pub not_so : false ≡ true → ⊥
@@ -97,14 +97,24 @@ module _ {D : Type 0} (pending : D → Option Pending) (faults_of : D → ℕ)
       → (IsErrOf result faults.DiskFault
       → new ≡ with_failed (after_offers (offered opened dropped) lost).archive new.disk)
       → (IsErrOf result faults.DiskFault → Rose (faults_of opened.disk) (faults_of new.disk))
+      → (IsErrOf result faults.Memory → IsCutShort (offered opened dropped) lost new)
       → IfErr result (λ fault. IsUnmended pending faults_of makes fails fails_to_read fault dropped
       old new)
-  lost_left dropped old opened new lost (Ok recorded) all reopened count cause failed state rose =
-      cause
-  lost_left dropped old opened new lost (Err fault) all reopened count (inr is) failed state rose =
+  lost_left dropped old opened new lost (Ok recorded) all reopened count cause failed state rose
+      short = cause
+  lost_left dropped old opened new lost (Err fault) all reopened count (inr is) failed state rose
+      short =
+      let wants : IsErrOf {T = Recorded} (Err fault) faults.Memory = cc in
       subst (λ (f : RecordFault). IsUnmended pending faults_of makes fails fails_to_read f dropped
-      old new) (sym is) tt
-  lost_left dropped old opened new lost (Err fault) all reopened count (inl is) failed state rose =
+      old new) (sym is) (inr (record {
+        opened = opened;
+        reopened = reopened;
+        count = count;
+        offered_again = subst (λ (es : List Entry). IsCutShort (offered opened dropped) es new) all
+            (short wants);
+      }))
+  lost_left dropped old opened new lost (Err fault) all reopened count (inl is) failed state rose
+      short =
       let broke : IsErrOf {T = Recorded} (Err fault) faults.DiskFault = cc in
       subst (λ (f : RecordFault). IsUnmended pending faults_of makes fails fails_to_read f dropped
       old new) (sym is) (inr (record {
@@ -145,26 +155,30 @@ module _ {D : Type 0} (pending : D → Option Pending) (faults_of : D → ℕ)
       )
   mended_stored before broken new (Err fault) state failed mended some = some
 
-  left_by : (fault : RecordFault) (before : Offered D) (new : ArchiveState D) (broken : D)
-      → StoreFails makes fails before.archive broken
-      → Rose (faults_of before.archive.disk) (faults_of broken)
-      → IsUnmended pending faults_of makes fails fails_to_read fault before.dropped
-      (with_failed before.archive broken) new
-      → IsLeft pending faults_of makes fails fails_to_read fault before new
-  left_by faults.SourceFault before new broken failed rose is = tt
-  left_by faults.Memory before new broken failed rose is = tt
-  left_by faults.DiskFault before new broken failed rose is = (broken, failed, rose, is)
-  left_by (faults.Refused fault) before new broken failed rose is = (broken, failed, rose, is)
+  left_by : (fault : RecordFault) (old : ArchiveState D) (polled : List Entry)
+      (new : ArchiveState D)
+      → IsLeftBroken pending faults_of makes fails fails_to_read fault (offered_to old polled) new
+      → IsLeft pending faults_of makes fails fails_to_read fault old polled new
+  left_by faults.SourceFault old polled new is = absurd is.3
+  left_by faults.Memory old polled new is = inr is
+  left_by faults.DiskFault old polled new is = is
+  left_by (faults.Refused fault) old polled new is = is
 
-  pub unmended_left : (before : Offered D) (broken new : ArchiveState D)
-      (result : Result Recorded RecordFault) → broken ≡ with_failed before.archive broken.disk
-      → StoreFails makes fails before.archive broken.disk
-      → Rose (faults_of before.archive.disk) (faults_of broken.disk)
+  pub unmended_left : (old : ArchiveState D) (polled : List Entry) (broken new : ArchiveState D)
+      (result : Result Recorded RecordFault)
+      → broken ≡ with_failed (offered_to old polled).archive broken.disk
+      → StoreFails makes fails (offered_to old polled).archive broken.disk
+      → Rose (faults_of (offered_to old polled).archive.disk) (faults_of broken.disk)
       → IfErr result (λ fault. IsUnmended pending faults_of makes fails fails_to_read fault
-      before.dropped broken new)
-      → IfErr result (λ fault. IsLeft pending faults_of makes fails fails_to_read fault before new)
-  unmended_left before broken new (Ok recorded) state failed rose unmended = unmended
-  unmended_left before broken new (Err fault) state failed rose unmended =
-      left_by fault before new broken.disk failed rose
-      (subst (λ (a : ArchiveState D). IsUnmended pending faults_of makes fails fails_to_read fault
-      before.dropped a new) state unmended)
+      (offered_to old polled).dropped broken new)
+      → IfErr result (λ fault. IsLeft pending faults_of makes fails fails_to_read fault old polled
+      new)
+  unmended_left old polled broken new (Ok recorded) state failed rose unmended = unmended
+  unmended_left old polled broken new (Err fault) state failed rose unmended =
+      left_by fault old polled new (
+        broken.disk,
+        failed,
+        rose,
+        subst (λ (a : ArchiveState D). IsUnmended pending faults_of makes fails fails_to_read fault
+            (offered_to old polled).dropped a new) state unmended,
+      )

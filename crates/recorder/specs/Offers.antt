@@ -1,8 +1,9 @@
 -- What becomes of entries that are offered to an archive one after another. This product's own
 -- rule.
-use Rattle.std.specs.Prelude.{ℕ, ◌+◌, Option, Some, None, List}
+use Rattle.std.specs.Prelude.{ℕ, ◌≡◌, ◌⊎◌, ◌+◌, ◌-◌, ◌<◌, ◌≤◌, Option, Some, None, List, ◌++◌, length}
 use Rattle.std.specs.List.{fold}
 use Rattle.archive_terms.specs.Archive.{Entry}
+use Rattle.record_form.specs.Spelling.{entry_octets}
 use Rattle.frame_archive.specs.State.{ArchiveState, refusal, with_waiting}
 use Rattle.frame_archive.specs.declared.fault.OfferFault.{OfferFault}
 use Rattle.frame_archive.specs.declared.fault.OfferFault.TheVariants.{Backward, TooLong, Full}
@@ -55,6 +56,21 @@ after_offer before entry = by_refusal before entry (refusal before.archive entry
 -- the entries are offered in order, each behind those before it that weren't refused
 unfoldable pub after_offers : {D : Type 0} → Offered D → List Entry → Offered D
 after_offers before entries = fold after_offer before entries
+
+-- Entries were offered until memory was wanted: those in front. The others are dropped, and aren't
+-- counted.
+pub record IsCutShort {D : Type 0} (start : Offered D) (entries : List Entry)
+    (new : ArchiveState D) : Type 0 where
+  pub front : List Entry
+  pub rest : List Entry
+  pub all : entries ≡ front ++ rest
+  pub state : new ≡ (after_offers start front).archive
+
+-- an entry has no room behind what is stored, or as many entries are as an archive holds
+abbrev pub HasNoRoom : {D : Type 0} → ArchiveState D → Entry → Type 0
+HasNoRoom archive entry =
+    (archive.capacity - archive.used < length (entry_octets entry) + 7)
+    ⊎ (4194304 ≤ archive.count)
 
 -- entries are offered to an archive of which nothing was dropped yet
 abbrev pub offered_to : {D : Type 0} → ArchiveState D → List Entry → Offered D

@@ -1,5 +1,5 @@
 -- Which entries a step polls, and by which answers of its source. This product's own rule.
-use Rattle.std.specs.Prelude.{◌≡◌, ◌⊎◌, ◌<◌, Bool, true, false, Option, List, [], ◌∷◌, ◌++◌}
+use Rattle.std.specs.Prelude.{◌≡◌, ◌⊎◌, ◌<◌, ◌≤◌, Bool, true, false, Option, List, [], ◌∷◌, ◌++◌}
 use Rattle.std.specs.Prelude.{length, map}
 use Rattle.archive_terms.specs.Archive.{Entry}
 use Rattle.octet_core.specs.Told.{Tells}
@@ -24,3 +24,8 @@ IsPolled false entries before after =
 -- the source failed, before or behind entries that it gave
 abbrev pub BreaksOff : Option (List Answer) → Option (List Answer) → Type 0
 BreaksOff before after = (entries : List Entry) × EndsWith failed entries before after
+
+-- The source gave these entries in a step, and answered something else behind them at most.
+abbrev pub Gave : List Entry → Option (List Answer) → Option (List Answer) → Type 0
+Gave entries before after = (behind : List Answer) × (length behind ≤ 1)
+    × Tells before after (map gave entries ++ behind)

@@ -16,7 +16,8 @@ use Rattle.recorder.specs.declared.dropped.Dropped.{Dropped}
 use Rattle.recorder.specs.declared.recorded.Recorded.{Recorded}
 use Rattle.recorder.specs.declared.record_fault.RecordFault.{RecordFault}
 use Rattle.recorder.specs.declared.record_fault.RecordFault.TheVariants as faults
-use Rattle.recorder.specs.Offers.{Offered, offered, after_offers}
+use Rattle.recorder.specs.Offers.{Offered, offered, after_offers, offered_to, none_dropped}
+use Rattle.recorder.specs.Offers.{IsCutShort}
 
 -- ---- a store
 
@@ -131,22 +132,36 @@ module _ {D : Type 0} (pending : D → Option Pending) (faults_of : D → ℕ)
     pub cause : RefusesReopen fault old.count old.failed (pending old.disk) (faults_of old.disk)
         (faults_of new.disk)
 
-  -- What is left of an archive whose store failed, where the answer is a fault of the disk or of
-  -- the file. Of the others the step says what they leave in clauses of their own.
+  -- Memory was wanted once what was lost was known: of that, some waits.
+  pub record IsLostShort (dropped : Dropped) (old new : ArchiveState D) : Type 0 where
+    pub opened : ArchiveState D
+    pub reopened : Reopened pending makes old opened
+    pub count : opened.count ≡ old.count
+    pub offered_again : IsCutShort (offered opened dropped) old.waiting new
+
+  -- What is left of an archive whose store failed. After want of memory all that waited still
+  -- waits, or a part of it.
   abbrev pub IsUnmended : RecordFault → Dropped → ArchiveState D → ArchiveState D → Type 0
-  IsUnmended faults.SourceFault dropped old new = Unit {0}
+  IsUnmended faults.SourceFault dropped old new = ⊥
   IsUnmended faults.DiskFault dropped old new = ReopenFails old new
       ⊎ FailsAgain pending faults_of makes fails dropped old new
   IsUnmended (faults.Refused fault) dropped old new = IsRefused fault old new
-  IsUnmended faults.Memory dropped old new = Unit {0}
+  IsUnmended faults.Memory dropped old new = (new ≡ record old { disk = new.disk })
+      ⊎ IsLostShort dropped old new
 
   -- the same, from the store on
-  abbrev pub IsLeft : RecordFault → Offered D → ArchiveState D → Type 0
-  IsLeft faults.SourceFault before new = Unit {0}
-  IsLeft faults.Memory before new = Unit {0}
-  IsLeft fault before new = (broken : D) × StoreFails makes fails before.archive broken
+  abbrev pub IsLeftBroken : RecordFault → Offered D → ArchiveState D → Type 0
+  IsLeftBroken fault before new = (broken : D) × StoreFails makes fails before.archive broken
       × Rose (faults_of before.archive.disk) (faults_of broken)
       × IsUnmended fault before.dropped (with_failed before.archive broken) new
+
+  -- What a step leaves of an archive, by what it polled. After want of memory none of that is
+  -- acknowledged: some of it waits, as long as no store failed a front of what was to be offered.
+  abbrev pub IsLeft : RecordFault → ArchiveState D → List Entry → ArchiveState D → Type 0
+  IsLeft faults.SourceFault old polled new = new ≡ old
+  IsLeft faults.Memory old polled new = IsCutShort (offered old none_dropped) polled new
+      ⊎ IsLeftBroken faults.Memory (offered_to old polled) new
+  IsLeft fault old polled new = IsLeftBroken fault (offered_to old polled) new
 
 -- the file was no other one
 abbrev pub IsNoRefusal : RecordFault → Type 0

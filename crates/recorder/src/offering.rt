@@ -1,10 +1,11 @@
 // Offering what was polled.
-ghost use Rattle.std.specs.Prelude.{◌≡◌, ◌+◌, ◌≤◌, ◌<◌, length, OnOk, IfOk, IsTrue};
+ghost use Rattle.std.specs.Prelude.{◌≡◌, ◌+◌, ◌≤◌, ◌<◌, length, OnOk, OnErr, IfOk, IsTrue};
 ghost use Rattle.std.specs.List.{list_all};
 ghost use Rattle.archive_terms.specs.Archive.{is_valid};
 ghost use Rattle.record_form.specs.Entry.{entry_of, entries_of};
 ghost use Rattle.frame_archive.specs.Run.{Keeps};
 ghost use Rattle.recorder.specs.Offers.{offered, after_offer, after_offers, how_many};
+ghost use Rattle.recorder.specs.Offers.{IsCutShort};
 
 use crate::dropped::Dropped;
 use disk_model::Disk;
@@ -24,6 +25,8 @@ pub fn offer_each<D: Disk>(
     requires few { how_many dropped.old + length entries.now ≤ 512 }
     ensures offered { OnOk result (offered archive.new dropped.new
         ≡ after_offers (offered archive.old dropped.old) (entries_of entries.now)) }
+    ensures cut_short { OnErr result (IsCutShort (offered archive.old dropped.old)
+        (entries_of entries.now) archive.new) }
     ensures counted { OnOk result (length archive.new.waiting + how_many dropped.new
         ≡ length archive.old.waiting + how_many dropped.old + length entries.now) }
     ensures grows { length archive.old.waiting ≤ length archive.new.waiting }
@@ -52,6 +55,7 @@ fn offer<D: Disk>(
     requires few { how_many dropped.old < 512 }
     ensures offered { OnOk result (offered archive.new dropped.new
         ≡ after_offer (offered archive.old dropped.old) (entry_of entry.now)) }
+    ensures unchanged { OnErr result (archive.new ≡ archive.old) }
     ensures counted { OnOk result (length archive.new.waiting + how_many dropped.new
         ≡ length archive.old.waiting + how_many dropped.old + 1) }
     ensures grows { length archive.old.waiting ≤ length archive.new.waiting }

@@ -1,9 +1,11 @@
 // Polling a source.
-ghost use Rattle.std.specs.Prelude.{◌≡◌, ◌⊎◌, ◌≤◌, length, OnOk, IfOk, IfErr, IsErrOf, IsTrue};
+ghost use Rattle.std.specs.Prelude.{◌≡◌, ◌⊎◌, ◌≤◌, length, OnOk, OnErr, IfOk, IfErr, IsErrOf};
+ghost use Rattle.std.specs.Prelude.{IsTrue, List};
 ghost use Rattle.std.specs.List.{list_all};
 ghost use Rattle.archive_terms.specs.Archive.{is_valid};
+ghost use Rattle.archive_terms.specs.Archive as terms;
 ghost use Rattle.octet_core.specs.Fault.{Rose};
-ghost use Rattle.recorder.specs.Polling.{IsPolled, BreaksOff};
+ghost use Rattle.recorder.specs.Polling.{IsPolled, BreaksOff, Gave};
 ghost use Rattle.recorder.specs.declared.record_fault.RecordFault.TheVariants as RecordFault;
 
 use crate::{Feed, FrameSource, RecordFault};
@@ -24,6 +26,10 @@ pub fn poll<F: FrameSource>(alloc: Global, frames: &mut F) -> Result<Polled, Rec
         (F.answers frames.old) (F.answers frames.new)) }
     ensures valid { IfOk result (λ polled. IsTrue (list_all is_valid polled.entries)) }
     ensures few { IfOk result (λ polled. length polled.entries ≤ 256) }
+    ensures gave { IfOk result (λ polled. Gave polled.entries (F.answers frames.old)
+        (F.answers frames.new)) }
+    ensures gave_some { OnErr result ((entries : List terms.Entry) × Gave entries
+        (F.answers frames.old) (F.answers frames.new)) }
     ensures kept { OnOk result (F.faults frames.new ≡ F.faults frames.old) }
     ensures failed { IsErrOf result RecordFault.SourceFault → BreaksOff (F.answers frames.old)
         (F.answers frames.new) }

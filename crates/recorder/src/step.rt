@@ -8,8 +8,9 @@ ghost use Rattle.octet_core.specs.Fault.{Rose};
 ghost use Rattle.frame_archive.specs.State.{wanted, with_failed};
 ghost use Rattle.frame_archive.specs.Acknowledges.{Acknowledges};
 ghost use Rattle.frame_archive.specs.Run.{Adds, Keeps};
-ghost use Rattle.recorder.specs.Polling.{IsPolled, BreaksOff};
+ghost use Rattle.recorder.specs.Polling.{IsPolled, BreaksOff, Gave};
 ghost use Rattle.recorder.specs.Offers.{offered, offered_to, after_offers, how_many};
+ghost use Rattle.recorder.specs.Offers.{IsCutShort};
 ghost use Rattle.recorder.specs.Steps.{IsStored, IsMended, Stores, StoreFails};
 ghost use Rattle.recorder.specs.Steps.{IsLeft, IsUnmended, IsNoRefusal};
 ghost use Rattle.recorder.specs.declared.record_fault.RecordFault.TheVariants as RecordFault;
@@ -28,8 +29,9 @@ use std::alloc::Global;
 /// and stored once more.
 ///
 /// After an error nothing more is acknowledged than before. After `SourceFault` the archive is as
-/// it was, and what was polled is dropped; after another one entries may wait, and after
-/// `DiskFault` and `Refused` it is to be opened again.
+/// it was, and what was polled is dropped. After `Memory` some of what was polled waits, in order,
+/// and the rest is dropped and isn't counted. After `DiskFault` and `Refused` what was to be stored
+/// waits, and the archive is to be opened again.
 pub fn record_step<D: Disk, F: FrameSource>(
     alloc: Global,
     archive: &mut FrameArchive<D>,
@@ -58,8 +60,10 @@ pub fn record_step<D: Disk, F: FrameSource>(
     ensures nothing { IsErrOf result RecordFault.SourceFault → archive.new ≡ archive.old }
     ensures broke_off { IsErrOf result RecordFault.SourceFault → BreaksOff (F.answers frames.old)
         (F.answers frames.new) }
-    ensures left { IfErr result (λ fault. (polled : List terms.Entry) × IsLeft D.pending D.faults
-        D.makes D.fails D.fails_to_read fault (offered_to archive.old polled) archive.new) }
+    ensures left { IfErr result (λ fault. (polled : List terms.Entry)
+        × Gave polled (F.answers frames.old) (F.answers frames.new)
+        × IsLeft D.pending D.faults D.makes D.fails D.fails_to_read fault archive.old polled
+        archive.new) }
     ensures honest { IfErr result (λ fault. (entries : List terms.Entry)
         → Acknowledges D.pending archive.old entries → IsNoRefusal fault) }
 {
@@ -87,7 +91,7 @@ fn keep<D: Disk>(archive: &mut FrameArchive<D>, polled: Polled) -> Result<Record
     ensures still { OnErr result (Keeps D.pending archive.old archive.new) }
     ensures source { ¬ (IsErrOf result RecordFault.SourceFault) }
     ensures left { IfErr result (λ fault. IsLeft D.pending D.faults D.makes D.fails D.fails_to_read
-        fault (offered_to archive.old polled.entries) archive.new) }
+        fault archive.old polled.entries archive.new) }
     ensures honest { IfErr result (λ fault. (entries : List terms.Entry)
         → Acknowledges D.pending archive.old entries → IsNoRefusal fault) }
 {
@@ -175,6 +179,8 @@ fn store_again<D: Disk>(
         (after_offers (offered archive.old dropped) lost).archive archive.new.disk }
     ensures left { IsErrOf result RecordFault.DiskFault → archive.new
         ≡ with_failed (after_offers (offered archive.old dropped) lost).archive archive.new.disk }
+    ensures cut_short { IsErrOf result RecordFault.Memory → IsCutShort (offered archive.old dropped)
+        lost archive.new }
 {
     let count = archive.count();
     offer_each(archive, lost.as_slice(), &mut dropped)?;

@@ -1,7 +1,9 @@
 use Rattle.std.proofs.Common.{refl, ap, ◌∙◌, arith}
+use Rattle.std.proofs.lemmas.Result.{err_from_is_err_and}
 use Rattle.frame_archive.specs.State.{ArchiveState}
 use Rattle.recorder.specs.Offers.{offered}
 use Rattle.recorder.proofs.OneMore.{offers_none, offers_more, valid_at}
+use Rattle.recorder.proofs.Short.{first_offered}
 use Rattle.recorder.proofs.offering.offer_each.Goals as goal
 
 pub loop-entry-init : goal.loop-entry-init
@@ -58,3 +60,10 @@ loop-entry-preserved g c =
       c.offer.ensures.waits,
       λ entries is. c.offer.ensures.acknowledged entries (was.6 entries is),
     )
+
+pub returns-in_err-offer-clause-cut_short : goal.returns-in_err-offer-clause-cut_short
+returns-in_err-offer-clause-cut_short g c =
+    let p = err_from_is_err_and c.from_residual.result c.from_residual.ensures.1 in
+    rw p.1 (first_offered (offered c.args.archive.now c.args.dropped.now)
+    (offered c.loop-entry.archive c.loop-entry.dropped) c.offer.new.archive c.args.entries.now
+    c.loop-entry.entry-index c.loop-entry.invariant.0 c.in_err-offer.ensures.unchanged)

@@ -1,9 +1,15 @@
-use Rattle.std.proofs.Common.{◌≡◌, [], Err, IfOk, IfErr, ap, sym, subst, ◌∙◌, rules}
-use Rattle.frame_archive.specs.State.{ArchiveState}
-use Rattle.recorder.specs.Offers.{Offered, offered, offered_to}
-use Rattle.recorder.specs.Steps.{IsStored, IsLeft}
+use Rattle.std.proofs.Common.{◌≡◌, List, [], Err, IfOk, IfErr, refl, ap, sym, subst, ◌∙◌, rules}
+use Rattle.std.proofs.lemmas.Result.{err_from_is_err_and}
+use Rattle.octet_core.specs.Fault.{Rose}
+use Rattle.frame_archive.specs.State.{ArchiveState, with_failed}
+use Rattle.archive_terms.specs.Archive.{Entry}
+use Rattle.record_form.specs.Entry.{entries_of}
+use Rattle.recorder.specs.declared.dropped.Dropped.{Dropped}
+use Rattle.recorder.specs.Offers.{Offered, offered, offered_to, none_dropped, IsCutShort}
+use Rattle.recorder.specs.Steps.{IsStored, IsUnmended, StoreFails}
 use Rattle.recorder.proofs.Mending.{store_failed, adds_behind, keeps_behind, mended_stored}
 use Rattle.recorder.proofs.Mending.{unmended_left, not_so}
+use Rattle.recorder.proofs.Short.{short_left, all_offered}
 use Rattle.recorder.proofs.step.keep.Goals as goal
 
 pub returns-in-Err-DiskFault-clause-stored : goal.returns-in-Err-DiskFault-clause-stored
@@ -49,11 +55,41 @@ returns-in-Err-DiskFault-clause-left g c =
     let some : mid.waiting ≡ [] → ⊥ = λ none. not_so ((is.nothing
     (ap (λ (a : ArchiveState g.row.D.Denot). a.is_stale) c.offer_each.ensures.rest
     ∙ c.requires.ready) none).0) in
-    subst (λ (o : Offered g.row.D.Denot). IfErr c.mend.result (λ fault.
-    IsLeft g.D.Disk.pending g.D.Disk.faults g.D.Disk.makes g.D.Disk.fails g.D.Disk.fails_to_read
-    fault o c.mend.new.archive)) (sym same)
-    (unmended_left g.D.Disk.pending g.D.Disk.faults g.D.Disk.makes g.D.Disk.fails
-    g.D.Disk.fails_to_read (offered mid c.offer_each.new.dropped) broken c.mend.new.archive
-    c.mend.result (is.failed fault)
-    (store_failed g.D.Disk.makes g.D.Disk.fails mid broken.disk some (is.failed_calls fault))
-    (is.cause fault) c.mend.ensures.left)
+    let archive = c.args.archive.now in
+    let polled = c.args.polled.entries in
+    let failed = store_failed g.D.Disk.makes g.D.Disk.fails mid broken.disk some
+    (is.failed_calls fault) in
+    let before = λ (P : Offered g.row.D.Denot → Type 0) (is : P (offered mid
+    c.offer_each.new.dropped)). subst P (sym same) is in
+    unmended_left g.D.Disk.pending g.D.Disk.faults g.D.Disk.makes g.D.Disk.fails
+    g.D.Disk.fails_to_read archive polled broken c.mend.new.archive c.mend.result
+    (before (λ (o : Offered g.row.D.Denot). broken ≡ with_failed o.archive broken.disk)
+    (is.failed fault))
+    (before (λ (o : Offered g.row.D.Denot). StoreFails g.D.Disk.makes g.D.Disk.fails o.archive
+    broken.disk) failed)
+    (before (λ (o : Offered g.row.D.Denot). Rose (g.D.Disk.faults o.archive.disk)
+    (g.D.Disk.faults broken.disk)) (is.cause fault))
+    (before (λ (o : Offered g.row.D.Denot). IfErr c.mend.result (λ fault. IsUnmended
+    g.D.Disk.pending g.D.Disk.faults g.D.Disk.makes g.D.Disk.fails g.D.Disk.fails_to_read fault
+    o.dropped broken c.mend.new.archive)) c.mend.ensures.left)
+
+pub returns-in_err-offer_each-clause-left : goal.returns-in_err-offer_each-clause-left
+returns-in_err-offer_each-clause-left g c =
+    let p = err_from_is_err_and c.from_residual.result c.from_residual.ensures.1 in
+    let archive = c.args.archive.now in
+    let new = c.offer_each.new.archive in
+    let short = subst (λ (es : List Entry). IsCutShort (offered archive none_dropped) es new)
+    c.as_slice.ensures
+    (subst (λ (d : Dropped). IsCutShort (offered archive d) (entries_of c.as_slice.result.now) new)
+    c.none-dropped.ensures c.in_err-offer_each.ensures.cut_short) in
+    rw p.1 (short_left g.D.Disk.pending g.D.Disk.faults g.D.Disk.makes g.D.Disk.fails
+    g.D.Disk.fails_to_read p.0 archive new c.args.polled.entries p.2 short)
+
+pub returns-in-Err-Memory-clause-left : goal.returns-in-Err-Memory-clause-left
+returns-in-Err-Memory-clause-left g c =
+    let same : offered_to c.args.archive.now c.args.polled.entries
+    ≡ offered c.offer_each.new.archive c.offer_each.new.dropped = search rules in
+    short_left g.D.Disk.pending g.D.Disk.faults g.D.Disk.makes g.D.Disk.fails
+    g.D.Disk.fails_to_read _ c.args.archive.now c.store.new.self c.args.polled.entries
+    refl (all_offered _ _ c.store.new.self c.args.polled.entries (sym same)
+    (c.in-Err-Memory.ensures.memory (ap (λ f. Err f) c.in-Err-Memory.field-0-is)))

@@ -49,4 +49,4 @@ returns-then-len-gt0-clause-left g c =
     c.in-Ok.landing.lost c.store_again.result (is.lost ∙ all.1)
     (record { calls = is.calls; state = is.reopened; found = is.found }) all.0
     c.store_again.ensures.faults c.store_again.ensures.failed c.store_again.ensures.left
-    c.store_again.ensures.disk
+    c.store_again.ensures.disk c.store_again.ensures.cut_short
