@@ -26,6 +26,7 @@ sle_common Parameter Mode|sle_common Parameter Cycle|sle_common Parameter Qualit
 fcltu_service CltuInvocation Get|raf_service RafInvocation Get|rcf_service RcfInvocation Get
 return_service ReturnService.parameter name
 user_lines Told Aborted
+explain_lines StreamLine Aborted|explain_lines StreamLine Parameter
 explain_words put_locks locks|explain_words put_statuses production
 explain_words put_statuses uplink|explain_words put_why diagnostic
 """
@@ -53,8 +54,8 @@ provider_cli provide_on ->|provider_cli provide ->|provider_cli tell ->|provider
 provider_cli Status.code ->|provider_cli put_bad_site cause|station_config SiteFault cause
 sle_numbers Numbered.number ->|sle_numbers Numbered.from_number number
 user_lines Tag.number ->|user_lines Told invoke|user_lines Told name
-explain_words put_name number|explain_words put_why number|explain_words put_invoker invoke
-explain_words put_performer invoke
+explain_lines StreamLine tag|explain_words put_name number|explain_words put_why number
+explain_words put_invoker invoke|explain_words put_performer invoke
 """
 
 PLAIN = ("tests_", "bench_", "sample_", "kill_", "plain_")

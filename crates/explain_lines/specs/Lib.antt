@@ -1,0 +1,3 @@
+pub mod Transcribed
+pub mod Kinds
+pub mod Stream

@@ -1,0 +1,40 @@
+// Any number of octets in hexadecimal digits, as a word.
+
+use hex::FromHexError;
+use octet_core::Octets;
+use std::alloc::{AllocError, Global};
+use words::{Unread, Word};
+
+/// At least one octet, two hexadecimal digits each, in either case. They are written in lower case.
+pub struct HexWord;
+
+impl Word for HexWord {
+    ghost use Rattle.std.specs.Prelude.{ℕ, List};
+    ghost use Rattle.words.specs.HexOctets.{hex};
+
+    type Value = Octets;
+
+    ghost Seen = { List ℕ };
+
+    ghost kind = { hex 1 18446744073709551615 };
+
+    ghost seen = { λ octets. octets };
+
+    fn read(alloc: Global, word: &[u8]) -> Result<Octets, Unread> {
+        match hex::decode(alloc, word) {
+            Ok(octets) if octets.len() < 1 => Err(Unread::Bad),
+            Ok(octets) => Ok(Octets::from_vec(alloc, octets)?),
+            Err(FromHexError::OutOfMemory) => Err(Unread::Memory),
+            Err(_) => Err(Unread::Bad),
+        }
+    }
+
+    fn write(value: &Octets, into: &mut Vec<u8>) -> Result<(), AllocError> {
+        let octets = value.as_slice();
+        let start = into.len();
+        let digits = octets.len().checked_mul(2).ok_or(AllocError)?;
+        into.resize(start.checked_add(digits).ok_or(AllocError)?, 0)?;
+        hex::encode_to_slice(octets, &mut into[start..]).unwrap();
+        Ok(())
+    }
+}
