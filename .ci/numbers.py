@@ -55,7 +55,7 @@ provider_cli Status.code ->|provider_cli put_bad_site cause|station_config SiteF
 sle_numbers Numbered.number ->|sle_numbers Numbered.from_number number
 user_lines Tag.number ->|user_lines Told invoke|user_lines Told name
 explain_lines StreamLine tag|explain_words put_name number|explain_words put_why number
-explain_words put_invoker invoke|explain_words put_performer invoke
+explain_words put_invoker invoke|explain_words put_performer invoke|user_task Task.put invoke
 """
 
 PLAIN = ("tests_", "bench_", "sample_", "kill_", "plain_")
