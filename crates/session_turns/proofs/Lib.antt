@@ -1,0 +1,4 @@
+pub mod Making
+pub mod Steps
+pub mod Running
+pub mod Serving
