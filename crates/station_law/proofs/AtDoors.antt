@@ -1,7 +1,7 @@
 -- What is at each door once one of them changes.
 use Rattle.std.proofs.Common.{◌≡◌, ℕ, zero, suc, true, Option, Some, None, List, [], ◌∷◌, length}
 use Rattle.std.proofs.Common.{◌<◌, get_or, replicate, slice_get, set, refl, sym, ap, ◌∙◌, set-set}
-use Rattle.std.proofs.Common.{arith, Result, Ok, Err}
+use Rattle.std.proofs.Common.{arith, subst, Result, Ok, Err}
 use Rattle.std.proofs.lemmas.Option.{slice_get_read}
 use Rattle.std.specs.Prelude.{vec_items, OnErr}
 use Rattle.station_config.specs.declared.site.Site.{Site}
@@ -14,7 +14,7 @@ use Rattle.drill_text.specs.declared.script_line.ScriptLine.TheVariants.{Open}
 use Rattle.station_links.specs.Run.{Order, order_in}
 use Rattle.station_law.specs.declared.doors.Turns.{Turns}
 use Rattle.station_law.specs.Doors.{Doors, Act, opens, rounds_of, ordered, act_of, act, acted_by}
-use Rattle.station_law.specs.Doors.{acted}
+use Rattle.station_law.specs.Doors.{acted, acted_on}
 use Rattle.station_law.specs.Standing.{DoorsSeen, IsOpen, Match, IsThere, AreDoors, AreLeft, there}
 use Rattle.station_law.specs.Standing.{is_free, IsActed, IsAsked, IsOrdered, IsObeyed, HasGone}
 use Rattle.station_law.specs.Standing.{HasRan, HasActed}
@@ -175,6 +175,44 @@ goes seen left new d reading turns (Some a) v w said are asked taken left_is obe
     (ordered_open d.site turns.c v w out.0 a.order out.2 obeyed_so) in
     let slot : slice_get d.connections a.c ≡ Some (Some out.0) = rw (← asked.0) out.1 in
     rw (slot, ← asked.0, ← asked.1) gone
+
+-- Nobody is at a door from which nobody is taken: taking one out changes nothing there, and a line
+-- that asks something of it does nothing.
+module _ {X : Type 0} where
+  none_there : (o : Option (Option X)) (taken : Option X) → taken ≡ there o
+      → ((x : X) → taken ≡ Some x → ⊥) → there o ≡ None
+  none_there o None is nobody_out = sym is
+  none_there o (Some x) is nobody_out = absurd (nobody_out x refl)
+
+  set_none : (xs : List (Option X)) (c : ℕ) → there (slice_get xs c) ≡ None → set xs c None ≡ xs
+  set_none [] c is = refl
+  set_none (x ∷ xs) zero is = ap (λ (y : Option X). y ∷ xs) (sym is)
+  set_none (x ∷ xs) (suc c) is = ap (λ ys. x ∷ ys) (set_none xs c is)
+
+does_nothing : (d : Doors) (reading : ℕ) (a : Act) (site : Site) (c : ℕ)
+    (seen : Option (Option links.ConnectionState)) (at : Option (Option Connected))
+    → Match (IsThere site c) seen at → there seen ≡ None → acted_on d reading a at ≡ None
+does_nothing d reading a site c None None matched is = refl
+does_nothing d reading a site c None (Some at) matched is = absurd matched
+does_nothing d reading a site c (Some None) None matched is = absurd matched
+does_nothing d reading a site c (Some None) (Some None) matched is = refl
+does_nothing d reading a site c (Some None) (Some (Some l)) matched is = absurd matched
+does_nothing d reading a site c (Some (Some v)) at matched is = absurd cc
+
+pub misses : (seen new : DoorsSeen) (d : Doors) (reading : ℕ) (turns : Turns) (asks : Option Act)
+    (taken : Option links.ConnectionState) → AreDoors seen d → Match IsAsked (Some turns) asks
+    → ((v : links.ConnectionState) → taken ≡ Some v → ⊥)
+    → taken ≡ there (slice_get seen.connections turns.c)
+    → new ≡ record seen { connections = set seen.connections turns.c None }
+    → IsActed None d (acted d reading asks) new
+misses seen new d reading turns None taken are asked nobody_out is new_is = absurd asked
+misses seen new d reading turns (Some a) taken are asked nobody_out is new_is =
+    let none = none_there (slice_get seen.connections turns.c) taken is nobody_out in
+    let nothing : acted_on d reading a (slice_get d.connections a.c) ≡ None =
+    subst (λ k. acted_on d reading a (slice_get d.connections k) ≡ None) asked.0
+    (does_nothing d reading a d.site turns.c (slice_get seen.connections turns.c)
+    (slice_get d.connections turns.c) (are.at turns.c) none) in
+    rw (nothing, new_is, set_none seen.connections turns.c none) (refl, are)
 
 -- a line that opens no connection
 pub no_opening : (d : Doors) (reading : ℕ) (line : ScriptLine) → ((c : ℕ) → line ≡ Open c → ⊥)

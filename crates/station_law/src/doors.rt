@@ -246,9 +246,11 @@ fn turns_asked(c: u32, ask: &AskLine) -> Option<Turns>
     ensures { Match IsAsked result (comes_whole c (message_of ask.now)) }
 {
     match ask {
-        AskLine::Context { .. } | AskLine::Bind { .. } | AskLine::Unbind => {
-            Some(Turns { c, rounds: 1 })
-        }
+        AskLine::Context { .. }
+        | AskLine::Bind { .. }
+        | AskLine::Unbind
+        | AskLine::StartRaf { .. }
+        | AskLine::Stop => Some(Turns { c, rounds: 1 }),
         _ => None,
     }
 }
