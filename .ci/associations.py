@@ -34,13 +34,6 @@ BIND = (b"010000000000005dbf645a80001a034d4f431a05504f52543102010002010530443"
         b"310e300c06072b7004030102261a01313112301006072b7004030102161a056f6e6c6331")
 BIND_LINE = b"ask %d bind MOC 0 5 " + ONLC1 + b"\n"
 LOGIN = b"open %d\nask %d context 30 5\n" + BIND_LINE
-# a START of RAF for all frames and a STOP, with their returns; a frame's line, and the buffer with it
-START = b"010000000000000ea00c800002010080008000020102"
-STARTED = b"0100000000000009a10780000201008000"
-STOP = b"0100000000000007a2058000020100"
-STOPPED = b"0100000000000009a30780000201008000"
-FRAME = b"frame 20000/%d/0 0 41 0 0010a1\n"
-BUFFER = b"0100000000000020a81ea01c800080084e20000000%02d00008101410201ff020100800004030010a1"
 
 
 def login(connection):
@@ -124,16 +117,8 @@ def endings(opened):
     yield "a PEER-ABORT before the context", b"open 1\nin 1 %s\n" % PEER_ABORT, \
         b"ended 1 aborted 3\n"
     yield "a BIND while bound", login(1) + BIND_LINE % 1, bound(1) + b"ended 1 aborted 3\n"
-    yield "a STOP before a START", login(1) + b"in 1 %s\n" % STOP, bound(1) + b"ended 1 aborted 3\n"
     yield "a PDU of no service", login(1) + b"in 1 0100000000000002a200\n", \
         bound(1) + b"ended 1 aborted 5\n"
-    yield "a START and a STOP", \
-        login(1) + FRAME % 1 + b"in 1 %s\n" % START + FRAME % 2 + b"round 1 2\nin 1 %s\n" % STOP \
-        + FRAME % 3 + b"round 1 2\n", \
-        bound(1) + sent(1, STARTED) + sent(1, BUFFER % 2) + sent(1, STOPPED)
-    yield "a buffer that is kept", \
-        login(1) + b"in 1 %s\n" % START + FRAME % 1 + b"stall 1 2\nround 1 4\n", \
-        bound(1) + sent(1, STARTED) + b"stalled 1\n" * 2 + sent(1, BUFFER % 1)
     yield "an end frees the instance", login(1) + b"break 1\n" + login(1), \
         bound(1) + b"ended 1 fault\n" + bound(1)
     yield "an end is told once", opened + b"in 1 04%s\nopen 1\nround 1 1000\n" % (b"00" * 9), \
@@ -206,7 +191,8 @@ def wrong_states():
         yield b"open 2\n" + line + b"\n", b""
         yield b"open 1\nbreak 1\n" + line + b"\n", b"ended 1 fault\n"
         yield b"open 1\ncrash 0 old\n" + line + b"\n", b"crash\narchive 0\n"
-    for line in [b"ask 1 stop", b"ask 1 report now", b"ask 1 get 4", b"ask 1 start 1"]:
+    for line in [b"ask 1 report now", b"ask 1 get 4", b"ask 1 start 1",
+                 b"ask 1 start none none 1/1/1"]:
         yield b"open 1\n" + line + b"\n", b""
 
 

@@ -1,9 +1,10 @@
 """A second program for `drill`. It follows docs/PROFILE.md and shares nothing with the first: it
 works out each line from the whole archive, and knows neither bounds nor passes.
 """
-from forms import (PICOS, channel, element, identifier, integer, moment, name, number, octets,
-                   one_of, pdu_message, sent, time)
-from sessions import CONTEXT_BEGINS, MOST_PIECE, Book, Session, bind_pdu, unbind_pdu
+from deliveries import closes, continuity, spelled_buffer
+from forms import element, identifier, moment, name, number, octets, one_of, pdu_message, sent, time
+from sessions import (CONTEXT_BEGINS, MOST_PIECE, Book, Session, bind_pdu, start_pdu, stop_pdu,
+                      unbind_pdu)
 from sites import head_of
 
 MOST_OCTETS = 16_777_216
@@ -52,12 +53,20 @@ def context_message(interval, factor):
     return bytes([2, 0, 0, 0, 0, 0, 0, 12]) + body
 
 
-# what is behind `ask C`, and the message that it makes
+def when(word):
+    """A stamp, or None."""
+    return None if word == b"none" else time(word)
+
+
+# what is behind `ask C`, and the message that it makes; START of RAF alone is built
 ASKS = {
     b"context": (words_of([within(65_535), within(65_535)]), context_message),
     b"bind": (words_of([name, within(65_535), within(65_535, 1), identifier]),
               lambda *fields: pdu_message(bind_pdu(None, fields[0], b"PORT1", *fields[1:]))),
     b"unbind": (words_of([]), lambda: pdu_message(unbind_pdu(None, 0))),
+    b"start": (words_of([when, when, within(2)]),
+               lambda *fields: pdu_message(start_pdu(None, 0, *fields))),
+    b"stop": (words_of([]), lambda: pdu_message(stop_pdu(None, 0))),
 }
 
 
@@ -82,32 +91,18 @@ def line_of(line):
     return kind.decode(), *FORMS[kind](words)
 
 
-# ---- messages of the desk (X.690, CCSDS 911.1-B annex A)
+# ---- messages of the desk
 
 NULL = element(0x80, b"")
-END_OF_DATA = element(0xA1, NULL + element(0x83, b""))
-
-
-def frame_item(entry, gap):
-    _, (days, millis, picos, size), quality, antenna, _, frame = entry
-    rest = picos if size == 4 else picos // PICOS
-    stamp = days.to_bytes(2, "big") + millis.to_bytes(4, "big") + rest.to_bytes(size, "big")
-    return element(0xA0, NULL + element(0x81 if size == 4 else 0x80, stamp)
-                   + element(0x81, antenna) + integer(gap) + integer(quality) + NULL
-                   + element(0x04, frame))
 
 
 def buffer_message(items):
-    told = [END_OF_DATA if item == "end" else frame_item(*item) for item in items]
-    return pdu_message(element(0xA8, b"".join(told)))
+    return pdu_message(spelled_buffer([NULL] * len(items), items))
 
 
 def said(item):
-    """An item as a user reads it."""
-    if item == "end":
-        return item
-    (_, ert, quality, antenna, _, frame), gap = item
-    return ert, quality, antenna, gap, frame
+    """An item of the desk's as a user reads it."""
+    return [None, item]
 
 
 # ---- the archive and its STARTs
@@ -198,24 +193,12 @@ class File:
         return None, True
 
 
-def continuity(archive, before, place):
-    if before is None:
-        return -1
-    since = archive[before + 1:place + 1]
-    return min(MOST_LOST, sum(entry[4] for entry in since if entry[0] == "frame"))
-
-
-def closes(entry, stop):
-    return (entry[0] in ("frame", "mark") and moment(entry[1]) > stop
-            or entry[0] == "mark" and moment(entry[1]) == stop)
-
-
 def answer(archive, start, stop, quality):
     """The buffers of a START, each a list of its items as they are told."""
     places = [place for place, entry in enumerate(archive)
               if entry[0] == "frame" and start <= moment(entry[1]) <= stop
               and quality in (2, entry[2])]
-    items = [(archive[place], continuity(archive, before, place))
+    items = [(*archive[place][1:4], continuity(archive, before, place), archive[place][5])
              for before, place in zip([None] + places, places)]
     buffers = [items[i:i + 2] for i in range(0, len(items), 2)]
     if any(closes(entry, stop) for entry in archive):
@@ -233,7 +216,7 @@ class Run:
 
     def __init__(self, site):
         self.site, self.archive, self.file = site, [], File()
-        self.clock, self.book, self.sessions = 0, Book(), {}
+        self.clock, self.book, self.sessions = 0, Book(self.archive), {}
         self.written, self.read, self.full = b"", [], False
 
     def line(self, says):
@@ -278,7 +261,7 @@ class Run:
 
     def fail_power(self):
         """Connections and the book are new, and the archive is opened by what its file holds."""
-        self.sessions, self.book = {}, Book()
+        self.sessions, self.book = {}, Book(self.archive)
         self.written += b"crash\narchive %d\n" % len(self.archive)
 
     def start(self, start, stop, quality):

@@ -16,7 +16,7 @@ from collections import Counter
 sys.dont_write_bytecode = True
 from drills import drill
 from reading import read_sent
-from scripts import random_script
+from passes import random_script
 
 
 def told_kinds(transcript):

@@ -20,6 +20,7 @@ import associations
 import launching
 import rehearsals
 import starts
+import telemetry
 
 PROGRAM, LAUNCHER = sys.argv[1:3]
 MOST_OCTETS = 16_777_216
@@ -361,6 +362,7 @@ words()
 rehearsals.drive(run, check)
 associations.drive(run, check)
 starts.drive(run, check)
+telemetry.drive(run, check)
 statuses()
 lengths()
 faults()

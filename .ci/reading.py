@@ -2,44 +2,58 @@
 
 Each message is told as what it says; ValueError where it isn't one that the provider sends.
 """
-from forms import PICOS, Elements
-from sessions import (BIND_RETURN, HEARTBEAT_MESSAGE, INTEGER, OCTETS, SEQUENCE, TAG_0, TAG_1,
-                      UNBIND_RETURN, VISIBLE, digest)
+from forms import PICOS, Elements, element
+from sessions import (BIND_RETURN, HEARTBEAT_MESSAGE, INTEGER, MEMBERS_1, OCTETS, SEQUENCE,
+                      START_RETURN, STOP_RETURN, TAG_0, TAG_1, UNBIND_RETURN, VISIBLE, digest)
 
-BUFFER, FRAME, NOTIFICATION, END = b"\xa8", b"\xa0", b"\xa1", b"\x83"
+BUFFER, FRAME, NOTIFICATION = b"\xa8", b"\xa0", b"\xa1"
+LOSS, PRODUCTION, BACKLOG, END = b"\xa0", b"\x81", b"\x82", b"\x83"
 
 
-def read_frame(content):
-    fields = Elements(content)
-    fields.null(TAG_0)
-    (form, stamp), antenna = fields.one_of(TAG_0, TAG_1), fields.content(TAG_1)
-    gap, quality = fields.integer(INTEGER, -1, 16_777_215), fields.integer(INTEGER, 0, 2)
-    fields.null(TAG_0)
-    frame = fields.content(OCTETS)
-    fields.end()
+def read_stamp(form, stamp):
     size = 4 if form == TAG_1 else 2
     if len(stamp) != 6 + size:
         raise ValueError("a time of another form")
     parts = stamp[:2], stamp[2:6], stamp[6:]
     days, millis, rest = (int.from_bytes(part, "big") for part in parts)
-    ert = days, millis, rest if size == 4 else rest * PICOS, size
-    return ert, quality, antenna, gap, frame
+    return days, millis, rest if size == 4 else rest * PICOS, size
 
 
-def read_item(tag, content):
-    if tag == FRAME:
-        return read_frame(content)
-    fields = Elements(content)
+def read_frame(fields):
+    (form, stamp), antenna = fields.one_of(TAG_0, TAG_1), fields.content(TAG_1)
+    gap, quality = fields.integer(INTEGER, -1, 16_777_215), fields.integer(INTEGER, 0, 2)
     fields.null(TAG_0)
-    fields.null(END)
-    fields.end()
-    return "end"
+    return read_stamp(form, stamp), quality, antenna, gap, fields.content(OCTETS)
+
+
+def read_notification(fields):
+    tag, content = fields.one_of(LOSS, PRODUCTION, BACKLOG, END)
+    inner = Elements(content)
+    if tag == PRODUCTION:
+        return "production", integer_of(content, 2)
+    if tag == LOSS:
+        stamp = read_stamp(*inner.one_of(TAG_0, TAG_1))
+        locks = [inner.integer(INTEGER, 0, 3) for _ in range(3)]
+        inner.end()
+        return "loss", stamp, *locks
+    inner.end()
+    return "backlog" if tag == BACKLOG else "end"
+
+
+def integer_of(content, most):
+    """An INTEGER by its content alone."""
+    return Elements(element(INTEGER, content)).integer(INTEGER, 0, most)
 
 
 def read_buffer(buffer, site):
+    """Each item with what its credentials are made of."""
     items = []
     while buffer.rest:
-        items.append(read_item(*buffer.one_of(FRAME, NOTIFICATION)))
+        tag, content = buffer.one_of(FRAME, NOTIFICATION)
+        fields = Elements(content)
+        own = read_own(fields, site)
+        items.append([own, (read_frame if tag == FRAME else read_notification)(fields)])
+        fields.end()
     return items
 
 
@@ -72,7 +86,23 @@ def read_unbind_return(fields, site):
     return "unbound", own
 
 
-PDUS = [(BUFFER, read_buffer), (BIND_RETURN, read_bind_return), (UNBIND_RETURN, read_unbind_return)]
+def read_start_return(fields, site):
+    own, invoke = read_own(fields, site), fields.integer(INTEGER, 0, 65_535)
+    tag, content = fields.one_of(TAG_0, MEMBERS_1)
+    inner = Elements(content)
+    diagnostic = [] if tag == TAG_0 else [inner.integer(TAG_1, 0, 127)]
+    inner.end()
+    return "start refused" if diagnostic else "started", own, invoke, *diagnostic
+
+
+def read_stop_return(fields, site):
+    own, invoke = read_own(fields, site), fields.integer(INTEGER, 0, 65_535)
+    fields.null(TAG_0)
+    return "stopped", own, invoke
+
+
+PDUS = [(BUFFER, read_buffer), (BIND_RETURN, read_bind_return), (UNBIND_RETURN, read_unbind_return),
+        (START_RETURN, read_start_return), (STOP_RETURN, read_stop_return)]
 
 
 def read_sent(line, site):

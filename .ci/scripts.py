@@ -3,10 +3,11 @@ of them rightly. The same seed gives the same script.
 """
 import random
 
-from drills import Run, context_message, line_of
-from forms import DAY_MILLIS, MILLI, PICOS, SECOND, element, identifier, integer, pdu_message
-from sessions import (BIND, HEARTBEAT_MESSAGE, PEER_ABORT, UNBIND, bind_pdu, signed, stamp_of,
-                      unbind_pdu)
+from drills import Run, context_message, line_of, when
+from forms import (DAY_MILLIS, MILLI, PICOS, SECOND, element, identifier, integer, moment,
+                   pdu_message)
+from sessions import (BIND, HEARTBEAT_MESSAGE, PEER_ABORT, START, STOP, UNBIND, bind_pdu, signed,
+                      stamp_of, start_pdu, stop_pdu, unbind_pdu)
 from sites import head_of
 
 SIZES = [1, 2, 3, 100, 126, 127, 128, 129, 200, 255, 256, 1_115, 32_767, 65_535, 65_536, 65_537]
@@ -26,7 +27,9 @@ BAD_LINES = [
     b"frame 0/0/0 0 41 0 00 00", b"frame 0/0/0 0 " + b"41" * 17 + b" 0 00", b"\xff\x00",
     b"open", b"open 0", b"open 17", b"open 01", b"open 1 1", b"shut 0", b"break", b"round 1 0",
     b"round 1 1001", b"round 1", b"stall 1 0", b"stall 1 1001", b"in 1", b"in 1 0", b"in 1 0g",
-    b"in 1 " + b"00" * 65_537, b"ask 1", b"ask 1 stop", b"ask 1 report now", b"ask 1 get 4",
+    b"in 1 " + b"00" * 65_537, b"ask 1", b"ask 1 stop 0", b"ask 1 report now", b"ask 1 get 4",
+    b"ask 1 start none none", b"ask 1 start none none 3", b"ask 1 start none 0/0/1000 0",
+    b"ask 1 start none  0", b"ask 1 start 1", b"ask 1 start none none 1/1/1",
     b"ask 1 context 5", b"ask 1 context 65536 2", b"ask 1 context 5 65536", b"ask 1 unbind 0",
     b"ask 1 bind MO 0 5 raf=1", b"ask 1 bind MOC 65536 5 raf=1", b"ask 1 bind MOC 0 0 raf=1",
     b"ask 1 bind MOC 0 5 raf", b"ask 1 bind MOC 0 5 raf=", b"ask 1 bind MOC 0 5 ray=1",
@@ -164,8 +167,8 @@ class Entries:
 class Users:
     """Lines of connections. A run of the script so far tells which are open, and how they stand."""
 
-    def __init__(self, pick, run):
-        self.pick, self.run = pick, run
+    def __init__(self, pick, run, entries):
+        self.pick, self.run, self.entries = pick, run, entries
         # what is to arrive on a connection, piece by piece
         self.coming = {}
 
@@ -180,7 +183,7 @@ class Users:
             return [b"open %d" % connection if pick.random() < 0.995 else b"shut %d" % connection]
         if self.coming.get(connection):
             return [b"in %d %s" % (connection, self.coming[connection].pop(0).hex().encode())]
-        kind = pick.random()
+        kind = pick.random() if not session.is_active else 0.5 * pick.random()
         if kind < 0.1:
             return [b"round %d %d" % (connection, pick.choice([1, 1, 2, 3, 10, 1_000]))]
         if kind < 0.2:
@@ -228,6 +231,11 @@ class Users:
         pick, kind = self.pick, self.pick.random()
         if session.is_opening and 0.02 < kind < 0.98:
             return self.context()
+        if session.raf is not None and 0.2 < kind < 0.9:
+            is_other = pick.random() < 0.03
+            if session.is_active and kind < 0.6 and not is_other:
+                return None, HEARTBEAT_MESSAGE
+            return self.stop(session) if session.is_active != is_other else self.start(session)
         if kind < 0.02:
             tag = pick.choice([PEER_ABORT, PEER_ABORT, b"\xbf\x68"])
             return None, pdu_message(integer(pick.randrange(-2, 130), tag))
@@ -307,6 +315,32 @@ class Users:
         pdu = self.respelled(UNBIND, unbind_pdu(credentials, self.pick.choice([0, 0, 1, 127])))
         return b"unbind" if credentials is None else None, pdu_message(pdu)
 
+    def start(self, session):
+        pick, many = self.pick, len(self.entries.stamps)
+        near = [0, self.entries.at, pick.randrange(many)]
+        words = [self.entries.stamp(pick.choice(near)) if pick.random() < wanted else b"none"
+                 for wanted in (0.5, 0.4)]
+        stamps = [when(word) for word in words]
+        if None not in stamps and moment(stamps[1]) < moment(stamps[0]) and pick.random() < 0.8:
+            words, stamps = words[::-1], stamps[::-1]
+        quality, invoke = pick.choice([0, 0, 1, 2, 2, 2]), pick.choice([0, 0, 0, 0, 1, 65_535])
+        is_asked = invoke == 0
+        if pick.random() < 0.06:
+            # a time that names no moment
+            stamps[pick.randrange(2)] = pick.choice([
+                (0, DAY_MILLIS, 0, 2), (65_535, 2**32 - 1, 0, 4), (1, 0, 1_000 * PICOS, 2),
+                (1, 0, 1_000_000_000, 4), (20_000, DAY_MILLIS - 1, 65_535 * PICOS, 2)])
+            is_asked = False
+        credentials = self.credentials(session.peer)
+        pdu = self.respelled(START, start_pdu(credentials, invoke, *stamps, quality))
+        asked = b"start %s %s %d" % (*words, quality)
+        return asked if is_asked and credentials is None else None, pdu_message(pdu)
+
+    def stop(self, session):
+        credentials, invoke = self.credentials(session.peer), self.pick.choice([0, 0, 0, 2, 65_535])
+        pdu = self.respelled(STOP, stop_pdu(credentials, invoke))
+        return b"stop" if credentials is None and invoke == 0 else None, pdu_message(pdu)
+
     def respelled(self, tag, pdu):
         """The same PDU, with a longer length where one may have it; or with octets behind it."""
         pick, kind = self.pick, self.pick.random()
@@ -331,12 +365,12 @@ def entries_script(pick):
 def users_script(pick):
     lines = users_head(pick)
     entries, run = Entries(pick), Run(head_of(lines)[0])
-    users = Users(pick, run)
+    users = Users(pick, run, entries)
     for _ in range(pick.randrange(5, 90)):
-        kind = pick.random()
-        if kind < 0.03:
+        kind, has_started = pick.random(), any(each.is_active for each in run.sessions.values())
+        if kind < (0.2 if has_started else 0.03):
             entries.at = min(entries.at + 1, len(entries.stamps) - 1)
-        new = users.lines() if kind < 0.93 else [entries.line()]
+        new = users.lines() if kind < (0.55 if has_started else 0.93) else [entries.line()]
         if kind > 0.995:
             new = [pick.choice(BAD_LINES)]
         lines += new
@@ -349,9 +383,3 @@ def users_script(pick):
             # the script ends at such a line
             break
     return lines
-
-
-def random_script(seed):
-    pick = random.Random(seed)
-    lines = users_script(pick) if pick.random() < 0.6 else entries_script(pick)
-    return b"\n".join(lines) + (b"\n" if pick.random() < 0.8 else b"")

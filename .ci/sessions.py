@@ -5,6 +5,7 @@ Each round reads the octets that a connection holds anew, from their front.
 """
 import hashlib
 
+from deliveries import Raf, spelled_buffer, time_element
 from forms import (ATTRIBUTES, DAY_MILLIS, MILLI, PICOS, SECOND, Elements, element, integer,
                    moment, pdu_message, sent)
 from sites import CLTU, RAF, RCF
@@ -21,10 +22,12 @@ HEARTBEAT_MESSAGE = bytes([3, 0, 0, 0, 0, 0, 0, 0])
 BIND, BIND_RETURN = b"\xbf\x64", b"\xbf\x65"
 UNBIND, UNBIND_RETURN = b"\xbf\x66", b"\xbf\x67"
 PEER_ABORT = b"\x9f\x68"
+START, START_RETURN, STOP, STOP_RETURN = b"\xa0", b"\xa1", b"\xa2", b"\xa3"
 
 # inner tags
 SEQUENCE, SET, INTEGER, VISIBLE = b"\x30", b"\x31", b"\x02", b"\x1a"
 OCTETS, OBJECT, TAG_0, TAG_1 = b"\x04", b"\x06", b"\x80", b"\x81"
+MEMBERS_1 = b"\xa1"
 ATTRIBUTE_ARC = bytes.fromhex("2b7004030102")
 
 # diagnostics of BIND, and of an abort
@@ -178,6 +181,39 @@ def unbind_fields(fields):
     return (credentials,)
 
 
+def read_time(tag, content):
+    """A stamp, which may name no moment."""
+    size = len(content) - 6
+    if (tag, size) not in ((TAG_0, 2), (TAG_1, 4)):
+        raise ValueError("time")
+    days, millis, rest = (int.from_bytes(part, "big")
+                          for part in (content[:2], content[2:6], content[6:]))
+    return days, millis, rest * PICOS if size == 2 else rest, size
+
+
+def read_conditional(fields):
+    """A stamp, or None."""
+    tag, content = fields.one_of(TAG_0, MEMBERS_1)
+    if tag == TAG_0:
+        if content:
+            raise ValueError("undefined")
+        return None
+    inner = Elements(content)
+    stamp = read_time(*inner.one_of(TAG_0, TAG_1))
+    inner.end()
+    return stamp
+
+
+def start_fields(fields):
+    credentials, invoke = read_credentials(fields), fields.integer(INTEGER, 0, 65_535)
+    start, stop = read_conditional(fields), read_conditional(fields)
+    return credentials, invoke, start, stop, fields.integer(INTEGER, 0, 2)
+
+
+def stop_fields(fields):
+    return read_credentials(fields), fields.integer(INTEGER, 0, 65_535)
+
+
 def abort_fields(octets):
     """The diagnostic of a PEER-ABORT, or None where it doesn't decode."""
     try:
@@ -215,6 +251,19 @@ def unbind_pdu(credentials, reason):
     return element(UNBIND, spelled_credentials(credentials) + integer(reason))
 
 
+def spelled_conditional(stamp):
+    return element(TAG_0, b"") if stamp is None else element(MEMBERS_1, time_element(stamp))
+
+
+def start_pdu(credentials, invoke, start, stop, quality):
+    return element(START, spelled_credentials(credentials) + integer(invoke)
+                   + spelled_conditional(start) + spelled_conditional(stop) + integer(quality))
+
+
+def stop_pdu(credentials, invoke):
+    return element(STOP, spelled_credentials(credentials) + integer(invoke))
+
+
 # ---- a connection
 
 class Link:
@@ -240,10 +289,10 @@ class Link:
 
 
 class Book:
-    """Which door has an instance, and the latest moment."""
+    """What is published, which door has an instance, and the latest moment."""
 
-    def __init__(self):
-        self.doors, self.latest = {}, 0
+    def __init__(self, archive):
+        self.archive, self.doors, self.latest = archive, {}, 0
 
     def moment(self, reading):
         self.latest = max(self.latest, reading)
@@ -258,13 +307,15 @@ class Book:
 
 
 class Session:
-    """A session at a door: opening until its context came, unbound, or bound to a peer. Its block
-    is a message with what it says, or None."""
+    """A session at a door: opening until its context came, unbound, or bound to a peer, with its
+    instance where that is one of RAF. Its block is a message with what it says, or None, and so is
+    its buffer, once it is fixed."""
 
     def __init__(self, site, door, entered):
         self.site, self.door, self.link = site, door, Link()
-        self.held, self.block = b"", None
+        self.held, self.block, self.buffer = b"", None, None
         self.is_opening, self.peer, self.closing = True, None, None
+        self.raf, self.is_active = None, False
         self.interval = self.factor = 0
         self.sent = self.heard = entered
         self.number = (1 + door) % 2**31
@@ -284,9 +335,12 @@ class Session:
             self.sent = now
         if isinstance(heard, bytes):
             self.heard, self.held = now, self.held + heard
+        was_active = self.is_active
         end = self.act(heard, blocked, book, now)
         if end is None and not blocked:
-            end = self.speak(told, now)
+            if was_active and self.is_active and self.raf.step(book.archive, now):
+                self.fix(book.archive, now)
+            end = self.speak(told, book.archive, now)
         return told, end
 
     def offer(self, told):
@@ -322,12 +376,37 @@ class Session:
     def has_passed(self, now, since, seconds):
         return self.interval > 0 and now - since >= seconds * SECOND
 
-    def speak(self, told, now):
+    def fix(self, archive, now):
+        """The buffer that is due, with credentials for each of its items where the peer wants them."""
+        items = self.raf.told(archive)
+        own = [self.own_at_all(now) for _ in items]
+        says = [list(pair) for pair in zip(own, items)]
+        self.buffer = says, pdu_message(spelled_buffer(map(own_credentials, own), items))
+
+    def speak(self, told, archive, now):
         if not self.block and self.has_passed(now, self.sent, self.interval):
             self.block = ("heartbeat",), HEARTBEAT_MESSAGE
         if self.block and self.offer(told):
             self.sent = now
+        if not self.block and self.buffer and self.offer_buffer(told, archive):
+            self.sent = now
         return None if self.block else self.closing
+
+    def offer_buffer(self, told, archive):
+        """Offers the buffer. Whether it was taken."""
+        if self.link.stalls:
+            self.link.stalls -= 1
+            told.append((b"stalled %d\n" % self.door, None))
+            discarded = self.raf.stalled()
+            if discarded is not None:
+                told.append((b"discarded %d %d\n" % (self.door, discarded), None))
+                self.buffer = None
+            return False
+        says, message = self.buffer
+        told.append((sent(self.door, message), says))
+        self.raf.taken(archive)
+        self.buffer = None
+        return True
 
     # ---- messages: each gives the word with which the session ends, or None
 
@@ -355,13 +434,23 @@ class Session:
         elif tag == BIND:
             said, in_place, answer = decoded(BIND, bind_fields, octets), not bound, self.bind
         elif bound:
-            # no service is built: what isn't an UNBIND doesn't decode
-            said, in_place, answer = decoded(UNBIND, unbind_fields, octets), True, self.unbind
+            said, in_place, answer = self.bound_pdu(octets)
         else:
             said, in_place, answer = tag, False, None
         if said is None:
             return b"aborted %d" % ENCODING_ERROR
         return answer(*said, book, now) if in_place else b"aborted %d" % PROTOCOL_ERROR
+
+    def bound_pdu(self, octets):
+        """What a bound user's PDU says, whether it is in place, and what answers it. Of the services
+        START and STOP of RAF are built; nothing else decodes."""
+        said = decoded(UNBIND, unbind_fields, octets)
+        if said is not None or self.raf is None:
+            return said, not self.is_active, self.unbind
+        said = decoded(START, start_fields, octets)
+        if said is not None:
+            return said, not self.is_active, self.start
+        return decoded(STOP, stop_fields, octets), self.is_active, self.stop
 
     def bind(self, credentials, initiator, service, version, identifier, book, now):
         peer, instance = self.site.peer(initiator), self.site.instance(identifier)
@@ -382,6 +471,8 @@ class Session:
         if diagnostic is not None:
             return self.answer_bind(own, "refused", diagnostic)
         self.peer = peer
+        if service == RAF:
+            self.raf = Raf(instance.mode, instance.size, instance.latency * SECOND)
         return self.answer_bind(own, "bound", version)
 
     def answer_bind(self, own, word, result):
@@ -390,14 +481,48 @@ class Session:
         self.block = (word, own, self.site.provider, result), pdu_message(pdu)
 
     def unbind(self, credentials, book, now):
-        if self.peer.level == b"all" and not authentic(self.peer, credentials, now):
+        if self.is_false(credentials, now):
             return b"aborted %d" % ABORT_DENIED
-        own = self.credentials(self.peer, now) if self.peer.level == b"all" else None
+        own = self.own_at_all(now)
         book.free(self.door)
         self.closing = b"unbound"
         pdu = element(UNBIND_RETURN, own_credentials(own) + element(TAG_0, b""))
         self.block = ("unbound", own), pdu_message(pdu)
         return None
+
+    def start(self, credentials, invoke, start, stop, quality, book, now):
+        if self.is_false(credentials, now):
+            return b"aborted %d" % ABORT_DENIED
+        own, archive = self.own_at_all(now), book.archive
+        refusal = self.raf.refusal(archive, start, stop)
+        if refusal is None:
+            self.raf.start(archive, start, stop, quality)
+            self.is_active = True
+            says, result = ("started", own, invoke), element(TAG_0, b"")
+        else:
+            says = "start refused", own, invoke, refusal
+            result = element(MEMBERS_1, integer(refusal, TAG_1))
+        pdu = element(START_RETURN, own_credentials(own) + integer(invoke) + result)
+        self.block = says, pdu_message(pdu)
+        return None
+
+    def stop(self, credentials, invoke, book, now):
+        if self.is_false(credentials, now):
+            return b"aborted %d" % ABORT_DENIED
+        own = self.own_at_all(now)
+        self.raf.stop()
+        self.is_active, self.buffer = False, None
+        pdu = element(STOP_RETURN, own_credentials(own) + integer(invoke) + element(TAG_0, b""))
+        self.block = ("stopped", own, invoke), pdu_message(pdu)
+        return None
+
+    def is_false(self, credentials, now):
+        """Whether the credentials of a bound user's PDU are wanted and aren't his."""
+        return self.peer.level == b"all" and not authentic(self.peer, credentials, now)
+
+    def own_at_all(self, now):
+        """What the next credentials are made of, where each PDU of the provider's has some."""
+        return self.credentials(self.peer, now) if self.peer.level == b"all" else None
 
     def credentials(self, peer, now):
         """What the provider's next credentials are made of."""

@@ -24,6 +24,10 @@ class Instance:
     identifier: tuple
     owner: bytes
     service: int
+    # of a return service, with the latency limit in seconds
+    mode: bytes = b""
+    size: int = 0
+    latency: int = 0
 
 
 @dataclass
@@ -69,10 +73,9 @@ def owner(word):
 def returning(service):
     def instance(words):
         which, whose, mode, size, latency, timeout, *channels = words
-        made = Instance(identifier(which), owner(whose), service)
         offline = one_of(mode, (b"timely", b"complete", b"offline")) == b"offline"
-        number(size, 1_000, 1)
-        number(latency, 0 if offline else 3_600, 0 if offline else 1)
+        made = Instance(identifier(which), owner(whose), service, mode, number(size, 1_000, 1),
+                        number(latency, 0 if offline else 3_600, 0 if offline else 1))
         number(timeout, 600, 1)
         for word in channels:
             channel(word)

@@ -1,0 +1,117 @@
+"""Random scripts of passes: users who bind instances of RAF and start them, while entries come, the
+clock goes on and links stall.
+"""
+import random
+
+from drills import Run, context_message, line_of
+from forms import DAY_MILLIS, MILLI, SECOND, pdu_message
+from scripts import INSTANCES, PEERS, Entries, Users, entries_script, users_script
+from sessions import HEARTBEAT_MESSAGE, RAF, bind_pdu, unbind_pdu
+from sites import head_of
+
+MODES = [b"timely", b"timely", b"complete", b"complete", b"offline"]
+
+
+class Pass:
+    """The lines of a script, and a run of them so far."""
+
+    def __init__(self, pick):
+        self.pick, self.lines = pick, [b"site", *PEERS]
+        for which, peer in enumerate(PEERS):
+            mode = pick.choice(MODES)
+            self.lines.append(b"raf raf=%d.sagr=7 %s %s %d %d 60" % (
+                which, peer.split(b" ")[1], mode, pick.choice([1, 1, 2, 3, 10]),
+                0 if mode == b"offline" else pick.choice([1, 2, 5, 60])))
+        self.lines += [pick.choice(INSTANCES[4:7]), b"end"]
+        self.run = Run(head_of(self.lines)[0])
+        self.entries = Entries(pick)
+        self.users = Users(pick, self.run, self.entries)
+
+    def add(self, *lines):
+        """Whether the script goes on behind these lines."""
+        for line in lines:
+            self.lines.append(line)
+            try:
+                says = line_of(line)
+                if says is not None:
+                    self.run.line(says)
+            except ValueError:
+                return False
+        return True
+
+    def in_line(self, connection, octets):
+        return b"in %d %s" % (connection, octets.hex().encode())
+
+    def bind(self, connection):
+        """A user comes and binds an instance of his own."""
+        pick, site = self.pick, self.run.site
+        instance = pick.choice([each for each in site.instances if each.service == RAF])
+        peer = site.peer(instance.owner)
+        pdu = bind_pdu(self.signed(peer), peer.name, b"PORT1", RAF, 5, instance.identifier)
+        interval = pick.choice([0, 30, 600])
+        return [b"open %d" % connection, self.in_line(
+            connection, context_message(interval, 5) + pdu_message(pdu)), b"round %d 2" % connection]
+
+    def signed(self, peer):
+        """A peer's credentials, now and then wrong ones."""
+        made = self.users.credentials(peer)
+        while made is None and peer.level != b"none" and self.pick.random() < 0.9:
+            made = self.users.credentials(peer)
+        return made
+
+    def asks(self, connection, session):
+        """A START, or now and then a STOP and an UNBIND."""
+        users, kind = self.users, self.pick.random()
+        if session.is_active == (kind < 0.9):
+            asked, octets = users.stop(session)
+        elif kind < 0.8:
+            asked, octets = users.start(session)
+        else:
+            asked, octets = None, pdu_message(unbind_pdu(self.signed(session.peer), 0))
+        if asked is None or self.pick.random() < 0.5:
+            return self.in_line(connection, octets)
+        return b"ask %d %s" % (connection, asked)
+
+    def clock(self):
+        waits = [instance.latency for instance in self.run.site.instances] + [1, 30]
+        then = self.run.clock + self.pick.choice(waits) * SECOND + self.pick.choice([0, -1, 1]) * MILLI
+        days, millis = divmod(max(then, 0) // MILLI, DAY_MILLIS)
+        return b"clock %d/%d/0" % (min(days, 65_535), millis)
+
+    def next(self):
+        """The next lines: those of a connection, an entry, or the clock."""
+        pick, connection = self.pick, self.pick.choice([1, 1, 1, 2, 3])
+        session, kind = self.run.sessions.get(connection), pick.random()
+        if kind < 0.12:
+            self.entries.at = min(self.entries.at + 1, len(self.entries.stamps) - 1)
+        if kind < 0.35:
+            return [self.entries.line()]
+        if kind < 0.43:
+            return [self.clock()]
+        if session is None:
+            return self.bind(connection)
+        if session.raf is None or kind > 0.985:
+            return self.users.lines()
+        if not session.is_active and kind < 0.9 or kind < 0.46:
+            return [self.asks(connection, session)]
+        if kind < 0.58:
+            return [b"stall %d %d" % (connection, pick.choice([1, 1, 2, 3, 1_000]))]
+        if kind < 0.63:
+            return [self.in_line(connection, HEARTBEAT_MESSAGE)]
+        return [b"round %d %d" % (connection, pick.choice([1, 1, 1, 2, 3, 20]))]
+
+
+def pass_script(pick):
+    made = Pass(pick)
+    for _ in range(pick.randrange(20, 120)):
+        if not made.add(*made.next()):
+            break
+    return made.lines
+
+
+def random_script(seed):
+    pick = random.Random(seed)
+    kind = pick.random()
+    lines = pass_script(pick) if kind < 0.4 else users_script(pick) if kind < 0.75 \
+        else entries_script(pick)
+    return b"\n".join(lines) + (b"\n" if pick.random() < 0.8 else b"")
