@@ -1,29 +1,21 @@
 -- From the exact transcript to the headline and to completeness.
 use Rattle.std.proofs.Common.{◌≡◌, ◌⊎◌, ℕ, ◌+◌, ◌<◌, ◌≤◌, List, [], ◌∷◌, ◌++◌, length, map}
-use Rattle.std.proofs.Common.{take, drop, Option, Some, None, refl, sym, ap, subst, ◌∙◌, nat_lt}
-use Rattle.std.proofs.Common.{append_assoc, append-nil, length-append, length-take, arith, inl, inr}
-use Rattle.std.proofs.Common.{⊎_elim, false, zero, suc}
-use Rattle.std.proofs.Math.Seq.{take-append-add}
+use Rattle.std.proofs.Common.{Option, Some, None, refl, sym, ap, subst, ◌∙◌, nat_lt}
+use Rattle.std.proofs.Common.{append_assoc, arith, inl, inr}
+use Rattle.std.proofs.Common.{⊎_elim, false}
 use Rattle.std.proofs.lemmas.Bool.Decides.{leb_tells}
-use Rattle.std.proofs.lemmas.List.{take_all, take-append-drop, take-append-le}
+use Rattle.std.proofs.lemmas.List.{take_all}
 use Rattle.std.specs.List.{flat_map}
 use Rattle.std.specs.Option.{IfSome}
 use Rattle.octet_core.specs.Fault.{last_count, count_up, Rose}
-use Rattle.archive_terms.specs.Archive.{IsArchive, is_closed}
-use Rattle.archive_terms.specs.Selection.{picked}
-use Rattle.archive_terms.specs.Delivery.{Item, all_items}
-use Rattle.archive_terms.specs.Rounds.{to_hand_over}
+use Rattle.archive_terms.specs.Archive.{IsArchive}
 use Rattle.station_desk.specs.Start.{moment}
 use Rattle.sle_numbers.specs.RequestedFrameQuality.{number_of}
 use Rattle.station_law.specs.State.{start as new_world}
 use Rattle.station_desk.specs.ToldBuffer.{ToldBuffer, buffer_message}
-use Rattle.station_law.specs.Said.{Handed, handed, texts, handed_by}
-use Rattle.archive_terms.specs.Continuity.{told_buffers}
-use Rattle.station_law.specs.Sound.{IsRight, AreRight, items_of, handed_items}
-use Rattle.station_desk.specs.Start.{selection, terms}
-use Rattle.station_law.specs.Desk.{desk, handed_at_start}
+use Rattle.station_law.specs.Said.{handed, texts}
 use Rattle.station_law.specs.Lines.{step_text}
-use Rattle.station_law.specs.Runs.{IsAnswered, after, transcript, transcript_from, handed_after}
+use Rattle.station_law.specs.Runs.{IsAnswered, after, transcript, transcript_from}
 use Rattle.provider_cli.specs.declared.status.Status.{Status}
 use Rattle.provider_cli.specs.declared.status.Status.TheVariants.{Done, Usage, BadLine, BadSite}
 use Rattle.provider_cli.specs.declared.status.Status.TheVariants.{ReadFault, WriteFault, Full}
@@ -34,38 +26,13 @@ use Rattle.provider_cli.specs.Drilled.{DrillOutcome, ran, cut_off, given_up, unr
 use Rattle.provider_cli.specs.Drilled.{never}
 use Rattle.provider_cli.specs.Drilled.{Drilled, Completes}
 use Rattle.provider_cli.specs.Headline.{HasHeadline, HasWorld, terms_of, IsDelivered, HasRun}
-use Rattle.provider_cli.specs.Headline.{IsSent, sent, IsStreamed, IsReadOf, items_in, StaysRight}
-use Rattle.provider_cli.specs.Headline.{StaysTold}
+use Rattle.provider_cli.specs.Headline.{IsSent, sent, IsStreamed, IsReadOf}
 use Rattle.provider_cli.specs.Laws.{Laws}
 use Rattle.provider_cli.specs.Lines.{lines_of}
 use Rattle.provider_cli.specs.Outside.{Outside}
 use Rattle.provider_cli.specs.Script.{most_octets, script_of, script_text}
 use Rattle.provider_cli.specs.Start.{Start, IsStartOf, EachStart, world_at, archive_at}
-use Rattle.provider_cli.specs.Start.{archive_then, buffers_of, told_by, messages_of}
-
--- ---- beginnings
-
-front_le : {X : Type 0} (front whole : List X) → take (length front) whole ≡ front
-    → length front ≤ length whole
-front_le front whole is = omega (arith, simp length-take at (ap length is))
-
--- what begins a beginning begins the whole
-front_of_front : {X : Type 0} (front some all : List X) → take (length front) some ≡ front
-    → take (length some) all ≡ some → take (length front) all ≡ front
-front_of_front front some all is begins =
-    ap (take (length front)) (sym (take-append-drop (length some) all))
-    ∙ ap (λ (xs : List _). take (length front) (xs ++ drop (length some) all)) begins
-    ∙ take-append-le (length front) some (drop (length some) all) (front_le front some is) ∙ is
-
--- the items of the first few buffers begin those of all
-few_begin : (few : ℕ) (buffers : List (List Item))
-    → take (length (items_in (take few buffers))) (items_in buffers) ≡ items_in (take few buffers)
-few_begin zero buffers = refl
-few_begin (suc few) [] = refl
-few_begin (suc few) (buffer ∷ buffers) =
-    rw length-append (take-append-add buffer (items_in buffers)
-    (length (items_in (take few buffers)))
-    ∙ ap (λ rest. buffer ++ rest) (few_begin few buffers))
+use Rattle.provider_cli.specs.Start.{told_by, messages_of}
 
 -- ---- a START's line
 
@@ -82,66 +49,12 @@ module _ (laws : Laws) (script : List ℕ) (s : Start) (is : IsStartOf script s)
   abbrev answered : IsAnswered step_text (new_world s.site) s.earlier s.later is.line
   answered = at_line laws script s is
 
-  -- what it has handed over
-  abbrev its : Handed
-  its = handed_at_start (archive_at s) s.start s.stop (number_of s.quality)
-
-  abbrev starts : List Handed
-  starts = handed_after step_text (new_world s.site) [] s.earlier
-
-  -- the published entries are an archive at its line and later
-  archive_later : (some : ℕ) → IsArchive (archive_then s (take some s.later))
-  archive_later some = rw is.says at (answered.archive some)
-
-  -- what it has handed over is right then and later
-  right_later : (some : ℕ) → IsRight (archive_then s (take some s.later)) its
-  right_later some =
-      let all : AreRight (archive_then s (take some s.later))
-      (handed_by starts (desk (world_at s).store s.start s.stop (number_of s.quality)).said) =
-      rw is.says at (answered.right some) in
-      (subst (AreRight (archive_then s (take some s.later)))
-      (laws.hands (world_at s).store s.start s.stop (number_of s.quality) starts is.ordered) all).0
-
-  -- its buffers
-  items_are : items_of its.buffers ≡ buffers_of s
-  items_are = laws.items (archive_at s) s.start s.stop (number_of s.quality)
-
-  -- the items of all its buffers begin what it is to hand over
-  begins : (some : ℕ) → take (length (items_in (buffers_of s)))
-      (to_hand_over (terms s.start s.stop (number_of s.quality)) (archive_then s (take some s.later)))
-      ≡ items_in (buffers_of s)
-  begins some =
-      let archive = archive_then s (take some s.later) in
-      let same : archive ++ [] ≡ archive = append-nil archive in
-      let right : take (length (handed_items its))
-      (to_hand_over (terms s.start s.stop (number_of s.quality)) (archive ++ [])) ≡ handed_items its =
-      (right_later some).begins [] (subst IsArchive (sym same) (archive_later some)) in
-      let items : handed_items its ≡ items_in (buffers_of s) = ap items_in items_are in
-      subst (λ items. take (length items)
-      (to_hand_over (terms s.start s.stop (number_of s.quality)) archive) ≡ items) items
-      (subst (λ entries. take (length (handed_items its))
-      (to_hand_over (terms s.start s.stop (number_of s.quality)) entries) ≡ handed_items its) same right)
-
-  pub stays_right : StaysRight s
-  stays_right = λ few some.
-      let archive = archive_then s (take some s.later) in
-      let items : List Item = items_in (take few (buffers_of s)) in
-      let now : take (length items) (all_items (picked archive
-      (selection s.start s.stop (number_of s.quality))) (is_closed archive (moment s.stop))) ≡ items =
-      front_of_front items (items_in (buffers_of s)) _ (few_begin few (buffers_of s))
-      (begins some) in
-      record { frames = laws.begins _ _ items now; end_of_data = laws.ends _ _ items now }
-
-  pub stays_told : StaysTold s
-  stays_told = λ some.
-      let archive = archive_then s (take some s.later) in
-      ap (map buffer_message)
-      (ap (λ entries. told_by entries s) (sym (append-nil archive))
-      ∙ ap (told_buffers (archive ++ []) None) (sym items_are)
-      ∙ (right_later some).told [])
+  -- the published entries are an archive at its line
+  archive_now : IsArchive (archive_at s)
+  archive_now = rw is.says at (answered.archive 0)
 
   pub read_of : IsReadOf s
-  read_of = laws.readable (archive_at s) s.start s.stop (number_of s.quality) (archive_later 0)
+  read_of = laws.readable (archive_at s) s.start s.stop (number_of s.quality) archive_now
 
   pub streamed : IsStreamed s
   streamed = λ place. laws.streams place (messages_of s)

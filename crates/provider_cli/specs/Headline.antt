@@ -1,19 +1,14 @@
 -- What a drill promises of each START of its script, one fact each.
-use Rattle.std.specs.Prelude.{◌≡◌, ℕ, ◌+◌, IsTrue, IfSome, Option, None, List, [], ◌∷◌, ◌++◌}
+use Rattle.std.specs.Prelude.{◌≡◌, ℕ, ◌+◌, IfSome, Option, None, List, [], ◌++◌}
 use Rattle.std.specs.Prelude.{length, map, take}
-use Rattle.std.specs.List.{list_any, flat_map}
+use Rattle.std.specs.List.{flat_map}
 use Rattle.isp1_tml.specs.Message.{Content, spelling, spellings}
 use Rattle.isp1_tml.specs.Stream.{IsStream}
-use Rattle.archive_terms.specs.Archive as terms
-use Rattle.archive_terms.specs.Archive.{is_closed}
-use Rattle.archive_terms.specs.Selection.{picked}
-use Rattle.archive_terms.specs.Delivery.{Item, Terms, offline, started, entries_of, archived_items}
-use Rattle.archive_terms.specs.Delivery.{end_of_data, is_end_of_data}
+use Rattle.archive_terms.specs.Delivery.{Terms, offline, started}
 use Rattle.archive_terms.specs.Rounds.{free_round, outcomes, handed_buffers}
 use Rattle.station_config.specs.declared.site.Site.{Site}
 use Rattle.provider_cli.specs.declared.status.Status.{Status}
 use Rattle.station_desk.specs.declared.limits.TheConstants.{BUFFER_ITEMS}
-use Rattle.station_desk.specs.Start.{moment}
 use Rattle.sle_numbers.specs.RequestedFrameQuality.{number_of}
 use Rattle.station_law.specs.State.{start as new_world}
 use Rattle.station_law.specs.Said.{sent_text}
@@ -25,8 +20,8 @@ use Rattle.drill_text.specs.Reading.{reading}
 use Rattle.provider_cli.specs.Lines.{lines_of}
 use Rattle.provider_cli.specs.Script.{script_of, runs}
 use Rattle.provider_cli.specs.Outside.{Outside}
-use Rattle.provider_cli.specs.Start.{Start, world_at, archive_at, archive_then, buffers_of}
-use Rattle.provider_cli.specs.Start.{told_by, messages_by, messages_of}
+use Rattle.provider_cli.specs.Start.{Start, world_at, archive_at, buffers_of}
+use Rattle.provider_cli.specs.Start.{told_by, messages_of}
 use Rattle.station_desk.specs.Readable.{AreReadable}
 use Rattle.provider_cli.specs.Drilled.{GainsAll, GainsSome, DrillOutcome, ran, cut_off, given_up}
 use Rattle.provider_cli.specs.Drilled.{ended}
@@ -93,30 +88,3 @@ IsStreamed s = (place : ℕ) → IsStream place (spellings (messages_of s)) (mes
 -- A user reads of each message just what it says.
 abbrev pub IsReadOf : Start → Type 0
 IsReadOf s = AreReadable (told_by (archive_at s) s)
-
--- the items of buffers, one after another
-abbrev pub items_in : List (List Item) → List Item
-items_in buffers = flat_map (λ buffer. buffer) buffers
-
--- What a START handed over is right for an archive: its frames are, in order and each once, those
--- that begin the frames which the selection picks of the archive, and end of data stands only
--- behind all of them, and only where the stop is closed.
-pub record IsRightFor (items : List Item) (archive : List terms.Entry) (s : Start) : Type 0 where
-  pub frames : take (length (entries_of items))
-      (picked archive (selection s.start s.stop (number_of s.quality))) ≡ entries_of items
-  pub end_of_data : IsTrue (list_any is_end_of_data items)
-      → IsTrue (is_closed archive (moment s.stop))
-      × (items ≡ archived_items (picked archive (selection s.start s.stop (number_of s.quality)))
-      ++ end_of_data ∷ [])
-
--- So is what any first few of its buffers hold, for the archive at its line and after any first few
--- of the later ones.
-abbrev pub StaysRight : Start → Type 0
-StaysRight s =
-    (few some : ℕ)
-    → IsRightFor (items_in (take few (buffers_of s))) (archive_then s (take some s.later)) s
-
--- Its messages, continuity included, are those by the archive after any first few of the later
--- lines too.
-abbrev pub StaysTold : Start → Type 0
-StaysTold s = (some : ℕ) → messages_by (archive_then s (take some s.later)) s ≡ messages_of s

@@ -1,27 +1,21 @@
 -- The laws that a drill's promise rests on: of scripts and their connections, of deliveries, of
 -- buffers and what a user reads of them, and of streams.
-use Rattle.std.specs.Prelude.{◌≡◌, ℕ, ◌<◌, ◌≤◌, Bool, IsTrue, IsFalse, List, [], ◌∷◌, ◌++◌}
+use Rattle.std.specs.Prelude.{◌≡◌, ℕ, ◌<◌, IsFalse, List, []}
 use Rattle.std.specs.Prelude.{length, map, take, None}
-use Rattle.std.specs.List.{AllByRecursion, list_any}
+use Rattle.std.specs.List.{AllByRecursion}
 use Rattle.cds_time.specs.declared.cds.Cds.{Cds}
 use Rattle.isp1_tml.specs.Message.{Content, IsMessage, spellings}
 use Rattle.isp1_tml.specs.Stream.{IsStream}
 use Rattle.archive_terms.specs.Archive.{Entry, IsArchive}
 use Rattle.archive_terms.specs.Selection.{is_stop_closed}
-use Rattle.archive_terms.specs.Delivery.{Item, Terms, is_online, started, entries_of}
-use Rattle.archive_terms.specs.Delivery.{archived_items, all_items, end_of_data, is_end_of_data}
+use Rattle.archive_terms.specs.Delivery.{Terms, is_online, started}
 use Rattle.archive_terms.specs.Delivery.{offline_buffers}
 use Rattle.archive_terms.specs.Rounds.{free_round, picked_at, outcomes, handed_buffers}
 use Rattle.station_config.specs.declared.site.Site.{Site}
-use Rattle.station_law.specs.Store.{Store}
-use Rattle.station_desk.specs.Start.{moment}
 use Rattle.station_law.specs.State.{start as new_world}
 use Rattle.station_desk.specs.ToldBuffer.{ToldBuffer, buffer_message}
-use Rattle.station_law.specs.Said.{Handed, handed_by}
 use Rattle.station_desk.specs.Readable.{AreReadable}
-use Rattle.station_law.specs.Sound.{items_of}
-use Rattle.station_desk.specs.Start.{desk_buffers, told_desk}
-use Rattle.station_law.specs.Desk.{desk, handed_at_start}
+use Rattle.station_desk.specs.Start.{told_desk}
 use Rattle.station_law.specs.Lines.{step_text}
 use Rattle.station_law.specs.Runs.{Headline}
 use Rattle.station_law.specs.Connections.{AreSessions}
@@ -29,13 +23,6 @@ use Rattle.drill_text.specs.Reading.{reading}
 use Rattle.script_world.specs.Script.{AreInWorld}
 
 pub record Laws : Type 0 where
-  pub begins : (entries : List (ℕ × Entry)) (closed : Bool) (items : List Item)
-      → take (length items) (all_items entries closed) ≡ items
-      → take (length (entries_of items)) entries ≡ entries_of items
-  pub ends : (entries : List (ℕ × Entry)) (closed : Bool) (items : List Item)
-      → take (length items) (all_items entries closed) ≡ items
-      → IsTrue (list_any is_end_of_data items)
-      → IsTrue closed × (items ≡ archived_items entries ++ end_of_data ∷ [])
   pub rounds : (t : Terms) (entries : List Entry) (front : ℕ) (moments : List ℕ) → 0 < t.size
       → IsFalse (is_online t.mode)
       → handed_buffers (outcomes t entries (map (free_round front) moments) started)
@@ -43,13 +30,6 @@ pub record Laws : Type 0 where
       (is_stop_closed t.selection (take front entries)))
   pub headline : (site : Site) (lines : List (List ℕ))
       → Headline step_text (new_world site) lines
-  pub hands : (state : Store) (start stop : Cds) (quality : ℕ) (starts : List Handed)
-      → moment start ≤ moment stop
-      → handed_by starts (desk state start stop quality).said
-      ≡ handed_at_start state.published start stop quality ∷ starts
-  pub items : (entries : List Entry) (start stop : Cds) (quality : ℕ)
-      → items_of (handed_at_start entries start stop quality).buffers
-      ≡ desk_buffers entries start stop quality
   pub readable : (entries : List Entry) (start stop : Cds) (quality : ℕ) → IsArchive entries
       → AreReadable (told_desk entries start stop quality)
   pub messages : (told : List ToldBuffer) → AreReadable told

@@ -7,14 +7,13 @@ use Rattle.provider_cli.specs.Drilled.{ended, HasText, HasReads, HasWrites, HasS
 use Rattle.provider_cli.specs.Start.{EachStart}
 use Rattle.provider_cli.specs.Headline.{HasHeadline, HasWorld, IsDelivered, IsSent, IsStreamed}
 use Rattle.provider_cli.specs.Headline.{IsReadOf}
-use Rattle.provider_cli.specs.Headline.{StaysRight, StaysTold}
 use Rattle.provider_cli.specs.Connection.{EachConnection, IsSessionOf, HasHistory}
 
 -- By the status that the exit code is: what was written, which calls failed, what the script is,
 -- and that it ends with its own status. Then what holds of each line that was run; that the lines
--- are events of a world, which has the headline; and of each START what delivers its buffers, where
--- its messages stand in the output, that they are a stream, what a user reads of them, and that
--- they stay right and as told for the archive after each later line. And of each connection: that
+-- are events of a world, which has the headline, so that what each START has handed over is right
+-- behind all later ones; and of each START what delivers its buffers, where its messages stand in
+-- the output, that they are a stream, and what a user reads of them. And of each connection: that
 -- what is said of it is *Session*, on the script's one book.
 pub record IsDrill (before after : Outside) (exit : ℕ) : Type 0 where
   pub status : Status
@@ -30,7 +29,5 @@ pub record IsDrill (before after : Outside) (exit : ℕ) : Type 0 where
   pub sent : EachStart before.left (IsSent before after status)
   pub streamed : EachStart before.left IsStreamed
   pub read : EachStart before.left IsReadOf
-  pub stays_right : EachStart before.left StaysRight
-  pub stays_told : EachStart before.left StaysTold
   pub sessions : EachConnection before.left IsSessionOf
   pub history : HasHistory before.left

@@ -47,12 +47,9 @@ pub record IsStartOf (script : List ℕ) (s : Start) : Type 0 where
 abbrev pub EachStart : Option (List ℕ) → (Start → Type 0) → Type 0
 EachStart input IsSo = IfSome input (λ script. (s : Start) → IsStartOf script s → IsSo s)
 
--- the archived entries when it is taken, and after some of the later lines
+-- the archived entries when it is taken
 abbrev pub archive_at : Start → List Entry
 archive_at s = (world_at s).store.published
-
-abbrev pub archive_then : Start → List (List ℕ) → List Entry
-archive_then s lines = (after step_text (world_at s) lines).store.published
 
 -- the buffers that it hands over, and their messages by an archive
 abbrev pub buffers_of : Start → List (List Item)

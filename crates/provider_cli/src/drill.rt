@@ -12,13 +12,13 @@ ghost use Rattle.provider_cli.specs.Laws.{Laws};
 use crate::put::put_line;
 use crate::run::run_script;
 use crate::status::Status;
-use archive_terms::laws::{offline_rounds, prefix_of_all_items};
+use archive_terms::laws::offline_rounds;
 use isp1_tml::laws::spelled_is_read;
 use octet_core::{Sink, Source};
 use script_world::laws::a_script_is_events;
 use station_desk::laws::a_start_is_read;
 use station_law::Stop;
-use station_law::laws::{a_start_hands_over, connections_are_sessions, headline_law};
+use station_law::laws::{connections_are_sessions, headline_law};
 use std::alloc::{AllocError, Global};
 
 /// The most octets that a script may have.
@@ -48,10 +48,8 @@ fn laws()
     headline_law();
     a_script_is_events();
     connections_are_sessions();
-    a_start_hands_over();
     a_start_is_read();
     offline_rounds();
-    prefix_of_all_items();
     spelled_is_read();
 }
 

@@ -1,5 +1,5 @@
 use Rattle.provider_cli.specs.Outside.{Outside, showing}
-use Rattle.provider_cli.proofs.Promises.{delivered, read_of, streamed, stays_right, stays_told}
+use Rattle.provider_cli.proofs.Promises.{delivered, read_of, streamed}
 use Rattle.provider_cli.proofs.Promises.{each_start, each_sent, has_headline, has_world, completes}
 use Rattle.provider_cli.proofs.Sessions.{each_connection, is_session, has_history}
 use Rattle.provider_cli.proofs.drill.drill.Goals as goal
@@ -27,8 +27,6 @@ returns g c =
       sent = each_sent laws before after c.read_and_run.result c.read_and_run.ensures.text;
       streamed = each_start before.left _ (streamed laws);
       read = each_start before.left _ (read_of laws);
-      stays_right = each_start before.left _ (stays_right laws);
-      stays_told = each_start before.left _ (stays_told laws);
       sessions = each_connection before.left _ (is_session laws);
       history = has_history laws before.left;
     }
