@@ -41,9 +41,11 @@ case $1 in
     ci)
         [ -z "$CHANGES" ] || echo >>"$CHANGES"
         sed 's/[ :].*/ proved/; s/^/rt: /; s/cds_time proved/cds_time is kept: so/' crates.txt
-        mkdir -p crates/provider_cli/out
-        printf '#!/bin/sh\necho "proved program: $*"\n' >crates/provider_cli/out/provider_cli
-        chmod +x crates/provider_cli/out/provider_cli
+        for main in provider_cli explain_cli; do
+            mkdir -p crates/$main/out
+            printf '#!/bin/sh\necho "proved program: $*"\n' >crates/$main/out/$main
+            chmod +x crates/$main/out/$main
+        done
         ;;
 esac
 exit "${STATUS:-0}"
@@ -102,7 +104,7 @@ class Copy:
 # ---- words
 
 OWN = [[b"help"], [b"--help"], [b"-h"], [b"--version"], [b"prove"]]
-COMMANDS = [b"drill", b"rehearse", b"init", b"list", b"prove"]
+COMMANDS = [b"drill", b"rehearse", b"init", b"list", b"explain", b"prove"]
 # words outside the launcher's own grammar, which the program refuses too
 OUTSIDE = [
     *([*words, more] for words in OWN[1:] for more in [b"", b"x", b"drill"]),
@@ -271,6 +273,30 @@ def prove(copy, check):
     check("proved, words", copy.run([b"rehearse", b"0"]), USAGE)
 
 
+def explaining(copy, check):
+    """`explain` is a program of its own, which `prove explain` proves."""
+    says = {"SAYS": ENDED, "OUTPUT": "a\nb"}
+    copy.forget()
+    found = copy.run([b"explain", b"raf"], b"lines", says)
+    check("unproved explain", (*found[:2], is_told(found[2])), (0, b"a\nb", True))
+    check("unproved explain, how", found[2].count(b"`bin/provider prove explain`"), 2)
+    check("unproved explain, input", copy.noted("input"), b"lines")
+    where = f"{copy.top}/crates/explain_cli try --seconds 600 -- explain raf\n"
+    check("unproved explain, words", copy.noted("words"), where.encode())
+    copy.run([b"explain"], b"x" * 67_108_900, says)
+    check("unproved explain, a long input", len(copy.noted("input")), 67_108_865)
+    path = f"{copy.top}/{PROGRAM}".replace("provider_cli", "explain_cli")
+    check("prove explain", copy.run([b"prove", b"explain"])[:2], (0, path.encode() + b"\n"))
+    for line in [[b"explain"], [b"explain", b"cltu"]]:
+        said = b"proved program: " + b" ".join(line) + b"\n"
+        check(f"proved {line}", copy.run(line), (0, said, b""))
+    check("proved explain alone", (copy.top / PROGRAM).exists(), False)
+    shutil.rmtree(Path(path).parent)
+    for line in [[b"explain", b"x"], [b"explain", b"raf", b"raf"], [b"prove", b"x"],
+                 [b"prove", b"explain", b"x"]]:
+        check(f"launcher, refused {line}", copy.run(line), USAGE)
+
+
 def is_proved(copy):
     given = {"SAYS": ENDED, "OUTPUT": "unproved"}
     output = copy.run([b"drill"], given=given)[1]
@@ -424,7 +450,7 @@ def drive(launcher, run, check, outside):
             first = real.start([b"drill"], stdin=script)
         words(copy, run, check, outside)
         own_words(copy, check)
-        for part in unproved, inputs, prove, sameness, failing_proofs, gate, signals:
+        for part in unproved, inputs, explaining, prove, sameness, failing_proofs, gate, signals:
             part(copy, check)
         output, errors = first.communicate(timeout=600)
         expected = run([b"drill"], (TOP / "examples/first-pass.script").read_bytes())[1]

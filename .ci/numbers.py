@@ -54,8 +54,9 @@ provider_cli provide_on ->|provider_cli provide ->|provider_cli tell ->|provider
 provider_cli Status.code ->|provider_cli put_bad_site cause|station_config SiteFault cause
 sle_numbers Numbered.number ->|sle_numbers Numbered.from_number number
 user_lines Tag.number ->|user_lines Told invoke|user_lines Told name
-explain_lines StreamLine tag|explain_words put_name number|explain_words put_why number
-explain_words put_invoker invoke|explain_words put_performer invoke|user_task Task.put invoke
+explain_cli Status.code ->|explain_lines StreamLine tag|explain_words put_name number
+explain_words put_why number|explain_words put_invoker invoke|explain_words put_performer invoke
+user_task Task.put invoke
 """
 
 PLAIN = ("tests_", "bench_", "sample_", "kill_", "plain_")
