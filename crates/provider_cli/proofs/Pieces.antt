@@ -5,6 +5,8 @@ use Rattle.std.proofs.Common.{Some, None, List, [], ◌∷◌, ◌++◌, refl, s
 use Rattle.std.specs.List.{AllByRecursion}
 use Rattle.bind_pdu.specs.Binding.{bind}
 use Rattle.bind_pdu.specs.Unbinding.{unbind}
+use Rattle.return_pdu.specs.Starting.{raf_start}
+use Rattle.return_pdu.specs.Stopping.{stop}
 use Rattle.words.specs.Line as line
 use Rattle.words.specs.Parts.{parts}
 use Rattle.words.specs.Steps.{◌>>=◌, some_bind, some_is, chosen}
@@ -13,13 +15,14 @@ use Rattle.drill_text.specs.Reading.{reading, forms}
 use Rattle.drill_text.specs.Script.{script_row, Behind, line_of, is_skipped}
 use Rattle.drill_text.specs.declared.ask_line.AskLine.{AskLine}
 use Rattle.drill_text.specs.declared.ask_line.AskLine.TheVariants.{Context, Bind, Unbind}
+use Rattle.drill_text.specs.declared.ask_line.AskLine.TheVariants.{StartRaf, Stop}
 use Rattle.drill_text.specs.declared.script_form.ScriptForm.{ScriptForm}
 use Rattle.drill_text.specs.declared.script_form.ScriptForm.TheVariants.{In, Ask, Shut, Break}
 use Rattle.drill_text.specs.declared.script_form.ScriptForm.TheVariants.{Stall}
 use Rattle.drill_text.specs.declared.script_line.ScriptLine.{ScriptLine}
 use Rattle.drill_text.specs.declared.script_line.ScriptLine.TheVariants.{Skip}
 use Rattle.station_config.specs.declared.site.Site.{Site}
-use Rattle.station_links.specs.Asked.{message_of, bind_asked, unbind_asked}
+use Rattle.station_links.specs.Asked.{message_of, bind_asked, unbind_asked, start_asked, stop_asked}
 use Rattle.station_links.specs.Connected.{Connected}
 use Rattle.station_links.specs.Run.{Deed, BringsPieces}
 use Rattle.station_law.specs.Connections.{Life, life, life_by, at_door, deeds_at, deeds_by}
@@ -27,8 +30,8 @@ use Rattle.station_law.specs.Connections.{orders_in, turns_of}
 use Rattle.station_law.specs.Doors.{Act, act_of, comes_whole, ordered}
 use Rattle.station_law.specs.Lines.{step_read}
 use Rattle.station_law.specs.State.{State}
-use Rattle.provider_cli.proofs.PiecesSpelled.{bind_formed, unbind_formed, context_piece}
-use Rattle.provider_cli.proofs.PiecesSpelled.{pdu_piece}
+use Rattle.provider_cli.proofs.PiecesSpelled.{bind_formed, unbind_formed, start_formed, stop_formed}
+use Rattle.provider_cli.proofs.PiecesSpelled.{context_piece, pdu_piece}
 
 -- ---- what a line brings
 
@@ -42,6 +45,12 @@ asked c (Bind name service version id) fits =
     let t = bind.tree (bind_asked name service version id) in
     (pdu_piece t (bind_formed name service version id fits), tt)
 asked c Unbind fits = (pdu_piece (unbind.tree unbind_asked) unbind_formed, tt)
+asked c (StartRaf first last quality) fits = (
+  pdu_piece (raf_start.tree (start_asked first last quality))
+      (start_formed first last quality),
+  tt,
+)
+asked c Stop fits = (pdu_piece (stop.tree stop_asked) stop_formed, tt)
 asked c _ fits = tt
 
 line_brings : (f : ScriptForm) (p : Behind f) → (script_row f).Fits p

@@ -1,8 +1,8 @@
 -- A message that a script asks for is octets: the canonical spelling of a well-formed tree is, and
--- the trees of a BIND and an UNBIND that are asked are well formed.
+-- the trees of the PDUs that are asked are well formed.
 use Rattle.std.proofs.Common.{◌≡◌, ℕ, zero, suc, ◌<◌, Bool, true, false, nat_lt, if◌then◌else◌}
 use Rattle.std.proofs.Common.{IsTrue, List, [], ◌∷◌, ◌++◌, length, pos, refl, sym, subst, arith}
-use Rattle.std.proofs.Common.{rules}
+use Rattle.std.proofs.Common.{Option, Some, None, rules}
 use Rattle.std.proofs.lemmas.Bool.{ltb-true}
 use Rattle.std.proofs.lemmas.Nat.{mod_below}
 use Rattle.std.specs.Int.{w64, to_be_bytes}
@@ -16,6 +16,12 @@ use Rattle.ber_core.specs.Tree.{Tree, Trees, primitive, constructed, no_trees, t
 use Rattle.ber_core.specs.Tree.{IsWellFormed, AreWellFormed}
 use Rattle.ber_shape.specs.Identifier.{identifier_so}
 use Rattle.ber_shape.specs.List.{each_tree}
+use Rattle.cds_time.specs.declared.cds.Cds.{Cds}
+use Rattle.cds_time.specs.declared.cds.Rest.{Rest}
+use Rattle.cds_time.specs.declared.cds.Rest.TheVariants.{Micros, Picos}
+use Rattle.sle_numbers.specs.RequestedFrameQuality.{number_of}
+use Rattle.sle_numbers.specs.declared.requested_frame_quality.RequestedFrameQuality.{RequestedFrameQuality}
+use Rattle.sle_common.specs.Time.{time, conditional_time}
 use Rattle.sle_common.specs.Attribute.{arc_of}
 use Rattle.sle_common.specs.Identifier.{is_value, is_value_octet}
 use Rattle.sle_common.specs.IdentifierOctets.{attribute_octets, part, parts_trees}
@@ -25,6 +31,8 @@ use Rattle.sle_common.specs.declared.attribute.Attribute.TheVariants.{Raf, Rcf, 
 use Rattle.sle_common.specs.declared.instance_id.InstancePart.{InstancePart}
 use Rattle.bind_pdu.specs.Binding.{bind}
 use Rattle.bind_pdu.specs.Unbinding.{unbind}
+use Rattle.return_pdu.specs.Starting.{raf_start}
+use Rattle.return_pdu.specs.Stopping.{stop}
 use Rattle.isp1_tml.specs.Message.{header, spelling, pdu, context}
 use Rattle.session_core.specs.Session.{AreOctets}
 use Rattle.words.specs.Alphabet.{Of}
@@ -32,7 +40,7 @@ use Rattle.words.specs.Identifiers.{fits_identifier, value_octets}
 use Rattle.words.specs.Names.{is_graphic, name_octets}
 use Rattle.drill_text.specs.Asks.{ask}
 use Rattle.drill_text.specs.declared.ask_line.AskLine.TheVariants.{Bind}
-use Rattle.station_links.specs.Asked.{port, bind_asked, unbind_asked}
+use Rattle.station_links.specs.Asked.{port, bind_asked, unbind_asked, start_asked, stop_asked}
 
 -- ---- lists of octets
 
@@ -185,6 +193,34 @@ bind_formed name service version id fits =
 pub unbind_formed : IsWellFormed (unbind.tree unbind_asked)
 unbind_formed =
     (identifier_so true (0xbf ∷ 0x66 ∷ []) refl, (no_credentials, (number_formed 0, tt)))
+
+time_formed : (days millis : ℕ) (rest : Rest)
+    → IsWellFormed (time.tree (record { days = days; millis = millis; rest = rest }))
+time_formed days millis (Micros n) =
+    (identifier_so false (0x80 ∷ []) refl, search (rules, mod_below))
+time_formed days millis (Picos n) =
+    (identifier_so false (0x81 ∷ []) refl, search (rules, mod_below))
+
+when_formed : (t : Option Cds) → IsWellFormed (conditional_time.tree t)
+when_formed None = no_credentials
+when_formed (Some t) =
+    (identifier_so true (0xa1 ∷ []) refl, (time_formed t.days t.millis t.rest, tt))
+
+pub start_formed : (first last : Option Cds) (quality : RequestedFrameQuality)
+    → IsWellFormed (raf_start.tree (start_asked first last quality))
+start_formed first last quality = (
+  identifier_so true (0xa0 ∷ []) refl,
+  (
+    no_credentials,
+    (
+      number_formed 0,
+      (when_formed first, (when_formed last, (number_formed (number_of quality), tt))),
+    ),
+  ),
+)
+
+pub stop_formed : IsWellFormed (stop.tree stop_asked)
+stop_formed = (identifier_so true (0xa2 ∷ []) refl, (no_credentials, (number_formed 0, tt)))
 
 -- ---- messages of the transport
 
