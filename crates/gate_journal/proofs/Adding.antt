@@ -3,6 +3,7 @@ use Rattle.std.proofs.Common.{◌≡◌, ◌≢◌, inl, inr, ℕ, ◌+◌, List
 use Rattle.std.proofs.Common.{length, take, drop, slice_index, Option, Some}
 use Rattle.std.proofs.Common.{None, option_map, refl, sym, ◌∙◌, ap, subst, arith, append_assoc}
 use Rattle.std.proofs.lemmas.Bool.{cases_eq}
+use Rattle.std.proofs.lemmas.Grind.{common_steps}
 use Rattle.std.proofs.lemmas.List.{take_at, set_at}
 use Rattle.std.proofs.lemmas.List.{take-append-drop, length-append}
 use Rattle.archive_terms.specs.Archive.{Entry, IsArchive}
@@ -12,8 +13,9 @@ use Rattle.disk_model.specs.Images.{written_and_synced}
 use Rattle.disk_model.specs.Moments.{IsImageOf}
 use Rattle.disk_model.specs.Facts.Images.{written_behind, only_synced, as_before, but_for_one}
 use Rattle.gate_journal.specs.File.{header, gated, batch_octets, IsBatch, Leads, StandsAt}
-use Rattle.gate_journal.specs.File.{StandsFor}
-use Rattle.gate_journal.specs.JournalState.{Keeps, IsAtRest, IsOldOrNew, IsReady, closed_batch}
+use Rattle.gate_journal.specs.File.{StandsFor, entries_octets}
+use Rattle.gate_journal.specs.JournalState.{Keeps, IsAtRest, IsOldOrNew, IsInPlace, IsReady}
+use Rattle.gate_journal.specs.JournalState.{closed_batch}
 use Rattle.gate_journal.proofs.Growth.{gated_more, leads_more}
 use Rattle.gate_journal.proofs.Unique.{stands_for_one}
 
@@ -51,6 +53,16 @@ stands_opened batches entries batch gate rest file leads is_batch archive is = r
   shut = λ same. cc;
   is = is ∙ rw (gated_more batches batch) (simp append_assoc);
 }
+
+pub closed_size : (batch : List Entry)
+    → length (closed_batch batch) ≡ length (entries_octets batch) + 7
+closed_size batch = grind (arith, common_steps)
+
+-- a file in place stands for what it has
+pub old_or_new : (entries batch : List Entry) (gate : ℕ) (file : List ℕ)
+    → IsInPlace entries batch gate file → IsOldOrNew entries batch file
+old_or_new entries batch gate file (inl old) = inl (gate, old)
+old_or_new entries batch gate file (inr new) = inr (_, new)
 
 pub kept_image : (pending : Option Pending) (entries : List Entry) (image : List ℕ)
     → Keeps pending entries → IsImageOf pending image → StandsFor entries image
@@ -148,18 +160,23 @@ module _ {told : Pending} {gate : ℕ} (at_rest : IsAtRest (Some told) gate) whe
           rw ready.spelled (stands_opened held.batches entries batch gate _ file leads
           ready.is_batch (ready.archive entries keeps) (rw ready.spelled at is))
 
+      stands_behind : (file : List ℕ) → file ≡ with_gate 165 octets
+          → StandsAt (entries ++ batch) (gate + (length (entries_octets batch) + 7)) file
+      stands_behind file is = subst (λ (n : ℕ). StandsAt (entries ++ batch) (gate + n) file)
+          (ap length ready.spelled ∙ closed_size batch) (stands_whole file is)
+
       -- and then the gate alone
       second_image : (image : List ℕ)
           → IsImage (with_range gate 1 [] (all_synced (with_gate held.gate octets))) image
-          → IsOldOrNew entries batch image
+          → IsInPlace entries batch gate image
       second_image image is =
           let past = behind held.rest octets in
           let there = but_for_one (with_gate held.gate octets) image gate
           (omega (arith, front_there, length-append front (held.gate ∷ past))) is
           ∙ set_at front held.gate past (slice_index image gate) gate front_there in
           elim (cases_eq (slice_index image gate) 165) [
-            | inl opened ↦ inr (gate + length octets, stands_whole image (rw opened at there))
-            | inr closed ↦ inl (gate, stands_gated octets _ image closed there)
+            | inl opened ↦ inr (stands_behind image (rw opened at there))
+            | inr closed ↦ inl (stands_gated octets _ image closed there)
           ]
 
 -- ---- the whole of it over what a disk tells
@@ -167,16 +184,16 @@ module _ {told : Pending} {gate : ℕ} (at_rest : IsAtRest (Some told) gate) whe
 pub first_holds : ReadBack → (old : Option Pending) (gate : ℕ) (octets : List ℕ) → IsAtRest old gate
     → (batch entries : List Entry) → Keeps old entries → (image : List ℕ)
     → IsImageOf (option_map (with_range (gate + 1) (length octets) []) old) image
-    → IsOldOrNew entries batch image
+    → IsInPlace entries batch gate image
 first_holds law (Some told) gate octets at_rest batch entries keeps image is =
-    inl (gate, first_image at_rest law entries keeps _ image is)
+    inl (first_image at_rest law entries keeps _ image is)
 first_holds law None gate octets at_rest batch entries keeps image is = absurd keeps
 
 pub second_holds : ReadBack → (old mid : Option Pending) (gate : ℕ) (octets : List ℕ)
     → IsAtRest old gate → mid ≡ option_map (written_and_synced (gate + 1) octets) old
     → (batch : List Entry) → IsReady old batch octets → (entries : List Entry) → Keeps old entries
     → (image : List ℕ) → IsImageOf (option_map (with_range gate 1 []) mid) image
-    → IsOldOrNew entries batch image
+    → IsInPlace entries batch gate image
 second_holds law (Some told) mid gate octets at_rest mid_was batch ready entries keeps image is =
     second_image at_rest law entries keeps octets batch ready image
     (rw (mid_is at_rest octets mid mid_was) at is)

@@ -2,7 +2,6 @@
 use Rattle.std.proofs.Common.{◌≡◌, ◌≢◌, ℕ, zero, suc, ◌+◌, ◌-◌, ◌<◌, ◌≤◌, Bool, true, false}
 use Rattle.std.proofs.Common.{not, IsFalse, if◌then◌else◌, List, [], ◌∷◌, ◌++◌, length, fold, take}
 use Rattle.std.proofs.Common.{Option, Some, None, refl, sym, ◌∙◌, ap, subst, arith}
-use Rattle.std.proofs.lemmas.Grind.{common_steps}
 use Rattle.std.proofs.lemmas.List.Sums.{fold-append}
 use Rattle.archive_terms.specs.Archive.{Entry, IsArchive}
 use Rattle.octet_core.specs.Fault.{last_count}
@@ -24,13 +23,10 @@ use Rattle.gate_journal.specs.JournalState.{KeepsOnRestart}
 use Rattle.gate_journal.specs.JournalState.{appending, closed_batch, entries_left}
 use Rattle.gate_journal.specs.JournalState.{leaves_batch, HasBatch, IsToFail, FailsIn, holds_batch}
 use Rattle.gate_journal.proofs.Adding.{gate_over, stands_gated, stands_whole, with_gate, kept}
-use Rattle.gate_journal.proofs.Adding.{written}
+use Rattle.gate_journal.proofs.Adding.{written, closed_size}
 use Rattle.gate_journal.proofs.Following.{follows_kept}
 
 -- ---- what the calls that a stop lets through leave by each pick
-
-closed_size : (batch : List Entry) → length (closed_batch batch) ≡ length (entries_octets batch) + 7
-closed_size batch = grind (arith, common_steps)
 
 torn_is_shut : ◌≢◌ {A = ℕ} 90 165
 torn_is_shut same = omega (arith, same)

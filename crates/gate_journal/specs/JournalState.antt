@@ -59,6 +59,12 @@ pub record JournalState (D : Type 0) : Type 0 where
   pub gate : ℕ
   pub is_stale : Bool
 
+-- A file stands for entries up to a gate, or for these and the batch, whole, up to the gate behind
+-- the batch. The same entries may stand at several gates.
+abbrev pub IsInPlace : List Entry → List Entry → ℕ → List ℕ → Type 0
+IsInPlace entries batch gate file = StandsAt entries gate file
+    ⊎ StandsAt (entries ++ batch) (gate + (length (entries_octets batch) + 7)) file
+
 -- These octets are a batch that may be appended to what a disk keeps, with the next closed gate.
 pub record IsReady (pending : Option Pending) (batch : List Entry) (octets : List ℕ) : Type 0 where
   pub spelled : octets ≡ closed_batch batch

@@ -13,7 +13,7 @@ ghost use Rattle.disk_model.specs.MemoryDisk.{steered, restarted, pending_of, co
 ghost use Rattle.disk_model.specs.declared.call.Call.TheVariants.{Write, Sync};
 ghost use Rattle.gate_journal.specs.File.{StandsFor, StandsAt, entries_octets};
 ghost use Rattle.gate_journal.specs.JournalState.{Keeps, IsAtRest, IsOldOrNew, IsReady, IsBegun};
-ghost use Rattle.gate_journal.specs.JournalState.{OnlyReads};
+ghost use Rattle.gate_journal.specs.JournalState.{IsInPlace, OnlyReads};
 ghost use Rattle.gate_journal.specs.JournalState.{RefusesDisk, appending, appending_octets};
 ghost use Rattle.gate_journal.specs.JournalState.{creating, recovering, FailsToRecover};
 ghost use Rattle.gate_journal.specs.JournalState.{IsUnread};
@@ -153,6 +153,8 @@ impl<D: Disk> Journal<D> {
         ensures kept { OnOk result (D.faults self.new.disk ≡ D.faults self.old.disk) }
         ensures stale { OnErr result (self.new.is_stale ≡ true) }
         ensures place { OnErr result (self.new.gate ≡ self.old.gate) }
+        ensures at_rest { self.old.is_stale ≡ false
+            → IsAtRest (D.pending self.old.disk) self.old.gate }
         ensures any_moment { HoldsThroughout D.moment D.images_since self.old.disk self.new.disk
             (IsImageOf (D.pending self.old.disk)) }
         ensures tells { is_some (D.pending self.new.disk) ≡ is_some (D.pending self.old.disk) }
@@ -195,6 +197,10 @@ impl<D: Disk> Journal<D> {
         ensures any_moment { (entries : List Entry) → Keeps (D.pending self.old.disk) entries
             → HoldsThroughout D.moment D.images_since self.old.disk self.new.disk
             (IsOldOrNew entries batch.now) }
+        ensures in_place { IsErrOf result JournalFault.DiskFault → (entries : List Entry)
+            → Keeps (D.pending self.old.disk) entries → (image : List ℕ)
+            → IsImageOf (D.pending self.new.disk) image
+            → IsInPlace entries batch.now self.old.gate image }
         ensures tells { is_some (D.pending self.new.disk) ≡ is_some (D.pending self.old.disk) }
         ensures calls { OnOk result (AllMade D.makes self.old.disk
             (appending self.old.gate batch.now) self.new.disk) }
@@ -283,6 +289,8 @@ impl Journal<MemoryDisk> {
 
     /// Starts a disk in memory that stopped again. The journal is stale until it is recovered.
     pub fn restart(&mut self) -> Result<(), Memory>
+        ensures at_rest { self.old.is_stale ≡ false
+            → IsAtRest (Some (pending_of self.old.disk)) self.old.gate }
         ensures stale { self.new ≡ record self.old { disk = self.new.disk; is_stale = true } }
         ensures ok { OnOk result (MatchOption self.old.disk.stopped
             (self.new.disk ≡ self.old.disk)
@@ -312,11 +320,15 @@ fn put<D: Disk>(disk: &mut D, gate: u64, octets: &[u8]) -> Result<(), Failed>
     ensures any_moment { (batch : List Entry) → IsReady (D.pending disk.old) batch octets.now
         → (entries : List Entry) → Keeps (D.pending disk.old) entries
         → HoldsThroughout D.moment D.images_since disk.old disk.new (IsOldOrNew entries batch) }
+    ensures in_place { (batch : List Entry) → IsReady (D.pending disk.old) batch octets.now
+        → (entries : List Entry) → Keeps (D.pending disk.old) entries → (image : List ℕ)
+        → IsImageOf (D.pending disk.new) image → IsInPlace entries batch gate image }
     ensures tells { is_some (D.pending disk.new) ≡ is_some (D.pending disk.old) }
     ensures calls { RunsCalls D.makes D.fails disk.old (appending_octets gate octets.now) disk.new
         result }
     ensures cause { FailsOnlyByFault (D.faults disk.old) (D.faults disk.new) result }
 {
+    disk_model::laws::images_at_a_moment::<D>();
     record_form::laws::read_back();
     write_synced(disk, gate + 1, octets)?;
     open_gate(disk, gate)
