@@ -239,6 +239,7 @@ sound_stored {D} pending old new capacity count used used_now failed octets more
         keeps = kept_stored (pending old.disk) (pending new.disk) count times waiting tells
             open_.keeps appended;
       };
+      placed = λ stale. absurd (cc);
     }))
 
 -- the calls of a store that failed

@@ -2,3 +2,4 @@ pub mod LastTimes
 pub mod Offers
 pub mod Holding
 pub mod Running
+pub mod Placing

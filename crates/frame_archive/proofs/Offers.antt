@@ -18,7 +18,7 @@ use Rattle.disk_model.specs.Images.{Pending}
 use Rattle.gate_journal.specs.JournalState.{JournalState, Keeps, IsOldOrNew}
 use Rattle.frame_archive.specs.State.{ArchiveState, times_of, times_after, wanted}
 use Rattle.frame_archive.specs.State.{need}
-use Rattle.frame_archive.specs.Acknowledges.{Agrees, Acknowledges, IsSound}
+use Rattle.frame_archive.specs.Acknowledges.{Agrees, Acknowledges, IsPlaced, IsSound}
 use Rattle.frame_archive.proofs.LastTimes.{times_of-push}
 
 -- what follows from a refusal that didn't come
@@ -203,6 +203,10 @@ module _ (grows : (a : List Entry) (e : Entry)
               (λ entries agrees. agrees_next entries waiting next count times after e valid
               taken.is_short taken.in_order after_is next_is agrees) (sound.open_ fresh).keeps;
         };
+        placed = λ stale. subst (IsPlaced (pending journal.disk) count used)
+            (sym (ap (take failed) next_is
+            ∙ take-append-le failed waiting (e ∷ []) sound.waits.some_failed))
+            (sound.placed stale);
       }
 
   pub acknowledges_offered : {D : Type 0} (pending : D

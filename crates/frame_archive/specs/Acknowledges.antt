@@ -1,6 +1,6 @@
 -- What an archive has acknowledged, and what its disk holds.
-use Rattle.std.specs.Prelude.{ℕ, ◌+◌, ◌≤◌, ◌≡◌, Bool, true, false, Option, is_some, IfSome, IsTrue}
-use Rattle.std.specs.Prelude.{List, ◌++◌, length}
+use Rattle.std.specs.Prelude.{ℕ, ◌+◌, ◌≤◌, ◌≡◌, ◌⊎◌, Bool, true, false, Option, is_some, IfSome}
+use Rattle.std.specs.Prelude.{IsTrue, List, ◌++◌, length, take}
 use Rattle.std.specs.List.{list_all}
 use Rattle.archive_terms.specs.Archive.{Entry, IsArchive, is_storable}
 use Rattle.disk_model.specs.Images.{Pending}
@@ -34,6 +34,17 @@ pub record Acknowledges {D : Type 0} (pending : D
 abbrev pub Uses : List Entry → ℕ → List ℕ → Type 0
 Uses entries used file = (gate : ℕ) × (used ≡ gate + 1) × StandsAt entries gate file
 
+-- A file uses so many octets for entries, or so many more for these and a batch, whole.
+abbrev pub UsesOldOrNew : List Entry → List Entry → ℕ → List ℕ → Type 0
+UsesOldOrNew entries batch used file = Uses entries used file
+    ⊎ Uses (entries ++ batch) (used + wanted batch) file
+
+-- On a disk that tells, so many entries use so many octets in each image, or these and a batch do.
+abbrev pub IsPlaced : Option Pending → ℕ → ℕ → List Entry → Type 0
+IsPlaced pending count used batch = IfSome pending (λ _. (entries : List Entry)
+    × (length entries ≡ count)
+    × ((image : List ℕ) → IsImageOf pending image → UsesOldOrNew entries batch used image))
+
 -- What waits is at most a batch, and so many octets are wanted for it.
 pub record Waits (waiting : List Entry) (octets failed : ℕ) : Type 0 where
   pub octets_are : octets ≡ wanted waiting
@@ -59,3 +70,5 @@ pub record IsSound {D : Type 0} (pending : D → Option Pending) (journal : Jour
   pub within : capacity ≤ 268435456
   pub waits : Waits waiting octets failed
   pub open_ : is_stale ≡ false → IsOpen pending journal capacity count used failed times waiting
+  pub placed : is_stale ≡ true
+      → IsPlaced (pending journal.disk) count used (take failed waiting)

@@ -15,7 +15,7 @@ ghost use Rattle.gate_journal.specs.File.{StandsFor};
 ghost use Rattle.gate_journal.specs.JournalState.{IsOldOrNew, IsAtRest, appending, recovering};
 ghost use Rattle.gate_journal.specs.JournalState.{FailsToRecover};
 ghost use Rattle.frame_archive.specs.State.{times_of, at_rest, failed_batch, need, free, refusal};
-ghost use Rattle.frame_archive.specs.State.{with_waiting, with_stored, with_failed};
+ghost use Rattle.frame_archive.specs.State.{with_waiting, with_stored, with_failed, wanted};
 ghost use Rattle.frame_archive.specs.Acknowledges.{Acknowledges, Uses};
 ghost use Rattle.frame_archive.specs.Faults.{IsRefusal, IsUnread, RefusesDisk, RefusesReopen};
 ghost use Rattle.frame_archive.specs.Faults.{IsOfRecovery, opening_fault};
@@ -295,9 +295,10 @@ impl<D: Disk> FrameArchive<D> {
     }
 
     /// Opens the file again, and tells what became of the entries that waited: those of the store
-    /// that failed may have landed in it, and the others are lost. Nothing waits then. After a
-    /// refusal all is as it was, but each store answers `Stale` until a reopen succeeds. It costs a
-    /// sync and one read of the whole file.
+    /// that failed may have landed in it, and the others are lost. Nothing waits then. On a disk
+    /// that tells, the file uses no octets but for what landed. After a refusal all is as it was,
+    /// but each store answers `Stale` until a reopen succeeds. It costs a sync and one read of the
+    /// whole file.
     pub fn reopen(&mut self) -> Result<Landing, ArchiveFault>
         ensures reopened { OnOk result (self.new ≡ record (at_rest self.new.disk self.old.capacity
             self.new.used []) { count = self.new.count; times = self.new.times }) }
@@ -307,6 +308,8 @@ impl<D: Disk> FrameArchive<D> {
             - self.old.count) self.old.waiting) }
         ensures whole { OnOk result ((self.new.count ≡ self.old.count) ⊎ (self.new.count
             ≡ self.old.count + self.old.failed)) }
+        ensures used { OnOk result (IfSome (D.pending self.old.disk) (λ _. self.new.used
+            ≡ self.old.used + wanted (take (self.new.count - self.old.count) self.old.waiting))) }
         ensures acknowledged { IfOk result (λ landing. (entries : List terms.Entry) → Acknowledges
             D.pending self.old entries → Acknowledges D.pending self.new
             (entries ++ landing.landed)) }
@@ -379,6 +382,8 @@ impl<D: Disk> FrameArchive<D> {
             → IsSomeAnd (D.pending self.old.disk)
             (λ told. StandsFor entries told.content) → IsUnread fault) }
     {
+        disk_model::laws::images_at_a_moment::<D>();
+        gate_journal::laws::a_file_stands_for_one_list();
         gate_journal::laws::an_image_at_rest_stands_for_what_is_kept();
         self.is_stale = true;
         let found = match self.journal.recover_again(self.alloc) {
@@ -454,6 +459,7 @@ impl FrameArchive<MemoryDisk> {
         ensures image { OnOk result (IsImage (pending_of self.old.disk)
             (content_of self.new.disk)) }
     {
+        gate_journal::laws::a_file_stands_for_one_list();
         self.is_stale = true;
         self.journal.restart()
     }

@@ -1,7 +1,8 @@
-use Rattle.std.proofs.Common.{rules, sym, subst, ◌∙◌}
+use Rattle.std.proofs.Common.{rules, sym, subst, ◌∙◌, arith}
 use Rattle.frame_archive.specs.State.{ArchiveState}
 use Rattle.frame_archive.specs.Acknowledges.{Acknowledges}
 use Rattle.frame_archive.proofs.Holding.{acknowledges_failed, failed_at, sound_stored}
+use Rattle.frame_archive.proofs.Placing.{sound_failed}
 use Rattle.frame_archive.proofs.archive.FrameArchive.store.Goals as goal
 
 pub invariant_of-self : goal.invariant_of-self
@@ -13,6 +14,15 @@ invariant_of-self g c =
     c.if-self.false c.in-Ok.ensures.fresh c.len-in-Ok.ensures c.used-self-inside.ensures
     (c.replace-entries.ensures.after ∙ c.new.ensures) c.append.ensures.tells
     c.in-Ok.ensures.appended c.self.invariant
+
+pub invariant_of-self-in-DiskFault : goal.invariant_of-self-in-DiskFault
+invariant_of-self-in-DiskFault g c =
+    let inside = c.self.inside in
+    sound_failed g.D.Disk.pending inside.journal c.append.new.self inside.capacity inside.count
+    inside.used inside.failed c.len-self-inside.result inside.octets inside.times inside.waiting
+    inside.is_stale c.if-self.false (omega (arith, c.len.ensures, c.if-len-eq0.false))
+    c.len-self-inside.ensures c.append.ensures.tells (c.append.ensures.in_place (search rules))
+    c.self.invariant
 
 pub returns-in-DiskFault-clause-still : goal.returns-in-DiskFault-clause-still
 returns-in-DiskFault-clause-still g c entries old =
