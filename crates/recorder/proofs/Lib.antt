@@ -1,5 +1,6 @@
 mod OneMore
 mod Landing
 mod Mending
+mod Again
 mod NoRoom
 mod Short

@@ -1,16 +1,16 @@
 -- What a store that failed and the reopen behind it come to, by what the calls ensure.
-use Rattle.std.proofs.Common.{◌≡◌, ◌⊎◌, inl, inr, true, false, ℕ, ◌-◌, List, [], ◌∷◌, ◌++◌}
-use Rattle.std.proofs.Common.{Option, Some, None, Result, Ok, Err, IsSome, IfOk, IfErr, OnErr}
-use Rattle.std.proofs.Common.{IsErrOf, refl, sym, ap, subst, ◌∙◌}
+use Rattle.std.proofs.Common.{◌≡◌, ◌⊎◌, inl, inr, true, false, ℕ, ◌+◌, ◌-◌, List, [], ◌∷◌, ◌++◌}
+use Rattle.std.proofs.Common.{length, take, Option, Some, None, IfSome, Result, Ok, Err, IsSome}
+use Rattle.std.proofs.Common.{IfOk, IfErr, OnErr, IsErrOf, refl, sym, ap, subst, ◌∙◌}
 use Rattle.std.proofs.lemmas.List.{append-nil}
 use Rattle.archive_terms.specs.Archive.{Entry}
 use Rattle.octet_core.specs.Fault.{Rose}
 use Rattle.disk_model.specs.Images.{Pending}
-use Rattle.disk_model.specs.Calls.{FailedAtOne}
+use Rattle.disk_model.specs.Calls.{AllMade, FailedAtOne}
 use Rattle.disk_model.specs.declared.call.Call.{Call}
-use Rattle.gate_journal.specs.JournalState.{appending}
-use Rattle.frame_archive.specs.State.{ArchiveState, with_failed}
-use Rattle.frame_archive.specs.Acknowledges.{Acknowledges}
+use Rattle.gate_journal.specs.JournalState.{appending, recovering}
+use Rattle.frame_archive.specs.State.{ArchiveState, with_failed, at_rest, times_of, wanted}
+use Rattle.frame_archive.specs.Acknowledges.{Acknowledges, Uses}
 use Rattle.frame_archive.specs.Run.{Adds, Keeps}
 use Rattle.recorder.specs.declared.dropped.Dropped.{Dropped}
 use Rattle.recorder.specs.declared.recorded.Recorded.{Recorded}
@@ -62,6 +62,29 @@ keeps_behind pending old mid new (Err fault) keeps still = λ entries is. still 
     (keeps entries is)
 
 -- ---- behind a reopen
+
+pub opened_so : {D : Type 0} (pending : D → Option Pending) (makes : D → Call → D → Type 0)
+    (old opened : ArchiveState D) (landed : List Entry)
+    → landed ≡ take (opened.count - old.count) old.waiting
+    → AllMade makes old.disk recovering opened.disk
+    → opened ≡ record (at_rest opened.disk old.capacity opened.used []) {
+      count = opened.count;
+      times = opened.times;
+    }
+    → (entries : List Entry) × (length entries ≡ opened.count)
+    × (opened.times ≡ times_of entries)
+    × IfSome (pending old.disk) (λ told. Uses entries opened.used told.content)
+    → IfSome (pending old.disk) (λ _. opened.used
+    ≡ old.used + wanted (take (opened.count - old.count) old.waiting))
+    → Adds pending old opened landed → Reopened pending makes old opened
+opened_so pending makes old opened landed landed_is calls state found used adds = record {
+  calls = calls;
+  state = state;
+  found = found;
+  used = used;
+  acknowledged = λ entries was. subst (λ (es : List Entry). Acknowledges pending opened
+      (entries ++ es)) landed_is (adds entries was);
+}
 
 -- what was lost is stored
 pub lost_mended : {D : Type 0} (pending : D → Option Pending) (makes : D → Call → D → Type 0)

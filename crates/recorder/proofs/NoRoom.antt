@@ -15,12 +15,12 @@ use Rattle.frame_archive.specs.declared.fault.OfferFault.TheVariants as offers
 use Rattle.recorder.specs.Offers.{Offered, by_refusal, after_offer, after_offers, HasNoRoom}
 
 -- an archive at which more waits, and nothing else changed
-record IsMore {D : Type 0} (old new : ArchiveState D) : Type 0 where
-  capacity : new.capacity ≡ old.capacity
-  used : new.used ≡ old.used
-  count : new.count ≡ old.count
-  octets : wanted old.waiting ≤ wanted new.waiting
-  entries : length old.waiting ≤ length new.waiting
+pub record IsMore {D : Type 0} (old new : ArchiveState D) : Type 0 where
+  pub capacity : new.capacity ≡ old.capacity
+  pub used : new.used ≡ old.used
+  pub count : new.count ≡ old.count
+  pub octets : wanted old.waiting ≤ wanted new.waiting
+  pub entries : length old.waiting ≤ length new.waiting
 
 is_same : {D : Type 0} (archive : ArchiveState D) → IsMore archive archive
 is_same archive = record {
@@ -62,7 +62,7 @@ and_more old mid new first second = record {
   entries = omega (arith, first.entries, second.entries);
 }
 
-more_after : {D : Type 0} (start : Offered D) (entries : List Entry)
+pub more_after : {D : Type 0} (start : Offered D) (entries : List Entry)
     → IsMore start.archive (fold after_offer start entries).archive
 more_after start [] = is_same start.archive
 more_after start (entry ∷ entries) =

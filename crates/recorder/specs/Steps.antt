@@ -1,15 +1,17 @@
 -- What a step of the recorder does with the entries that it polled, on any disk: what it stores,
 -- what a reopen finds, and which calls of the disk it makes. This product's own rule.
 use Rattle.std.specs.Prelude.{◌≡◌, ◌⊎◌, ℕ, ◌+◌, ◌-◌, Option, Some, None, IfSome, List, [], ◌∷◌}
-use Rattle.std.specs.Prelude.{length}
+use Rattle.std.specs.Prelude.{length, take}
 use Rattle.archive_terms.specs.Archive.{Entry}
 use Rattle.octet_core.specs.Fault.{Rose}
 use Rattle.disk_model.specs.Images.{Pending}
 use Rattle.disk_model.specs.Calls.{AllMade, FailedAtOne}
 use Rattle.disk_model.specs.declared.call.Call.{Call}
 use Rattle.gate_journal.specs.JournalState.{appending, recovering, FailsToRecover}
-use Rattle.frame_archive.specs.State.{ArchiveState, at_rest, times_of, with_stored, with_failed}
+use Rattle.frame_archive.specs.State.{ArchiveState, at_rest, times_of, wanted, with_stored}
+use Rattle.frame_archive.specs.State.{with_failed}
 use Rattle.frame_archive.specs.Acknowledges.{Uses}
+use Rattle.frame_archive.specs.Run.{Adds}
 use Rattle.frame_archive.specs.Faults.{RefusesReopen}
 use Rattle.frame_archive.specs.declared.fault.ArchiveFault.{ArchiveFault}
 use Rattle.recorder.specs.declared.dropped.Dropped.{Dropped}
@@ -43,6 +45,11 @@ pub record Tells (entries : List Entry) (dropped : Dropped) (recorded : Recorded
   pub stored : recorded.entries ≡ entries
   pub dropped_are : dropped_of recorded ≡ dropped
 
+-- A step stored all that the archive took when it was first offered, and dropped what was refused
+-- then, and no other: nothing was refused that was offered once more.
+abbrev pub TellsOffered : {D : Type 0} → Offered D → Recorded → Type 0
+TellsOffered before recorded = Tells before.archive.waiting before.dropped recorded
+
 -- All that waits was stored as one batch.
 module _ {D : Type 0} (makes : D → Call → D → Type 0) where
   pub record Stores (before : Offered D) (new : ArchiveState D) (recorded : Recorded) : Type 0 where
@@ -63,7 +70,7 @@ offered_again dropped old opened = after_offers (offered opened dropped) old.wai
 
 module _ {D : Type 0} (pending : D → Option Pending) (makes : D → Call → D → Type 0) where
   -- An archive was opened again. Nothing waits in it, and its file holds so many entries, which use
-  -- so many octets.
+  -- so many octets: on a disk that tells, those from before, and those that landed.
   pub record Reopened (old opened : ArchiveState D) : Type 0 where
     pub calls : AllMade makes old.disk recovering opened.disk
     pub state : opened ≡ record (at_rest opened.disk old.capacity opened.used []) {
@@ -73,6 +80,9 @@ module _ {D : Type 0} (pending : D → Option Pending) (makes : D → Call → D
     pub found : (entries : List Entry) × (length entries ≡ opened.count)
         × (opened.times ≡ times_of entries)
         × IfSome (pending old.disk) (λ told. Uses entries opened.used told.content)
+    pub used : IfSome (pending old.disk) (λ _. opened.used
+        ≡ old.used + wanted (take (opened.count - old.count) old.waiting))
+    pub acknowledged : Adds pending old opened (take (opened.count - old.count) old.waiting)
 
   -- All that waited landed in the file.
   pub record Lands (dropped : Dropped) (old new : ArchiveState D) (recorded : Recorded)

@@ -11,7 +11,7 @@ ghost use Rattle.frame_archive.specs.Run.{Adds, Keeps};
 ghost use Rattle.recorder.specs.Polling.{IsPolled, BreaksOff, Gave};
 ghost use Rattle.recorder.specs.Offers.{offered, offered_to, after_offers, how_many};
 ghost use Rattle.recorder.specs.Offers.{IsCutShort};
-ghost use Rattle.recorder.specs.Steps.{IsStored, IsMended, Stores, StoreFails};
+ghost use Rattle.recorder.specs.Steps.{IsStored, IsMended, Stores, StoreFails, TellsOffered};
 ghost use Rattle.recorder.specs.Steps.{IsLeft, IsUnmended, IsNoRefusal};
 ghost use Rattle.recorder.specs.declared.record_fault.RecordFault.TheVariants as RecordFault;
 
@@ -40,12 +40,15 @@ pub fn record_step<D: Disk, F: FrameSource>(
     requires rests { archive.old.waiting ≡ [] }
     requires ready { archive.old.is_stale ≡ false }
 
-    // What was polled, what became of it, and what is acknowledged with it.
+    // What was polled, what became of it, and what is acknowledged with it. On a disk that tells,
+    // nothing is refused that is offered once more.
     ensures answer { IfOk result (λ recorded. (polled : List terms.Entry)
         × IsPolled recorded.last polled (F.answers frames.old) (F.answers frames.new)
         × (length recorded.entries + recorded.refused + recorded.full ≡ length polled)
         × IsStored D.pending D.makes D.fails recorded.reopened (offered_to archive.old polled)
-        archive.new recorded) }
+        archive.new recorded
+        × ((entries : List terms.Entry) → Acknowledges D.pending archive.old entries
+        → TellsOffered (offered_to archive.old polled) recorded)) }
     ensures acknowledged { IfOk result (λ recorded. Adds D.pending archive.old archive.new
         recorded.entries) }
     ensures rests { OnOk result (archive.new.waiting ≡ []) }
@@ -79,6 +82,9 @@ fn keep<D: Disk>(archive: &mut FrameArchive<D>, polled: Polled) -> Result<Record
     requires few { length polled.entries ≤ 256 }
     ensures stored { IfOk result (λ recorded. IsStored D.pending D.makes D.fails recorded.reopened
         (offered_to archive.old polled.entries) archive.new recorded) }
+    ensures taken { IfOk result (λ recorded. (entries : List terms.Entry)
+        → Acknowledges D.pending archive.old entries
+        → TellsOffered (offered_to archive.old polled.entries) recorded) }
     ensures counted { IfOk result (λ recorded. length recorded.entries + recorded.refused
         + recorded.full ≡ length polled.entries) }
     ensures last { IfOk result (λ recorded. recorded.last ≡ polled.last) }

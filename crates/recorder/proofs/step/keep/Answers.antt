@@ -6,9 +6,10 @@ use Rattle.archive_terms.specs.Archive.{Entry}
 use Rattle.record_form.specs.Entry.{entries_of}
 use Rattle.recorder.specs.declared.dropped.Dropped.{Dropped}
 use Rattle.recorder.specs.Offers.{Offered, offered, offered_to, none_dropped, IsCutShort}
-use Rattle.recorder.specs.Steps.{IsStored, IsUnmended, StoreFails}
+use Rattle.recorder.specs.Steps.{IsStored, IsMended, IsUnmended, StoreFails}
 use Rattle.recorder.proofs.Mending.{store_failed, adds_behind, keeps_behind, mended_stored}
 use Rattle.recorder.proofs.Mending.{unmended_left, not_so}
+use Rattle.recorder.proofs.Again.{mended_taken}
 use Rattle.recorder.proofs.Short.{short_left, all_offered}
 use Rattle.recorder.proofs.step.keep.Goals as goal
 
@@ -31,6 +32,23 @@ returns-in-Err-DiskFault-clause-stored g c =
     c.mend.result (is.failed fault)
     (store_failed g.D.Disk.makes g.D.Disk.fails mid broken.disk some (is.failed_calls fault))
     c.mend.ensures.mended c.mend.ensures.reopened)
+
+pub returns-in-Err-DiskFault-clause-taken : goal.returns-in-Err-DiskFault-clause-taken
+returns-in-Err-DiskFault-clause-taken g c =
+    let mid = c.offer_each.new.archive in
+    let same : offered_to c.args.archive.now c.args.polled.entries
+    ≡ offered mid c.offer_each.new.dropped = search rules in
+    let broken = c.store.new.self in
+    let is = c.in-Err-DiskFault.ensures in
+    let fault = ap (λ f. Err f) c.in-Err-DiskFault.field-0-is in
+    mended_taken g.D.Disk.pending g.D.Disk.makes c.args.archive.now c.args.polled.entries
+    c.requires.rests broken c.mend.new.archive c.mend.result
+    (subst (λ (o : Offered g.row.D.Denot). broken ≡ with_failed o.archive broken.disk) (sym same)
+    (is.failed fault))
+    (λ entries was. is.still entries (c.offer_each.ensures.acknowledged entries was))
+    (subst (λ (o : Offered g.row.D.Denot). IfOk c.mend.result (λ recorded. IsMended
+    g.D.Disk.pending g.D.Disk.makes o.dropped broken c.mend.new.archive recorded)) (sym same)
+    c.mend.ensures.mended)
 
 pub returns-in-Err-DiskFault-clause-acknowledged : goal.returns-in-Err-DiskFault-clause-acknowledged
 returns-in-Err-DiskFault-clause-acknowledged g c =
