@@ -16,6 +16,7 @@ ghost use Rattle.return_core.specs.Item.{are_of_archive};
 ghost use Rattle.return_core.specs.Course.{is_offering, held_of};
 ghost use Rattle.return_core.specs.Course as course;
 ghost use Rattle.return_core.specs.Standing.{waiting_round, StandsFor, IsNextLook, Steps, Settles};
+ghost use Rattle.return_core.specs.Visits.{fate_by, discard_told};
 ghost use Rattle.sle_common.specs.Gvcid.{gvcid};
 ghost use Rattle.return_pdu.specs.Starting.{RcfStartContent};
 ghost use Rattle.return_pdu.specs.Seen.{rcf_start_of};
@@ -206,6 +207,15 @@ impl Rcf {
         ensures { items_of result.now ≡ held_of self.now.serving.course }
     {
         self.service.current()
+    }
+
+    /// How many items the link's answer discards, a backlog not counted, where it discards the
+    /// buffer that is offered: a timely delivery does that with picked entries that stalled. It
+    /// costs the held items, and is asked before `settle`.
+    pub fn discards(&self, answer: Offer) -> Option<u32>
+        ensures { result ≡ discard_told (fate_by self.now.serving.course (answer_of answer)) }
+    {
+        self.service.discards(answer)
     }
 
     /// Takes the link's answer to the buffer that was offered. The frames that were handed over are
