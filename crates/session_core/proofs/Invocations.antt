@@ -7,14 +7,14 @@ use Rattle.session_core.specs.Course.{is_plain}
 use Rattle.session_core.specs.Inquiry.{Replied}
 use Rattle.session_core.specs.Service.{Invocation, invocation_kind}
 use Rattle.session_core.specs.Served.{concluded_by}
-use Rattle.session_core.specs.ServiceSteps.{with_invocation, Keeps}
+use Rattle.session_core.specs.ServiceSteps.{permitted, with_invocation, Keeps}
 use Rattle.session_core.proofs.Staying.{stays_answered}
 
 pub keeps_invocation : (site : Site) (s : Standing) (i : Invocation) (reply : Replied)
     → Keeps s (with_invocation site s i reply)
 keeps_invocation site s i reply =
     let same = stays_answered site s (invocation_kind i)
-    (concluded_by s.service i reply s.moment).answer in
+    (concluded_by s.service (permitted site s) i reply s.moment).answer in
     record {
       plain = λ e. subst (λ (c : Course). is_plain c ≡ true) (sym same.course) e;
       arrival = same.arrival;

@@ -27,7 +27,8 @@ use Rattle.session_core.specs.Served.{Message, concluded_by, Reported, reported_
 use Rattle.session_core.specs.Served.{dropped_by, fixed_by}
 use Rattle.session_core.specs.Service.{invocation_kind}
 use Rattle.session_core.specs.Returns.{bound_peer}
-use Rattle.session_core.specs.ServiceSteps.{answered_with, led_to, told_more, may_tell, reported, with_report}
+use Rattle.session_core.specs.ServiceSteps.{permitted, answered_with, led_to, told_more, may_tell}
+use Rattle.session_core.specs.ServiceSteps.{reported, with_report}
 use Rattle.session_core.specs.ServiceSteps.{noticed, with_notice, has_outgoing, fixed, stepped_by}
 use Rattle.session_core.specs.ServiceSteps.{with_fixed, may_serve, with_service, after_stall, is_active}
 use Rattle.session_core.specs.Handling.{after_passing, is_agreed, concluded, is_lost, after_message}
@@ -125,7 +126,7 @@ passing site s (bind b) r = inl refl
 passing site s (unbind u) r = inr (refl, refl)
 passing site s (peer_abort diagnostic) r = inr (refl, refl)
 passing site s (invocation i) r =
-    let done = concluded_by s.service i r s.moment in
+    let done = concluded_by s.service (permitted site s) i r s.moment in
     let t = answered_with site s (invocation_kind i) done.answer in
     from_fate s t (led_to done.outcome t)
     (answered_same site s (invocation_kind i) done.answer) (led_fate t done.outcome)

@@ -4,7 +4,9 @@ pub mod Inquiry
 pub mod Service
 pub mod Telling
 pub mod Returns
+pub mod ReturnServed
 pub mod RafServed
+pub mod RcfServed
 pub mod Served
 pub mod Message
 pub mod Seen

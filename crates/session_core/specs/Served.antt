@@ -3,12 +3,13 @@
 -- or laws looks into one, and each method of `ServiceState` or of a session's that stands on one
 -- opens its own.
 --
--- RAF is built (`specs/RafServed.antt`), but for its reports and parameters. Any other service keeps
--- nothing, wants nothing and has nothing to tell.
+-- RAF and RCF are built (`specs/RafServed.antt`, `RcfServed.antt`, and what they have alike in
+-- `ReturnServed.antt`). FCLTU keeps nothing, wants nothing and has nothing to tell.
 use Rattle.std.specs.Prelude.{ℕ, Option, None, List}
 use Rattle.octet_core.specs.declared.offer.Offer.{Offer}
 use Rattle.archive_terms.specs.Glimpse.{Want, wants_nothing, Glimpse}
 use Rattle.isp1_tml.specs.Message.{Content}
+use Rattle.sle_common.specs.declared.gvcid.Gvcid.{Gvcid}
 use Rattle.station_config.specs.declared.peer.Peer.{Peer}
 use Rattle.station_config.specs.declared.service.Service.{Service}
 use Rattle.station_config.specs.declared.service.Service.TheVariants as service
@@ -19,13 +20,19 @@ use Rattle.cltu_queue.specs.declared.ask.Ask.TheVariants as ask
 use Rattle.cltu_queue.specs.declared.notice.Notice.{Notice}
 use Rattle.return_core.specs.Course.{want_of_course}
 use Rattle.return_core.specs.Mode.{answer_of}
-use Rattle.raf_service.specs.Raf.{raf_answer, concluded, raf_stepped, raf_answered}
+use Rattle.return_pdu.specs.declared.return_answer.ReturnAnswer.{ReturnAnswer}
+use Rattle.return_pdu.specs.declared.service.Service.TheVariants as pdu
+use Rattle.raf_service.specs.Raf.{raf_answer, concluded as raf_concluded}
+use Rattle.raf_service.specs.Raf.{raf_reported, raf_stepped, raf_answered}
+use Rattle.rcf_service.specs.Rcf.{rcf_answer, concluded as rcf_concluded}
+use Rattle.rcf_service.specs.Rcf.{rcf_reported, rcf_stepped, rcf_answered}
 use Rattle.session_core.specs.declared.service_state.ServiceState.{ServiceState}
-use Rattle.session_core.specs.declared.service_state.ServiceState.TheVariants.{Nothing, Raf}
+use Rattle.session_core.specs.declared.service_state.ServiceState.TheVariants.{Nothing, Raf, Rcf}
 use Rattle.session_core.specs.Inquiry.{Inquiry, only_asks, Replied}
 use Rattle.session_core.specs.Service.{Invocation, invoke_of}
-use Rattle.session_core.specs.RafServed.{raf_made, raf_asked, raf_prepared, outcome_of, returned}
-use Rattle.session_core.specs.RafServed.{raf_fixed, raf_dropped}
+use Rattle.session_core.specs.ReturnServed.{outcome_of, returned, buffer_due, dropped_of}
+use Rattle.session_core.specs.RafServed.{raf_made, raf_asked, raf_prepared, raf_told_at}
+use Rattle.session_core.specs.RcfServed.{rcf_made, rcf_asked, rcf_prepared, rcf_told_at}
 pub use Rattle.session_core.specs.Telling.{Message, Fixed}
 
 abbrev pub Served : Type 0
@@ -38,43 +45,59 @@ unserved = Nothing
 -- made for a BIND, before the book is asked, with the instance's return timeout
 unfoldable pub served_at : Service → ℕ → Served
 served_at (service.Raf mode size latency) timeout = Raf (raf_made mode size latency timeout)
-served_at _ timeout = Nothing
+served_at (service.Rcf mode size latency channels) timeout =
+    Rcf (rcf_made mode size latency timeout)
+served_at (service.Cltu room longest) timeout = Nothing
 
 -- what a round with an invocation that passes asks of the book and wants of a look
 unfoldable pub prepared : Served → Invocation → Inquiry
 prepared Nothing i = only_asks ask.Nothing
 prepared (Raf r) i = raf_prepared i r
+prepared (Rcf r) i = rcf_prepared i r
 
 -- what a round without one wants of a look
 unfoldable pub want_served : Served → Want
 want_served Nothing = wants_nothing
 want_served (Raf r) = want_of_course r.serving.course
+want_served (Rcf r) = want_of_course r.serving.course
 
--- what an invocation that passed led to, by the book's reply and the look at a moment: what the
--- service keeps then, what that makes of the association, and what is answered
+-- what an invocation that passed led to, by the channels that are permitted, the book's reply and
+-- the look at a moment: what the service keeps then, what that makes of the association, and what is
+-- answered
 pub record Concluded : Type 0 where
   pub served : Served
   pub outcome : Outcome
   pub answer : Option Message
 
-unfoldable pub concluded_by : Served → Invocation → Replied → ℕ → Concluded
-concluded_by Nothing i r now = record { served = Nothing; outcome = Kept; answer = None }
-concluded_by (Raf raf) i r now =
-    let answer = raf_answer (raf_asked i) r.glimpse raf in
-    record {
-      served = Raf (concluded (raf_asked i) r.glimpse now raf);
-      outcome = outcome_of answer;
-      answer = returned answer (invoke_of i);
-    }
+-- what a return service answers
+abbrev pub answered_so : Served → ReturnAnswer → Invocation → Concluded
+answered_so served answer i = record {
+  served = served;
+  outcome = outcome_of answer;
+  answer = returned answer (invoke_of i);
+}
 
--- the status report that is due in a round, if one is, and what the service keeps behind it; no
--- service has any yet
+unfoldable pub concluded_by : Served → List Gvcid → Invocation → Replied → ℕ → Concluded
+concluded_by Nothing channels i r now =
+    record { served = Nothing; outcome = Kept; answer = None }
+concluded_by (Raf raf) channels i r now =
+    answered_so (Raf (raf_concluded (raf_asked i) r.glimpse now raf))
+    (raf_answer (raf_asked i) r.glimpse raf) i
+concluded_by (Rcf rcf) channels i r now =
+    answered_so (Rcf (rcf_concluded channels (rcf_asked i) r.glimpse now rcf))
+    (rcf_answer channels (rcf_asked i) r.glimpse rcf) i
+
+-- the status report that is due in a round, if one is, and what the service keeps behind it
 pub record Reported : Type 0 where
   pub served : Served
   pub report : Option Message
 
 unfoldable pub reported_by : Served → Replied → ℕ → Reported
-reported_by served r now = record { served = served; report = None }
+reported_by Nothing r now = record { served = Nothing; report = None }
+reported_by (Raf raf) r now =
+    record { served = Raf (raf_reported now raf); report = raf_told_at r.glimpse now raf }
+reported_by (Rcf rcf) r now =
+    record { served = Rcf (rcf_reported now rcf); report = rcf_told_at r.glimpse now rcf }
 
 -- how a notice of the book is told; no service tells any yet
 unfoldable pub told_by_service : Served → Notice → Option Message
@@ -84,19 +107,25 @@ told_by_service served notice = None
 unfoldable pub served_step : Glimpse → ℕ → Served → Served
 served_step g now Nothing = Nothing
 served_step g now (Raf r) = Raf (raf_stepped g now r)
+served_step g now (Rcf r) = Rcf (rcf_stepped g now r)
 
 -- what is to be offered of what the service holds then, to a peer, with the session's latest number,
 -- at a moment
 unfoldable pub fixed_by : Served → Site → Option Peer → ℕ → ℕ → Fixed
 fixed_by Nothing site peer numbers now = record { message = None; numbers = numbers }
-fixed_by (Raf r) site peer numbers now = raf_fixed r site peer numbers now
+fixed_by (Raf r) site peer numbers now =
+    buffer_due pdu.Raf r.serving.course site peer numbers now
+fixed_by (Rcf r) site peer numbers now =
+    buffer_due pdu.Rcf r.serving.course site peer numbers now
 
 -- how many items are dropped where that message stalls; none where it is kept, to be offered again
 unfoldable pub dropped_by : Served → Option ℕ
 dropped_by Nothing = None
-dropped_by (Raf r) = raf_dropped r
+dropped_by (Raf r) = dropped_of r.serving.course
+dropped_by (Rcf r) = dropped_of r.serving.course
 
 -- the link's answer to that message
 unfoldable pub served_settled : Offer → Served → Served
 served_settled answer Nothing = Nothing
 served_settled answer (Raf r) = Raf (raf_answered (answer_of answer) r)
+served_settled answer (Rcf r) = Rcf (rcf_answered (answer_of answer) r)

@@ -1,11 +1,13 @@
--- What a bound user says to its service: a function each. START and STOP of RAF are built; no other
--- PDU of a service decodes. What is asked and answered is the service's (`specs/Served.antt`).
-use Rattle.std.specs.Prelude.{ℕ, Bool, false, List, Option, None, Result, Ok, Err}
+-- What a bound user says to its service: a function each. The PDUs of RAF and RCF are built; none of
+-- FCLTU decodes. What is asked and answered is the service's (`specs/Served.antt`).
+use Rattle.std.specs.Prelude.{ℕ, Bool, true, false, List, Option, None, Result, Ok, Err}
 use Rattle.ber_core.specs.declared.fault.BerFault.{BerFault}
 use Rattle.ber_shape.specs.Exact.{whole}
-use Rattle.return_pdu.specs.Starting.{RafStartContent, raf_start}
+use Rattle.return_pdu.specs.Starting.{RafStartContent, raf_start, RcfStartContent, rcf_start}
 use Rattle.return_pdu.specs.Stopping.{StopContent, stop}
-use Rattle.return_pdu.specs.Seen.{raf_start_of, stop_of}
+use Rattle.return_pdu.specs.Scheduling.{ScheduleContent, schedule}
+use Rattle.return_pdu.specs.Getting.{GetParameterContent, get_parameter}
+use Rattle.return_pdu.specs.Seen.{raf_start_of, stop_of, schedule_of, get_parameter_of}
 use Rattle.station_config.specs.declared.service.Service.{Service}
 use Rattle.station_config.specs.declared.service.Service.TheVariants.{Raf, Rcf, Cltu}
 use Rattle.assoc_core.specs.Kind.{Kind}
@@ -13,53 +15,84 @@ use Rattle.assoc_core.specs.Kind as kind
 use Rattle.session_core.specs.declared.service.Invocation.{Invocation as InvocationRead}
 use Rattle.session_core.specs.declared.service.Invocation.TheVariants as variant
 
--- a START of RAF, a STOP, or octets that the service doesn't decode
+-- a START of RAF or of RCF, a STOP, a SCHEDULE-STATUS-REPORT, a GET-PARAMETER, or octets that the
+-- service doesn't decode
 pub data Invocation : Type 0 where
   raf_starts : RafStartContent → Invocation
+  rcf_starts : RcfStartContent → Invocation
   stops : StopContent → Invocation
+  schedules : ScheduleContent → Invocation
+  gets : GetParameterContent → Invocation
   undecoded : Invocation
 
 -- ---- what is read
 
-abbrev pub stop_read : Result StopContent BerFault → Invocation
-stop_read (Ok s) = stops s
-stop_read (Err _) = undecoded
+abbrev pub get_read : Result GetParameterContent BerFault → Invocation
+get_read (Ok g) = gets g
+get_read (Err _) = undecoded
 
--- a START of RAF, or else a STOP
+abbrev pub schedule_read : Result ScheduleContent BerFault → List ℕ → Invocation
+schedule_read (Ok s) octets = schedules s
+schedule_read (Err _) octets = get_read (whole get_parameter.read octets)
+
+-- what both return services decode, behind their own START
+abbrev pub stop_read : Result StopContent BerFault → List ℕ → Invocation
+stop_read (Ok s) octets = stops s
+stop_read (Err _) octets = schedule_read (whole schedule.read octets) octets
+
 abbrev pub raf_read : Result RafStartContent BerFault → List ℕ → Invocation
 raf_read (Ok s) octets = raf_starts s
-raf_read (Err _) octets = stop_read (whole stop.read octets)
+raf_read (Err _) octets = stop_read (whole stop.read octets) octets
+
+abbrev pub rcf_read : Result RcfStartContent BerFault → List ℕ → Invocation
+rcf_read (Ok s) octets = rcf_starts s
+rcf_read (Err _) octets = stop_read (whole stop.read octets) octets
 
 -- what a PDU says to a service
 abbrev pub invocation_in : Service → List ℕ → Invocation
 invocation_in (Raf mode size latency) octets = raf_read (whole raf_start.read octets) octets
-invocation_in (Rcf mode size latency channels) octets = undecoded
+invocation_in (Rcf mode size latency channels) octets =
+    rcf_read (whole rcf_start.read octets) octets
 invocation_in (Cltu room longest) octets = undecoded
 
 -- ---- what every service has of it
 
 abbrev pub invocation_kind : Invocation → Kind
 invocation_kind (raf_starts _) = kind.start
+invocation_kind (rcf_starts _) = kind.start
 invocation_kind (stops _) = kind.stop
+invocation_kind (schedules _) = kind.report
+invocation_kind (gets _) = kind.parameter
 invocation_kind undecoded = kind.undecoded
 
 abbrev pub invocation_credentials : Invocation → Option (List ℕ)
 invocation_credentials (raf_starts s) = s.credentials
+invocation_credentials (rcf_starts s) = s.credentials
 invocation_credentials (stops s) = s.credentials
+invocation_credentials (schedules s) = s.credentials
+invocation_credentials (gets g) = g.credentials
 invocation_credentials undecoded = None
 
 -- its number, which its return repeats
 abbrev pub invoke_of : Invocation → ℕ
 invoke_of (raf_starts s) = s.invoke
+invoke_of (rcf_starts s) = s.invoke
 invoke_of (stops s) = s.invoke
+invoke_of (schedules s) = s.invoke
+invoke_of (gets g) = g.invoke
 invoke_of undecoded = 0
 
 -- whether a started service goes on behind it, where it passes: then the round wants its look
 abbrev pub leaves_running : Invocation → Bool
+leaves_running (schedules _) = true
+leaves_running (gets _) = true
 leaves_running _ = false
 
 -- what contracts see of an invocation that the code has read
 abbrev pub invocation_of : InvocationRead → Invocation
 invocation_of (variant.RafStart s) = raf_starts (raf_start_of s)
+invocation_of (variant.RcfStart s) = rcf_starts s
 invocation_of (variant.Stop s) = stops (stop_of s)
+invocation_of (variant.Schedule s) = schedules (schedule_of s)
+invocation_of (variant.Get g) = gets (get_parameter_of g)
 invocation_of (variant.Undecoded octets) = undecoded

@@ -1,13 +1,15 @@
 -- The steps of a round in which a bound service has a part, each by what the service makes of it.
 use Rattle.std.specs.Prelude.{◌≡◌, ℕ, ◌==◌, nat_le, Bool, true, false, not, ◌&&◌}
 use Rattle.std.specs.Prelude.{if◌then◌else◌, Option, Some, None, List, [], ◌++◌, length}
-use Rattle.std.specs.Prelude.{Result, Ok, Err, slice_get}
+use Rattle.std.specs.Prelude.{Result, Ok, Err, option_map, option_and_then, slice_get}
 use Rattle.std.specs.Option.{option_map_or}
 use Rattle.octet_core.specs.declared.offer.Offer.{Offer}
 use Rattle.octet_core.specs.declared.offer.Offer.TheVariants.{Whole, Stalled, Failed as Refused}
 use Rattle.archive_terms.specs.Glimpse.{Glimpse}
 use Rattle.isp1_tml.specs.Message.{Content, spelling}
 use Rattle.sle_numbers.specs.declared.bind_diagnostic.BindDiagnostic.{BindDiagnostic}
+use Rattle.sle_common.specs.declared.gvcid.Gvcid.{Gvcid}
+use Rattle.station_config.specs.declared.service.Service.{Service}
 use Rattle.station_config.specs.declared.site.Site.{Site}
 use Rattle.assoc_core.specs.Kind as kind
 use Rattle.assoc_core.specs.Kind.{Kind}
@@ -23,6 +25,7 @@ use Rattle.session_core.specs.declared.standing.Standing.{Standing}
 use Rattle.session_core.specs.Course.{is_going, is_blocked, is_plain}
 use Rattle.session_core.specs.Inquiry.{Replied}
 use Rattle.session_core.specs.Service.{Invocation, invocation_kind}
+use Rattle.session_core.specs.RcfServed.{channels_of}
 use Rattle.session_core.specs.Served.{Served, unserved, Message, served_at, Concluded, concluded_by}
 use Rattle.session_core.specs.Served.{Reported, reported_by, told_by_service, served_step, Fixed}
 use Rattle.session_core.specs.Served.{fixed_by, dropped_by, served_settled}
@@ -43,6 +46,16 @@ service_bound site judged Bound = service_made site judged
 service_bound site judged _ = unserved
 
 -- ---- an invocation
+
+-- the service of the instance that is bound
+abbrev pub service_of : Site → Standing → Option Service
+service_of site s =
+    option_map (λ instance. instance.service)
+    (option_and_then (λ place. slice_get site.instances place) s.bound)
+
+-- the channels for which a START of RCF may ask it
+abbrev pub permitted : Site → Standing → List Gvcid
+permitted site s = channels_of (service_of site s)
 
 abbrev pub answered_with : Site → Standing → Kind → Option Message → Standing
 answered_with site s k None = s
@@ -68,7 +81,8 @@ with_conclusion site s k c =
 -- an invocation that passed leads to this, where the book replies so
 abbrev pub with_invocation : Site → Standing → Invocation → Replied → Standing
 with_invocation site s i r =
-    with_conclusion site s (invocation_kind i) (concluded_by s.service i r s.moment)
+    with_conclusion site s (invocation_kind i)
+    (concluded_by s.service (permitted site s) i r s.moment)
 
 -- What a message may make of a session: where that goes on, closes or has ended, it does so too, by
 -- no fault of its link and with no want of memory; and what listen came to and the moment stay.

@@ -1,7 +1,7 @@
 -- The steps of a round, one after the other. Their order is this product's own.
 use Rattle.std.specs.Prelude.{ℕ, ◌-◌, ◌*◌, ◌==◌, nat_le, Bool, true, false, not, ◌&&◌, ◌||◌}
 use Rattle.std.specs.Prelude.{if◌then◌else◌, Option, Some, None, Result, Ok, Err, []}
-use Rattle.std.specs.Prelude.{length, option_map, option_and_then, slice_get}
+use Rattle.std.specs.Prelude.{length}
 use Rattle.octet_core.specs.declared.offer.Offer.{Offer}
 use Rattle.octet_core.specs.declared.offer.Offer.TheVariants.{Whole, Stalled, Failed as Refused}
 use Rattle.isp1_tml.specs.declared.tml_fault.TmlFault.{TmlFault}
@@ -10,7 +10,6 @@ use Rattle.isp1_tml.specs.Message.{Content, heartbeat, spelling}
 use Rattle.link_model.specs.declared.call.Heard.{Heard}
 use Rattle.link_model.specs.declared.call.Heard.TheVariants.{Arrived, Nothing, Closed, Failed}
 use Rattle.sle_numbers.specs.declared.peer_abort_diagnostic.PeerAbortDiagnostic.TheVariants.{CommunicationsFailure}
-use Rattle.station_config.specs.declared.service.Service.{Service}
 use Rattle.station_config.specs.declared.site.Site.{Site}
 use Rattle.cltu_queue.specs.declared.ask.Ask.{Ask}
 use Rattle.cltu_queue.specs.declared.ask.Ask.TheVariants as ask
@@ -28,7 +27,7 @@ use Rattle.session_core.specs.Message.{said_in, judged}
 use Rattle.session_core.specs.Handling.{ended_by, aborted, said_ask, after_message}
 use Rattle.session_core.specs.Service.{leaves_running}
 use Rattle.session_core.specs.Served.{want_served}
-use Rattle.session_core.specs.ServiceSteps.{with_report, with_notice, is_active, with_service}
+use Rattle.session_core.specs.ServiceSteps.{service_of, with_report, with_notice, is_active, with_service}
 use Rattle.session_core.specs.ServiceSteps.{has_outgoing}
 use Rattle.archive_terms.specs.Glimpse.{Want, wants_nothing}
 use Rattle.assoc_core.specs.declared.step.Step.{Step}
@@ -132,12 +131,6 @@ abbrev pub stays_running : UserContent → Step → Bool
 stays_running heartbeat_said Pass = true
 stays_running (invocation i) Pass = leaves_running i
 stays_running _ _ = false
-
--- the service of the instance that is bound
-abbrev pub service_of : Site → Standing → Option Service
-service_of site s =
-    option_map (λ instance. instance.service)
-    (option_and_then (λ place. slice_get site.instances place) s.bound)
 
 -- what a message says to the session
 abbrev pub said_to : Site → Standing → Content → UserContent

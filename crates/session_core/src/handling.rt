@@ -12,8 +12,8 @@ ghost use Rattle.session_core.specs.Handling.{with_denial, with_unbind, after_pa
 ghost use Rattle.session_core.specs.Handling.{invoked, after_judged};
 ghost use Rattle.session_core.specs.Inquiry.{inquiry_of, replied_of};
 ghost use Rattle.session_core.specs.Message.{judged};
-ghost use Rattle.session_core.specs.ServiceSteps.{service_made};
-ghost use Rattle.session_core.specs.Steps.{service_of, stays_running};
+ghost use Rattle.session_core.specs.ServiceSteps.{service_of, service_made};
+ghost use Rattle.session_core.specs.Steps.{stays_running};
 ghost use Rattle.session_core.specs.Seen.{said_of, places_of_bind, places_of, ask_by};
 
 use crate::bind_places::BindPlaces;

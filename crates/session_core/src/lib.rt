@@ -17,6 +17,7 @@
 mod arrival;
 mod bind_places;
 mod block;
+mod channel_start;
 mod course;
 mod ended;
 mod handling;
@@ -25,7 +26,9 @@ pub mod laws;
 mod listening;
 mod outgoing;
 mod raf_served;
+mod rcf_served;
 mod replied;
+mod return_served;
 mod returns;
 mod run;
 mod service;

@@ -2,8 +2,8 @@
 //
 // This is where the services meet a session. Each call that a session makes of one is a function
 // here, exact by a function of `specs/Served.antt`, with an arm for each service that is built; those
-// that need the session's site and numbers stand in `service_steps.rt`. RAF is built
-// (`raf_served.rt`).
+// that need the session's site and numbers stand in `service_steps.rt`. RAF and RCF are built
+// (`raf_served.rt`, `rcf_served.rt`, and what they have alike in `return_served.rt`).
 ghost use Rattle.std.specs.Prelude.{◌≡◌, IfOk, IsTrue};
 ghost use Rattle.frame_select.specs.Want.{want_of};
 ghost use Rattle.frame_select.specs.Glimpse.{glimpse_of};
@@ -15,11 +15,13 @@ ghost use Rattle.session_core.specs.Served.{served_at, prepared, want_served, se
 ghost use Rattle.session_core.specs.Served.{dropped_by, served_settled};
 
 use crate::inquiry::Inquiry;
-use crate::raf_served::{asked, raf_made};
+use crate::raf_served::{raf_asked, raf_made};
+use crate::rcf_served::{rcf_asked, rcf_made};
 use crate::service::Invocation;
 use frame_select::{Glimpse, Want};
 use octet_core::{Memory, Offer};
 use raf_service::{Raf, RafInvocation};
+use rcf_service::{Rcf, RcfInvocation};
 use station_book::Ask;
 use station_config::Service;
 use std::alloc::Global;
@@ -31,6 +33,8 @@ pub enum ServiceState {
     Nothing,
     /// An instance of return all frames.
     Raf(Raf),
+    /// An instance of return channel frames.
+    Rcf(Rcf),
 }
 
 impl ServiceState {
@@ -54,7 +58,16 @@ impl ServiceState {
                 let raf = raf_made(alloc, *mode, *size, *latency, timeout)?;
                 Ok(ServiceState::Raf(raf))
             }
-            Service::Rcf { .. } | Service::Cltu { .. } => Ok(ServiceState::Nothing),
+            Service::Rcf {
+                mode,
+                size,
+                latency,
+                ..
+            } => {
+                let rcf = rcf_made(alloc, *mode, *size, *latency, timeout)?;
+                Ok(ServiceState::Rcf(rcf))
+            }
+            Service::Cltu { .. } => Ok(ServiceState::Nothing),
         }
     }
 
@@ -69,7 +82,11 @@ impl ServiceState {
             ServiceState::Nothing => Ok(Inquiry::of(Ask::Nothing)),
             ServiceState::Raf(raf) => Ok(Inquiry {
                 ask: Ask::Nothing,
-                want: raf.prepare(&asked(invocation)),
+                want: raf.prepare(&raf_asked(invocation)),
+            }),
+            ServiceState::Rcf(rcf) => Ok(Inquiry {
+                ask: Ask::Nothing,
+                want: rcf.prepare(&rcf_asked(invocation)),
             }),
         }
     }
@@ -82,6 +99,7 @@ impl ServiceState {
         match self {
             ServiceState::Nothing => Want::Nothing,
             ServiceState::Raf(raf) => raf.prepare(&RafInvocation::Nothing),
+            ServiceState::Rcf(rcf) => rcf.prepare(&RcfInvocation::Nothing),
         }
     }
 
@@ -96,6 +114,9 @@ impl ServiceState {
             ServiceState::Raf(raf) => {
                 let _is_offering = raf.step(glimpse, now);
             }
+            ServiceState::Rcf(rcf) => {
+                let _is_offering = rcf.step(glimpse, now);
+            }
         }
     }
 
@@ -108,6 +129,7 @@ impl ServiceState {
         match self {
             ServiceState::Nothing => None,
             ServiceState::Raf(raf) => raf.discards(Offer::Stalled),
+            ServiceState::Rcf(rcf) => rcf.discards(Offer::Stalled),
         }
     }
 
@@ -119,6 +141,7 @@ impl ServiceState {
         match self {
             ServiceState::Nothing => {}
             ServiceState::Raf(raf) => raf.settle(answer),
+            ServiceState::Rcf(rcf) => rcf.settle(answer),
         }
     }
 }

@@ -4,7 +4,7 @@
 // invocation, the status report that is due, how a notice is told, and its message behind the block.
 // Its returns are signed by `Standing::sign_bound`, become the block by `Block::put`, and are added
 // to it by `Block::add`.
-ghost use Rattle.std.specs.Prelude.{◌≡◌, ◌<◌, None, IsTrue, option_copied};
+ghost use Rattle.std.specs.Prelude.{◌≡◌, ◌<◌, ◌≤◌, None, IsTrue, length, option_copied};
 ghost use Rattle.cds_time.specs.declared.cds.TheConstants.{MOMENT_END};
 ghost use Rattle.frame_select.specs.Want.{want_of};
 ghost use Rattle.frame_select.specs.Glimpse.{glimpse_of};
@@ -24,12 +24,15 @@ use crate::course::Course;
 use crate::handling::peer_at;
 use crate::inquiry::Inquiry;
 use crate::outgoing::Outgoing;
-use crate::raf_served::{asked, put_buffer, signer_to};
+use crate::raf_served::raf_asked;
+use crate::rcf_served::rcf_asked;
 use crate::replied::Replied;
+use crate::return_served::{put_buffer, signer_to};
 use crate::service::Invocation;
 use crate::service_state::ServiceState;
 use crate::standing::Standing;
 use assoc_core::{Outcome, State};
+use buffer_message::ReturnService;
 use cltu_queue::Notice;
 use frame_select::{Glimpse, Want};
 use isp1_auth::RandomNumbers;
@@ -75,10 +78,16 @@ impl Standing {
         ensures { self.new ≡ with_invocation site.now self.old (invocation_of invocation.now)
             (replied_of answer.now) }
     {
+        let channels = self.permitted(site);
         match &mut self.service {
             ServiceState::Nothing => self.lead_to(Outcome::Kept),
             ServiceState::Raf(raf) => {
-                let told = raf.conclude(&asked(invocation), &answer.glimpse, self.moment);
+                let told = raf.conclude(&raf_asked(invocation), &answer.glimpse, self.moment);
+                self.put_answer(site, invocation, told);
+            }
+            ServiceState::Rcf(rcf) => {
+                let asked = rcf_asked(invocation);
+                let told = rcf.conclude(&asked, channels, &answer.glimpse, self.moment);
                 self.put_answer(site, invocation, told);
             }
         }
@@ -107,12 +116,21 @@ impl Standing {
     // The status report, if one is due.
     #[tactic(auto, unfolding(crate::specs::Served::reported_by))]
     fn report(&mut self, site: &Site, answer: &Replied)
-        requires { self.old.moment < MOMENT_END }
+        requires moment { self.old.moment < MOMENT_END }
+        requires room { length self.old.block ≤ 3064 }
         ensures { self.new ≡ reported site.now self.old
             (reported_by self.old.service (replied_of answer.now) self.old.moment) }
     {
-        match self.service {
-            ServiceState::Nothing | ServiceState::Raf(_) => {}
+        match &mut self.service {
+            ServiceState::Nothing => {}
+            ServiceState::Raf(raf) => {
+                let due = raf.report(&answer.glimpse, self.moment);
+                self.put_raf_report(site, due);
+            }
+            ServiceState::Rcf(rcf) => {
+                let due = rcf.report(&answer.glimpse, self.moment);
+                self.put_rcf_report(site, due);
+            }
         }
     }
 
@@ -123,7 +141,7 @@ impl Standing {
         ensures { self.new ≡ noticed site.now self.old notice }
     {
         match self.service {
-            ServiceState::Nothing | ServiceState::Raf(_) => {}
+            ServiceState::Nothing | ServiceState::Raf(_) | ServiceState::Rcf(_) => {}
         }
     }
 
@@ -284,7 +302,28 @@ fn put_message(
     match service {
         ServiceState::Nothing => outgoing.clear(),
         ServiceState::Raf(raf) => {
-            put_buffer(outgoing, numbers, raf, signer_to(site, peer, now));
+            let signer = signer_to(site, peer, now);
+            let offers = raf.is_offering();
+            put_buffer(
+                outgoing,
+                numbers,
+                ReturnService::Raf,
+                offers,
+                raf.current(),
+                signer,
+            );
+        }
+        ServiceState::Rcf(rcf) => {
+            let signer = signer_to(site, peer, now);
+            let offers = rcf.is_offering();
+            put_buffer(
+                outgoing,
+                numbers,
+                ReturnService::Rcf,
+                offers,
+                rcf.current(),
+                signer,
+            );
         }
     }
 }
