@@ -13,8 +13,13 @@ use Rattle.cds_time.specs.Octets.{FieldsFit}
 use Rattle.cds_time.specs.declared.cds.Cds.{Cds}
 use Rattle.cds_time.specs.declared.cds.Rest.{Rest}
 use Rattle.cds_time.specs.declared.cds.Rest.TheVariants.{Micros, Picos}
+use Rattle.sle_common.specs.Gvcid.{channel, gvcid}
 use Rattle.sle_common.specs.Time.{time, conditional_time}
+use Rattle.sle_common.specs.declared.gvcid.Channel.{Channel}
+use Rattle.sle_common.specs.declared.gvcid.Channel.TheVariants.{Master, Virtual}
+use Rattle.sle_common.specs.declared.gvcid.Gvcid.{Gvcid}
 use Rattle.sle_common.specs.declared.instance_id.InstancePart.{InstancePart}
+use Rattle.words.specs.Channels as text
 use Rattle.words.specs.Names.{is_graphic, is_name}
 use Rattle.words.specs.Identifiers.{fits_identifier}
 use Rattle.drill_text.specs.Asks.{ask}
@@ -37,6 +42,22 @@ form_fits days millis (Picos n) fit = record { fields = fit; form = refl }
 pub conditional_fits : (t : Option Cds) → IfSome t (λ t. FieldsFit t) → conditional_time.Fits t
 conditional_fits None fit = tt
 conditional_fits (Some t) fit = form_fits t.days t.millis t.rest fit
+
+-- ---- channels
+
+channel_fits : (c : Channel) → text.channel.Fits c → channel.Fits c
+channel_fits Master fits = tt
+channel_fits (Virtual n) fits =
+    record { least_so = fits.0; greatest_so = omega (arith, fits.1) }
+
+pub gvcid_fits : (g : Gvcid) → text.gvcid.Fits g → gvcid.Fits g
+gvcid_fits g fits = (
+  record { least_so = fits.0.0; greatest_so = omega (arith, fits.0.1) },
+  (
+    record { least_so = fits.1.0.0; greatest_so = omega (arith, fits.1.0.1) },
+    channel_fits g.channel fits.1.1,
+  ),
+)
 
 -- ---- names
 

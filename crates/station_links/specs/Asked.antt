@@ -6,15 +6,20 @@ use Rattle.bind_pdu.specs.Binding.{bind, BindContent}
 use Rattle.bind_pdu.specs.Unbinding.{unbind, UnbindContent}
 use Rattle.cds_time.specs.declared.cds.Cds.{Cds}
 use Rattle.isp1_tml.specs.Message.{Content, context, pdu, spelling}
-use Rattle.return_pdu.specs.Starting.{RafStartContent, raf_start}
+use Rattle.return_pdu.specs.Starting.{RafStartContent, raf_start, RcfStartContent, rcf_start}
 use Rattle.return_pdu.specs.Stopping.{StopContent, stop}
+use Rattle.return_pdu.specs.Scheduling.{ScheduleContent, schedule}
+use Rattle.return_pdu.specs.Getting.{GetParameterContent, get_parameter}
+use Rattle.sle_common.specs.declared.gvcid.Gvcid.{Gvcid}
 use Rattle.sle_common.specs.declared.instance_id.InstancePart.{InstancePart}
+use Rattle.sle_common.specs.declared.report_kind.ReportKind.{ReportKind}
 use Rattle.sle_numbers.specs.declared.requested_frame_quality.RequestedFrameQuality.{RequestedFrameQuality}
 use Rattle.sle_numbers.specs.UnbindReason.{number_of}
 use Rattle.sle_numbers.specs.declared.unbind_reason.UnbindReason.TheVariants.{End}
 use Rattle.drill_text.specs.declared.ask_line.AskLine.{AskLine}
 use Rattle.drill_text.specs.declared.ask_line.AskLine.TheVariants.{Context, Bind, Unbind}
-use Rattle.drill_text.specs.declared.ask_line.AskLine.TheVariants.{StartRaf, Stop}
+use Rattle.drill_text.specs.declared.ask_line.AskLine.TheVariants.{StartRaf, StartRcf, Stop}
+use Rattle.drill_text.specs.declared.ask_line.AskLine.TheVariants.{Report, Get}
 
 abbrev pub port : List ℕ
 port = codes "PORT1"
@@ -33,7 +38,8 @@ bind_asked name service version id =
 abbrev pub unbind_asked : UnbindContent
 unbind_asked = record { credentials = None; reason = number_of End }
 
--- START of RAF and STOP have the invoke id 0
+-- what a service is told has the invoke id 0: a START of RAF and one of RCF, a STOP, a
+-- SCHEDULE-STATUS-REPORT and a GET-PARAMETER
 abbrev pub start_asked : Option Cds → Option Cds → RequestedFrameQuality → RafStartContent
 start_asked first last quality =
     record {
@@ -44,10 +50,26 @@ start_asked first last quality =
       quality = quality;
     }
 
+abbrev pub channel_asked : Option Cds → Option Cds → Gvcid → RcfStartContent
+channel_asked first last channel =
+    record {
+      credentials = None;
+      invoke = 0;
+      start = first;
+      stop = last;
+      channel = channel;
+    }
+
 abbrev pub stop_asked : StopContent
 stop_asked = record { credentials = None; invoke = 0 }
 
--- the message of an `ask`, if it is built: context, BIND, UNBIND, START of RAF and STOP are
+abbrev pub report_asked : ReportKind → ScheduleContent
+report_asked kind = record { credentials = None; invoke = 0; report = kind }
+
+abbrev pub get_asked : ℕ → GetParameterContent
+get_asked name = record { credentials = None; invoke = 0; name = name }
+
+-- the message of an `ask`, if it is built: all but those of FCLTU are
 abbrev pub message_of : AskLine → Option Content
 message_of (Context interval factor) = Some (context interval factor)
 message_of (Bind name service version id) =
@@ -55,7 +77,11 @@ message_of (Bind name service version id) =
 message_of Unbind = Some (pdu (canonical (unbind.tree unbind_asked)))
 message_of (StartRaf first last quality) =
     Some (pdu (canonical (raf_start.tree (start_asked first last quality))))
+message_of (StartRcf first last channel) =
+    Some (pdu (canonical (rcf_start.tree (channel_asked first last channel))))
 message_of Stop = Some (pdu (canonical (stop.tree stop_asked)))
+message_of (Report kind) = Some (pdu (canonical (schedule.tree (report_asked kind))))
+message_of (Get name) = Some (pdu (canonical (get_parameter.tree (get_asked name))))
 message_of _ = None
 
 -- whether every value of a PDU has few octets (this product's own)

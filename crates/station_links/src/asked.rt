@@ -4,12 +4,16 @@ ghost use Rattle.ber_core.specs.Spelling.{canonical};
 ghost use Rattle.ber_shape.specs.Members.{structured};
 ghost use Rattle.bind_pdu.specs.Binding.{bind};
 ghost use Rattle.bind_pdu.specs.Unbinding.{unbind};
-ghost use Rattle.return_pdu.specs.Starting.{raf_start};
+ghost use Rattle.return_pdu.specs.Starting.{raf_start, rcf_start};
 ghost use Rattle.return_pdu.specs.Stopping.{stop};
+ghost use Rattle.return_pdu.specs.Scheduling.{schedule};
+ghost use Rattle.return_pdu.specs.Getting.{get_parameter};
+ghost use Rattle.sle_common.specs.Gvcid.{gvcid};
 ghost use Rattle.isp1_tml.specs.Message.{pdu, context, header, spelling};
 ghost use Rattle.drill_text.specs.Asks.{ask};
 ghost use Rattle.station_links.specs.Asked.{message_of, unbind_asked, bind_asked, start_asked};
-ghost use Rattle.station_links.specs.Asked.{stop_asked, is_short, IsAsked};
+ghost use Rattle.station_links.specs.Asked.{channel_asked, stop_asked, report_asked, get_asked};
+ghost use Rattle.station_links.specs.Asked.{is_short, IsAsked};
 ghost use Rattle.station_links.specs.declared.ask_fault.AskFault.TheVariants.{NotBuilt};
 
 use crate::ask_fault::AskFault;
@@ -20,8 +24,8 @@ use cds_time::Cds;
 use drill_text::AskLine;
 use isp1_tml::head;
 use octet_core::{Memory, Octets};
-use return_pdu::{RafStart, Stop};
-use sle_common::{Credentials, InstanceId, InstanceRef};
+use return_pdu::{GetParameter, RafStart, RcfStart, Schedule, Stop};
+use sle_common::{Credentials, Gvcid, InstanceId, InstanceRef, ReportKind};
 use sle_numbers::{Numbered, RequestedFrameQuality, UnbindReason};
 use std::alloc::{AllocError, Global};
 
@@ -51,7 +55,14 @@ pub(crate) fn message_of(alloc: Global, line: &AskLine) -> Result<Octets, AskFau
             stop,
             quality,
         } => Ok(start_message(alloc, *start, *stop, *quality)?),
+        AskLine::StartRcf {
+            start,
+            stop,
+            channel,
+        } => Ok(channel_message(alloc, *start, *stop, *channel)?),
         AskLine::Stop => Ok(stop_message(alloc)?),
+        AskLine::Report(kind) => Ok(report_message(alloc, *kind)?),
+        AskLine::Get { name } => Ok(get_message(alloc, *name)?),
         _ => Err(AskFault::NotBuilt),
     }
 }
@@ -145,6 +156,27 @@ fn start_message(
     pdu_message(alloc, &sent)
 }
 
+#[tactic(auto, using(crate::proofs::Fits::conditional_fits))]
+fn channel_message(
+    alloc: Global,
+    start: Option<Cds>,
+    stop: Option<Cds>,
+    channel: Gvcid,
+) -> Result<Octets, Memory>
+    requires { gvcid.Fits channel }
+    ensures { IfOk result (λ octets. octets
+        ≡ spelling (pdu (canonical (rcf_start.tree (channel_asked start stop channel))))) }
+{
+    let sent = RcfStart {
+        credentials: Credentials::Unused,
+        invoke: 0,
+        start,
+        stop,
+        channel,
+    };
+    pdu_message(alloc, &sent)
+}
+
 fn stop_message(alloc: Global) -> Result<Octets, Memory>
     ensures { IfOk result (λ octets. octets
         ≡ spelling (pdu (canonical (stop.tree stop_asked)))) }
@@ -152,6 +184,30 @@ fn stop_message(alloc: Global) -> Result<Octets, Memory>
     let sent = Stop {
         credentials: Credentials::Unused,
         invoke: 0,
+    };
+    pdu_message(alloc, &sent)
+}
+
+fn report_message(alloc: Global, report: ReportKind) -> Result<Octets, Memory>
+    ensures { IfOk result (λ octets. octets
+        ≡ spelling (pdu (canonical (schedule.tree (report_asked report))))) }
+{
+    let sent = Schedule {
+        credentials: Credentials::Unused,
+        invoke: 0,
+        report,
+    };
+    pdu_message(alloc, &sent)
+}
+
+fn get_message(alloc: Global, name: u16) -> Result<Octets, Memory>
+    ensures { IfOk result (λ octets. octets
+        ≡ spelling (pdu (canonical (get_parameter.tree (get_asked name))))) }
+{
+    let sent = GetParameter {
+        credentials: Credentials::Unused,
+        invoke: 0,
+        name,
     };
     pdu_message(alloc, &sent)
 }

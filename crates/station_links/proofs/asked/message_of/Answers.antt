@@ -1,7 +1,7 @@
 use Rattle.std.proofs.Common.{subst}
 use Rattle.drill_text.specs.Asks.{ask}
 use Rattle.drill_text.specs.declared.ask_line.AskLine.{AskLine}
-use Rattle.station_links.proofs.Fits.{bind_fits}
+use Rattle.station_links.proofs.Fits.{bind_fits, gvcid_fits}
 use Rattle.station_links.proofs.asked.message_of.Goals as goal
 
 pub bind_message-requires : goal.bind_message-requires
@@ -13,3 +13,8 @@ pub returns-in_ok-bind_message-in-Bind-clause-ok :
     goal.returns-in_ok-bind_message-in-Bind-clause-ok
 returns-in_ok-bind_message-in-Bind-clause-ok c =
     rw (c.in-Bind.is) c.in_ok-bind_message-in-Bind.ensures
+
+pub channel_message-requires : goal.channel_message-requires
+channel_message-requires c =
+    gvcid_fits c.in-StartRcf.channel
+    (subst (λ (a : AskLine). ask.Fits a) c.in-StartRcf.is c.requires).1.1
