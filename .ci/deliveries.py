@@ -1,15 +1,17 @@
-"""A second program for the return services: what a START of RAF is answered, and what it hands
-over (docs/PROFILE.md, sections 4 to 6 and 21). Each round works out anew, from the whole archive,
-which entries are picked.
+"""A second program for the return services: what a START is answered and hands over, and what is
+reported (docs/PROFILE.md, sections 4 to 6 and 21). Each round works out anew, from the whole
+archive, which entries are picked.
 """
-from forms import DAY_MILLIS, PICOS, element, integer, moment
+from forms import DAY_MILLIS, PICOS, SECOND, element, integer, moment
+from sites import RAF
 
 FULL_OCTETS = 524_288
 MOST_LOST = 16_777_215
 BACKLOG, END = "backlog", "end"
 
-# diagnostics of START
-OUT_OF_SERVICE, INVALID_START, INVALID_STOP, MISSING_TIME = 0, 2, 3, 4
+# diagnostics of START, and of SCHEDULE-STATUS-REPORT
+OUT_OF_SERVICE, INVALID_START, INVALID_STOP, MISSING_TIME, INVALID_CHANNEL = 0, 2, 3, 4, 5
+NO_REPORTS_OFFLINE, STOPPED_ALREADY, INVALID_CYCLE = 0, 1, 2
 
 HALTED = 2
 
@@ -48,20 +50,48 @@ def production_of(archive):
     return next((entry[1] for entry in reversed(archive) if entry[0] == "production"), 0)
 
 
-class Selection:
-    """What a START asks for, with its times as moments or None."""
+def locks_of(archive):
+    """Frame sync, symbol, subcarrier and carrier."""
+    for kind, *fields in reversed(archive):
+        if kind == "frame":
+            return 0, 0, 0, 0
+        if kind == "loss":
+            _, carrier, subcarrier, symbol = fields
+            return 1, symbol, subcarrier, carrier
+    return 3, 3, 3, 3
 
-    def __init__(self, start, stop, quality, first, is_online):
-        self.start, self.stop, self.quality = start, stop, quality
+
+def channel_of(frame):
+    """Spacecraft, version and virtual channel by a frame's first octets, or None."""
+    if len(frame) < 2:
+        return None
+    head = int.from_bytes(frame[:2], "big")
+    if head >> 14 == 0:
+        return head >> 4 & 1_023, 0, head >> 1 & 7
+    return (head >> 6 & 255, 1, head & 63) if head >> 14 == 1 else None
+
+
+def is_within(channel, wider):
+    """Whether a channel is this one, or one of this master channel."""
+    return channel is not None and channel[:2] == wider[:2] and wider[2] in (None, channel[2])
+
+
+class Selection:
+    """What a START asks for, with its times as moments or None: of RAF a quality, of RCF a channel."""
+
+    def __init__(self, start, stop, wanted, first, is_online):
+        self.start, self.stop, self.wanted = start, stop, wanted
         self.first, self.is_online = first, is_online
 
     def is_closed(self, archive):
         return self.stop is not None and any(closes(entry, self.stop) for entry in archive)
 
     def takes_frame(self, frame):
-        _, stamp, quality, *_ = frame
-        return (self.start is None or self.start <= moment(stamp)) and \
-            (self.stop is None or moment(stamp) <= self.stop) and self.quality in (2, quality)
+        _, stamp, quality, _, _, octets = frame
+        is_wanted = self.wanted in (2, quality) if isinstance(self.wanted, int) \
+            else quality == 0 and is_within(channel_of(octets), self.wanted)
+        return is_wanted and (self.start is None or self.start <= moment(stamp)) and \
+            (self.stop is None or moment(stamp) <= self.stop)
 
     def takes_notice(self, archive, place):
         before = archive[:place]
@@ -78,19 +108,26 @@ class Selection:
 
 # ---- an instance that is bound
 
-class Raf:
-    """A bound instance of RAF: stopped, or with a START whose picked entries are settled one buffer
-    after the other. A buffer's items are BACKLOG, END, and places of the archive."""
+class Returning:
+    """A bound instance of a return service: stopped, or with a START whose picked entries are settled
+    one buffer after the other. A buffer's items are BACKLOG, END, and places of the archive."""
 
-    def __init__(self, mode, size, latency):
-        self.mode, self.size, self.latency = mode, size, latency
+    def __init__(self, instance):
+        self.service, self.mode, self.size = instance.service, instance.mode, instance.size
+        self.latency, self.timeout = instance.latency, instance.timeout
+        self.permitted = instance.channels
         self.asked = None
+        # what the last START asked for: all frames of RAF, and no channel yet of RCF
+        self.wanted = 2 if self.service == RAF else None
+        # the seconds of a cycle of reports, when the last one was given, and whether one is asked for
+        self.cycle, self.reported, self.owes_report = None, None, False
+        self.error_free = self.delivered = 0
 
     @property
     def is_online(self):
         return self.mode != b"offline"
 
-    def refusal(self, archive, start, stop):
+    def refusal(self, archive, start, stop, wanted):
         """Why a START is refused, or None. Its times are stamps or None."""
         if self.is_online and production_of(archive) == HALTED:
             return OUT_OF_SERVICE
@@ -101,12 +138,15 @@ class Raf:
             return MISSING_TIME
         if None not in (start, stop) and moment(stop) < moment(start):
             return INVALID_STOP
+        if self.service != RAF and not any(is_within(wanted, each) for each in self.permitted):
+            return INVALID_CHANNEL
         return None
 
-    def start(self, archive, start, stop, quality):
+    def start(self, archive, start, stop, wanted):
+        self.wanted = wanted
         start, stop = (None if stamp is None else moment(stamp) for stamp in (start, stop))
         first = 0 if self.mode != b"timely" and start is not None else len(archive)
-        self.asked = Selection(start, stop, quality, first, self.is_online)
+        self.asked = Selection(start, stop, wanted, first, self.is_online)
         self.settled, self.before = 0, None
         self.items, self.fixed, self.since = [], False, None
         self.owes, self.has_ended = False, False
@@ -133,7 +173,7 @@ class Raf:
         self.fixed = bool(self.items) and (
             self.is_full(archive) or self.holds_notice(archive)
             or any(item in (BACKLOG, END) for item in self.items)
-            or self.is_online and now - self.since >= self.latency or is_closed and has_all)
+            or self.is_online and now - self.since >= self.latency * SECOND or is_closed and has_all)
         return self.fixed
 
     def put(self, item, now):
@@ -161,6 +201,7 @@ class Raf:
                 told.append(item)
             elif archive[item][0] == "frame":
                 _, ert, quality, antenna, _, frame = archive[item]
+                quality = quality if self.service == RAF else None
                 told.append((ert, quality, antenna, continuity(archive, before, item), frame))
                 before = item
             else:
@@ -174,6 +215,8 @@ class Raf:
         for place in self.places():
             if archive[place][0] == "frame":
                 self.before = place
+                self.delivered += 1
+                self.error_free += archive[place][2] == 0
         self.settle()
 
     def stalled(self):
@@ -190,6 +233,44 @@ class Raf:
         self.items, self.fixed = [], False
 
 
+    # ---- reports and parameters
+
+    def schedule(self, kind):
+        """Why a SCHEDULE-STATUS-REPORT for "now", "stop" or seconds is refused, or None."""
+        if not self.is_online:
+            return NO_REPORTS_OFFLINE
+        if kind == "stop":
+            if self.cycle is None:
+                return STOPPED_ALREADY
+            self.cycle, self.owes_report = None, False
+            return None
+        if kind != "now":
+            if not 2 <= kind <= 600:
+                return INVALID_CYCLE
+            self.cycle = kind
+        self.owes_report = True
+        return None
+
+    def report(self, archive, now):
+        """The numbers of the report that is due, or None."""
+        is_due = self.owes_report or \
+            self.cycle is not None and now - self.reported >= self.cycle * SECOND
+        if not is_due:
+            return None
+        self.reported, self.owes_report = now, False
+        counts = [self.error_free, self.delivered] if self.service == RAF else [self.delivered]
+        return [*counts, *locks_of(archive), production_of(archive)]
+
+    def parameter(self, name):
+        """The tag and the value of a parameter, or None where there is none of this name."""
+        mode = [b"timely", b"complete", b"offline"].index(self.mode)
+        return {
+            4: (0, self.size), 6: (1, mode), 15: (2, self.latency if self.is_online else None),
+            26: (3, self.cycle), 27 if self.service == RAF else 28: (4, self.wanted),
+            29: (5, self.timeout),
+        }.get(name)
+
+
 # ---- its octets (CCSDS 911.1-B, annex A)
 
 def spelled_item(credentials, item):
@@ -202,9 +283,27 @@ def spelled_item(credentials, item):
         fields = time_element(item[1]) + b"".join(map(integer, item[2:]))
         return element(0xA1, credentials + element(0xA0, fields))
     ert, quality, antenna, gap, frame = item
+    received = b"" if quality is None else integer(quality)
     return element(0xA0, credentials + time_element(ert) + element(0x81, antenna) + integer(gap)
-                   + integer(quality) + element(0x80, b"") + element(0x04, frame))
+                   + received + element(0x80, b"") + element(0x04, frame))
 
 
 def spelled_buffer(credentials, items):
     return element(0xA8, b"".join(map(spelled_item, credentials, items)))
+
+
+def channel_fields(channel):
+    spacecraft, version, virtual = channel
+    return integer(spacecraft) + integer(version) + (
+        element(0x80, b"") if virtual is None else integer(virtual, 0x81))
+
+
+def spelled_parameter(name, tag, value):
+    """A parameter's name and value; the limit, the cycle and the channel may be none."""
+    if value is None:
+        told = element(0x81 if tag == 2 else 0x80, b"")
+    elif tag in (2, 3):
+        told = integer(value, 0x80 if tag == 2 else 0x81)
+    else:
+        told = integer(value) if isinstance(value, int) else element(0xA1, channel_fields(value))
+    return element(0xA0 + tag, integer(name) + told)

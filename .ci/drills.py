@@ -2,9 +2,10 @@
 works out each line from the whole archive, and knows neither bounds nor passes.
 """
 from deliveries import closes, continuity, spelled_buffer
-from forms import element, identifier, moment, name, number, octets, one_of, pdu_message, sent, time
-from sessions import (CONTEXT_BEGINS, MOST_PIECE, Book, Session, bind_pdu, start_pdu, stop_pdu,
-                      unbind_pdu)
+from forms import (channel, element, identifier, moment, name, number, octets, one_of, pdu_message,
+                   sent, time)
+from sessions import (CONTEXT_BEGINS, MOST_PIECE, Book, Session, bind_pdu, get_pdu, schedule_pdu,
+                      start_pdu, stop_pdu, unbind_pdu)
 from sites import head_of
 
 MOST_OCTETS = 16_777_216
@@ -58,15 +59,27 @@ def when(word):
     return None if word == b"none" else time(word)
 
 
-# what is behind `ask C`, and the message that it makes; START of RAF alone is built
+def wanted(word):
+    """A channel of RCF, or a quality of RAF."""
+    return channel(word) if b"/" in word else number(word, 2)
+
+
+def report(word):
+    """"now", "stop", or the seconds of a cycle."""
+    return word.decode() if word in (b"now", b"stop") else number(word, 65_535)
+
+
+# what is behind `ask C`, and the message that it makes; those of FCLTU aren't built
 ASKS = {
     b"context": (words_of([within(65_535), within(65_535)]), context_message),
     b"bind": (words_of([name, within(65_535), within(65_535, 1), identifier]),
               lambda *fields: pdu_message(bind_pdu(None, fields[0], b"PORT1", *fields[1:]))),
     b"unbind": (words_of([]), lambda: pdu_message(unbind_pdu(None, 0))),
-    b"start": (words_of([when, when, within(2)]),
+    b"start": (words_of([when, when, wanted]),
                lambda *fields: pdu_message(start_pdu(None, 0, *fields))),
     b"stop": (words_of([]), lambda: pdu_message(stop_pdu(None, 0))),
+    b"report": (words_of([report]), lambda kind: pdu_message(schedule_pdu(None, 0, kind))),
+    b"get": (words_of([within(65_535)]), lambda name: pdu_message(get_pdu(None, 0, name))),
 }
 
 
@@ -211,8 +224,8 @@ def answer(archive, start, stop, quality):
 # ---- a run
 
 class Run:
-    """A station and its connections, line by line: what was written, what each message that was
-    handed over says, and whether an entry was refused as Full."""
+    """A station and its connections, line by line: what was written, what the messages of each piece
+    that was handed over say, and whether an entry was refused as Full."""
 
     def __init__(self, site):
         self.site, self.archive, self.file = site, [], File()
@@ -271,7 +284,7 @@ class Run:
             return
         for buffer in answer(self.archive, start, stop, quality):
             self.written += sent(0, buffer_message(buffer))
-            self.read.append([said(item) for item in buffer])
+            self.read.append([[said(item) for item in buffer]])
 
     # ---- connections
 
@@ -311,7 +324,8 @@ class Run:
 
 
 def drill(script):
-    """The exit code, the transcript, what each message in it says, and the script's site."""
+    """The exit code, the transcript, what the messages of each line of it say, and the script's
+    site."""
     site, head, ended = head_of([])
     if len(script) > MOST_OCTETS:
         return 11, b"input too long\n", [], site

@@ -74,7 +74,9 @@ def by_hand(program):
 
 def readable(program, name, text):
     """Each line is read, and numbers that have words are told by them."""
-    status, output = run(program, ["explain"], text)
+    # the messages of examples/channels.script are of RCF
+    words = ["explain", "rcf"] if name.startswith("channels.") else ["explain"]
+    status, output = run(program, words, text)
     meant = output.decode().splitlines()
     check(f"{name}, status", status, 0)
     check(f"{name}, its lines", lines_of(output.decode()).encode(), text)

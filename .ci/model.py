@@ -41,7 +41,7 @@ def main(program, count):
                 kept.write(script)
             sys.exit(f"model: the programs differ on {kept.name}: "
                      f"exit codes {done.returncode} and {code}")
-        messages += len(lines)
+        messages += sum(map(len, said))
         kinds += told_kinds(written)
     ends = sum(many for kind, many in kinds.items() if kind.startswith("ended "))
     print(f"model: {count} scripts with {messages} messages, each read back to what it says, and "

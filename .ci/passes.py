@@ -1,15 +1,16 @@
-"""Random scripts of passes: users who bind instances of RAF and start them, while entries come, the
-clock goes on and links stall.
+"""Random scripts of passes: users who bind instances of RAF and RCF, start them and ask for reports,
+while entries come, the clock goes on and links stall.
 """
 import random
 
 from drills import Run, context_message, line_of
 from forms import DAY_MILLIS, MILLI, SECOND, pdu_message
 from scripts import INSTANCES, PEERS, Entries, Users, entries_script, users_script
-from sessions import HEARTBEAT_MESSAGE, RAF, bind_pdu, unbind_pdu
+from sessions import CLTU, HEARTBEAT_MESSAGE, bind_pdu, unbind_pdu
 from sites import head_of
 
 MODES = [b"timely", b"timely", b"complete", b"complete", b"offline"]
+PERMITTED = [b"1/1/63", b"1/1/*", b"1/0/*", b"1/0/1 7/0/7 1/1/0"]
 
 
 class Pass:
@@ -18,10 +19,11 @@ class Pass:
     def __init__(self, pick):
         self.pick, self.lines = pick, [b"site", *PEERS]
         for which, peer in enumerate(PEERS):
-            mode = pick.choice(MODES)
-            self.lines.append(b"raf raf=%d.sagr=7 %s %s %d %d 60" % (
-                which, peer.split(b" ")[1], mode, pick.choice([1, 1, 2, 3, 10]),
-                0 if mode == b"offline" else pick.choice([1, 2, 5, 60])))
+            mode, service = pick.choice(MODES), pick.choice([b"raf", b"rcf"])
+            channels = [pick.choice(PERMITTED)] if service == b"rcf" else []
+            self.lines.append(b" ".join([b"%s %s=%d.sagr=7 %s %s %d %d 60" % (
+                service, service, which, peer.split(b" ")[1], mode, pick.choice([1, 1, 2, 3, 10]),
+                0 if mode == b"offline" else pick.choice([1, 2, 5, 60])), *channels]))
         self.lines += [pick.choice(INSTANCES[4:7]), b"end"]
         self.run = Run(head_of(self.lines)[0])
         self.entries = Entries(pick)
@@ -45,9 +47,10 @@ class Pass:
     def bind(self, connection):
         """A user comes and binds an instance of his own."""
         pick, site = self.pick, self.run.site
-        instance = pick.choice([each for each in site.instances if each.service == RAF])
+        instance = pick.choice([each for each in site.instances if each.service != CLTU])
         peer = site.peer(instance.owner)
-        pdu = bind_pdu(self.signed(peer), peer.name, b"PORT1", RAF, 5, instance.identifier)
+        service = instance.service
+        pdu = bind_pdu(self.signed(peer), peer.name, b"PORT1", service, 5, instance.identifier)
         interval = pick.choice([0, 30, 600])
         return [b"open %d" % connection, self.in_line(
             connection, context_message(interval, 5) + pdu_message(pdu)), b"round %d 2" % connection]
@@ -60,9 +63,13 @@ class Pass:
         return made
 
     def asks(self, connection, session):
-        """A START, or now and then a STOP and an UNBIND."""
+        """A START, now and then a STOP and an UNBIND, and reports and parameters."""
         users, kind = self.users, self.pick.random()
-        if session.is_active == (kind < 0.9):
+        if self.pick.random() < 0.25:
+            asked, octets = users.schedule(session)
+        elif self.pick.random() < 0.1:
+            asked, octets = users.parameter(session)
+        elif session.is_active == (kind < 0.9):
             asked, octets = users.stop(session)
         elif kind < 0.8:
             asked, octets = users.start(session)
@@ -74,6 +81,8 @@ class Pass:
 
     def clock(self):
         waits = [instance.latency for instance in self.run.site.instances] + [1, 30]
+        waits += 4 * [each.service.cycle for each in self.run.sessions.values()
+                      if each.service is not None and each.service.cycle is not None]
         then = self.run.clock + self.pick.choice(waits) * SECOND + self.pick.choice([0, -1, 1]) * MILLI
         days, millis = divmod(max(then, 0) // MILLI, DAY_MILLIS)
         return b"clock %d/%d/0" % (min(days, 65_535), millis)
@@ -90,9 +99,9 @@ class Pass:
             return [self.clock()]
         if session is None:
             return self.bind(connection)
-        if session.raf is None or kind > 0.985:
+        if session.service is None or kind > 0.985:
             return self.users.lines()
-        if not session.is_active and kind < 0.9 or kind < 0.46:
+        if not session.is_active and kind < 0.8 or kind < 0.49:
             return [self.asks(connection, session)]
         if kind < 0.58:
             return [b"stall %d %d" % (connection, pick.choice([1, 1, 2, 3, 1_000]))]

@@ -17,6 +17,7 @@ import tempfile
 
 sys.dont_write_bytecode = True
 import associations
+import channels
 import launching
 import rehearsals
 import starts
@@ -348,7 +349,7 @@ def large_files():
 
 def examples():
     folder = os.path.join(os.path.dirname(os.path.dirname(os.path.abspath(__file__))), "examples")
-    for name in ["power-failure", "disk-fault", "two-users"]:
+    for name in ["power-failure", "disk-fault", "two-users", "live-pass", "channels"]:
         with open(f"{folder}/{name}.script", "rb") as script, \
                 open(f"{folder}/{name}.transcript", "rb") as transcript:
             check(f"example {name}", run([b"drill"], script.read()), (0, transcript.read(), b""))
@@ -363,6 +364,7 @@ rehearsals.drive(run, check)
 associations.drive(run, check)
 starts.drive(run, check)
 telemetry.drive(run, check)
+channels.drive(run, check)
 statuses()
 lengths()
 faults()

@@ -3,8 +3,9 @@
 Each message is told as what it says; ValueError where it isn't one that the provider sends.
 """
 from forms import PICOS, Elements, element
-from sessions import (BIND_RETURN, HEARTBEAT_MESSAGE, INTEGER, MEMBERS_1, OCTETS, SEQUENCE,
-                      START_RETURN, STOP_RETURN, TAG_0, TAG_1, UNBIND_RETURN, VISIBLE, digest)
+from sessions import (BIND_RETURN, GET_RETURN, INTEGER, MEMBERS_0, MEMBERS_1, OCTETS, REPORT,
+                      SCHEDULE_RETURN, SEQUENCE, START_RETURN, STOP_RETURN, TAG_0, TAG_1,
+                      UNBIND_RETURN, VISIBLE, digest)
 
 BUFFER, FRAME, NOTIFICATION = b"\xa8", b"\xa0", b"\xa1"
 LOSS, PRODUCTION, BACKLOG, END = b"\xa0", b"\x81", b"\x82", b"\x83"
@@ -21,7 +22,8 @@ def read_stamp(form, stamp):
 
 def read_frame(fields):
     (form, stamp), antenna = fields.one_of(TAG_0, TAG_1), fields.content(TAG_1)
-    gap, quality = fields.integer(INTEGER, -1, 16_777_215), fields.integer(INTEGER, 0, 2)
+    gap = fields.integer(INTEGER, -1, 16_777_215)
+    quality = fields.integer(INTEGER, 0, 2) if fields.rest.startswith(INTEGER) else None
     fields.null(TAG_0)
     return read_stamp(form, stamp), quality, antenna, gap, fields.content(OCTETS)
 
@@ -86,36 +88,64 @@ def read_unbind_return(fields, site):
     return "unbound", own
 
 
-def read_start_return(fields, site):
-    own, invoke = read_own(fields, site), fields.integer(INTEGER, 0, 65_535)
-    tag, content = fields.one_of(TAG_0, MEMBERS_1)
-    inner = Elements(content)
-    diagnostic = [] if tag == TAG_0 else [inner.integer(TAG_1, 0, 127)]
+def returning(word, done=lambda fields: fields.null(TAG_0)):
+    """A reader of a return: what was asked is done, with what its own reader says, or why not."""
+    def read(fields, site):
+        own, invoke = read_own(fields, site), fields.integer(INTEGER, 0, 65_535)
+        if not fields.rest.startswith(MEMBERS_1):
+            return word, own, invoke, *(done(fields) or [])
+        inner = fields.members(MEMBERS_1)
+        diagnostic = inner.integer(TAG_1, 0, 127)
+        inner.end()
+        return word + " refused", own, invoke, diagnostic
+    return read
+
+
+def read_channel(fields):
+    spacecraft, version = fields.integer(INTEGER, 0, 1_023), fields.integer(INTEGER, 0, 3)
+    tag, content = fields.one_of(TAG_0, TAG_1)
+    return spacecraft, version, None if tag == TAG_0 else integer_of(content, 63)
+
+
+def read_parameter(fields):
+    """Its name, its tag, and its value, which may be none."""
+    outer = fields.members(MEMBERS_0)
+    tag, content = outer.one_of(*(bytes([0xA0 + tag]) for tag in range(6)))
+    outer.end()
+    inner, tag = Elements(content), tag[0] - 0xA0
+    name = inner.integer(INTEGER, 0, 65_535)
+    kind, content = inner.one_of(INTEGER, TAG_0, TAG_1, MEMBERS_1)
     inner.end()
-    return "start refused" if diagnostic else "started", own, invoke, *diagnostic
+    if kind == MEMBERS_1:
+        channel = Elements(content)
+        value = read_channel(channel)
+        channel.end()
+        return name, tag, value
+    return name, tag, integer_of(content, 2**32) if content else None
 
 
-def read_stop_return(fields, site):
-    own, invoke = read_own(fields, site), fields.integer(INTEGER, 0, 65_535)
-    fields.null(TAG_0)
-    return "stopped", own, invoke
+def read_report(fields, site):
+    own, numbers = read_own(fields, site), []
+    while fields.rest:
+        numbers.append(fields.integer(INTEGER, 0, 2**32 - 1))
+    return "report", own, *numbers
 
 
 PDUS = [(BUFFER, read_buffer), (BIND_RETURN, read_bind_return), (UNBIND_RETURN, read_unbind_return),
-        (START_RETURN, read_start_return), (STOP_RETURN, read_stop_return)]
+        (START_RETURN, returning("start")), (STOP_RETURN, returning("stop")),
+        (SCHEDULE_RETURN, returning("schedule")), (GET_RETURN, returning("get", read_parameter)),
+        (REPORT, read_report)]
 
 
-def read_sent(line, site):
-    """What the message of a line says."""
-    _, _, digits = line.split(b" ")
-    octets = bytes.fromhex(digits.decode())
-    if octets == HEARTBEAT_MESSAGE:
+def read_message(octets, site):
+    """What the message at the front says."""
+    head = octets.take(4)
+    body = octets.take(int.from_bytes(octets.take(4), "big"))
+    if head == bytes([3, 0, 0, 0]) and not body:
         return ("heartbeat",)
-    message = Elements(octets)
-    if message.take(4) != bytes([1, 0, 0, 0]):
+    if head != bytes([1, 0, 0, 0]):
         raise ValueError("no PDU")
-    pdu = Elements(message.take(int.from_bytes(message.take(4), "big")))
-    message.end()
+    pdu = Elements(body)
     for tag, read in PDUS:
         if pdu.rest.startswith(tag):
             fields = pdu.members(tag)
@@ -124,3 +154,12 @@ def read_sent(line, site):
             fields.end()
             return said
     raise ValueError("another PDU")
+
+
+def read_sent(line, site):
+    """What the messages of a line say."""
+    _, _, digits = line.split(b" ")
+    octets, said = Elements(bytes.fromhex(digits.decode())), []
+    while octets.rest:
+        said.append(read_message(octets, site))
+    return said

@@ -6,11 +6,14 @@ import random
 from drills import Run, context_message, line_of, when
 from forms import (DAY_MILLIS, MILLI, PICOS, SECOND, element, identifier, integer, moment,
                    pdu_message)
-from sessions import (BIND, HEARTBEAT_MESSAGE, PEER_ABORT, START, STOP, UNBIND, bind_pdu, signed,
-                      stamp_of, start_pdu, stop_pdu, unbind_pdu)
+from sessions import (BIND, GET, HEARTBEAT_MESSAGE, PEER_ABORT, RCF, SCHEDULE, START, STOP, UNBIND,
+                      bind_pdu, get_pdu, schedule_pdu, signed, stamp_of, start_pdu, stop_pdu,
+                      unbind_pdu)
 from sites import head_of
 
 SIZES = [1, 2, 3, 100, 126, 127, 128, 129, 200, 255, 256, 1_115, 32_767, 65_535, 65_536, 65_537]
+# what frames begin with: 1/0/0, 1/0/1, 1/1/63, 1/1/0 and 7/0/7, and one of another version
+CHANNELS = [b"\x00\x10", b"\x00\x12", b"\x40\x7f", b"\x40\x7f", b"\x40\x40", b"\x00\x7e", b"\x80\x10"]
 LOSSES = [0, 0, 0, 1, 127, 128, 255, 256, 32_767, 32_768, 70_000, 8_388_607, 8_388_608, 16_777_214,
           16_777_215]
 BAD_LINES = [
@@ -27,9 +30,11 @@ BAD_LINES = [
     b"frame 0/0/0 0 41 0 00 00", b"frame 0/0/0 0 " + b"41" * 17 + b" 0 00", b"\xff\x00",
     b"open", b"open 0", b"open 17", b"open 01", b"open 1 1", b"shut 0", b"break", b"round 1 0",
     b"round 1 1001", b"round 1", b"stall 1 0", b"stall 1 1001", b"in 1", b"in 1 0", b"in 1 0g",
-    b"in 1 " + b"00" * 65_537, b"ask 1", b"ask 1 stop 0", b"ask 1 report now", b"ask 1 get 4",
+    b"in 1 " + b"00" * 65_537, b"ask 1", b"ask 1 stop 0", b"ask 1 report", b"ask 1 get 65536",
+    b"ask 1 report 65536", b"ask 1 report Now", b"ask 1 report now now", b"ask 1 get",
     b"ask 1 start none none", b"ask 1 start none none 3", b"ask 1 start none 0/0/1000 0",
-    b"ask 1 start none  0", b"ask 1 start 1", b"ask 1 start none none 1/1/1",
+    b"ask 1 start none  0", b"ask 1 start 1", b"ask 1 start none none 1/1/64",
+    b"ask 1 start none none 1/1", b"ask 1 start none none 1024/0/*", b"ask 1 start none none 1/4/*",
     b"ask 1 context 5", b"ask 1 context 65536 2", b"ask 1 context 5 65536", b"ask 1 unbind 0",
     b"ask 1 bind MO 0 5 raf=1", b"ask 1 bind MOC 65536 5 raf=1", b"ask 1 bind MOC 0 0 raf=1",
     b"ask 1 bind MOC 0 5 raf", b"ask 1 bind MOC 0 5 raf=", b"ask 1 bind MOC 0 5 ray=1",
@@ -110,6 +115,14 @@ def users_head(pick):
     return [b"site", *lines, b"end"]
 
 
+def wanted_word(wanted):
+    """A quality or a channel, as a script has it."""
+    if isinstance(wanted, int):
+        return b"%d" % wanted
+    spacecraft, version, virtual = wanted
+    return b"%d/%d/%s" % (spacecraft, version, b"*" if virtual is None else b"%d" % virtual)
+
+
 class Entries:
     """Lines of entries, STARTs and orders for the disk."""
 
@@ -151,7 +164,10 @@ class Entries:
 
     def frame(self, place):
         pick = self.pick
-        digits = pick.randbytes(pick.choice(SIZES[:12] if pick.random() < 0.98 else SIZES)).hex()
+        octets = pick.randbytes(pick.choice(SIZES[:12] if pick.random() < 0.98 else SIZES))
+        if pick.random() < 0.7:
+            octets = (pick.choice(CHANNELS) + octets)[:max(len(octets), 2)]
+        digits = octets.hex()
         return b"frame %s %d %s %d %s" % (
             self.stamp(place), pick.choice([0, 0, 0, 1, 2]),
             pick.randbytes(pick.choice([1, 2, 16])).hex().encode(), pick.choice(LOSSES),
@@ -231,7 +247,9 @@ class Users:
         pick, kind = self.pick, self.pick.random()
         if session.is_opening and 0.02 < kind < 0.98:
             return self.context()
-        if session.raf is not None and 0.2 < kind < 0.9:
+        if session.service is not None and 0.2 < kind < 0.35:
+            return self.schedule(session) if pick.random() < 0.5 else self.parameter(session)
+        if session.service is not None and 0.2 < kind < 0.9:
             is_other = pick.random() < 0.03
             if session.is_active and kind < 0.6 and not is_other:
                 return None, HEARTBEAT_MESSAGE
@@ -323,7 +341,7 @@ class Users:
         stamps = [when(word) for word in words]
         if None not in stamps and moment(stamps[1]) < moment(stamps[0]) and pick.random() < 0.8:
             words, stamps = words[::-1], stamps[::-1]
-        quality, invoke = pick.choice([0, 0, 1, 2, 2, 2]), pick.choice([0, 0, 0, 0, 1, 65_535])
+        wanted, invoke = self.wanted(session), pick.choice([0, 0, 0, 0, 1, 65_535])
         is_asked = invoke == 0
         if pick.random() < 0.06:
             # a time that names no moment
@@ -332,9 +350,38 @@ class Users:
                 (1, 0, 1_000_000_000, 4), (20_000, DAY_MILLIS - 1, 65_535 * PICOS, 2)])
             is_asked = False
         credentials = self.credentials(session.peer)
-        pdu = self.respelled(START, start_pdu(credentials, invoke, *stamps, quality))
-        asked = b"start %s %s %d" % (*words, quality)
+        pdu = self.respelled(START, start_pdu(credentials, invoke, *stamps, wanted))
+        asked = b"start %s %s %s" % (*words, wanted_word(wanted))
         return asked if is_asked and credentials is None else None, pdu_message(pdu)
+
+    def wanted(self, session):
+        """A quality, or a channel, mostly one that is permitted; now and then the other service's."""
+        pick = self.pick
+        if (session.service.service == RCF) == (pick.random() < 0.04):
+            return pick.choice([0, 0, 1, 2, 2, 2])
+        permitted = session.service.permitted
+        if not permitted or pick.random() < 0.15:
+            return pick.choice([(1, 1, 62), (1, 1, None), (1, 0, 0), (7, 0, 7), (0, 0, None)])
+        spacecraft, version, virtual = pick.choice(permitted)
+        if virtual is None:
+            virtual = pick.choice([None, None, 0, 1, 63])
+        return spacecraft, version, virtual
+
+    def schedule(self, session):
+        pick = self.pick
+        kind = pick.choice(["now", "now", "stop", 2, 2, 3, 5, 60, 600, 600, 0, 1, 601, 65_535])
+        credentials, invoke = self.credentials(session.peer), pick.choice([0, 0, 0, 0, 3, 65_535])
+        pdu = self.respelled(SCHEDULE, schedule_pdu(credentials, invoke, kind))
+        asked = b"report %s" % (kind.encode() if isinstance(kind, str) else b"%d" % kind)
+        return asked if credentials is None and invoke == 0 else None, pdu_message(pdu)
+
+    def parameter(self, session):
+        pick = self.pick
+        name = pick.choice([4, 6, 15, 26, 26, 27, 27, 28, 28, 29, 0, 9, 16, 65_535])
+        credentials, invoke = self.credentials(session.peer), pick.choice([0, 0, 0, 0, 4, 65_535])
+        pdu = self.respelled(GET, get_pdu(credentials, invoke, name))
+        asked = b"get %d" % name
+        return asked if credentials is None and invoke == 0 else None, pdu_message(pdu)
 
     def stop(self, session):
         credentials, invoke = self.credentials(session.peer), self.pick.choice([0, 0, 0, 2, 65_535])

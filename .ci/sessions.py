@@ -5,7 +5,7 @@ Each round reads the octets that a connection holds anew, from their front.
 """
 import hashlib
 
-from deliveries import Raf, spelled_buffer, time_element
+from deliveries import Returning, channel_fields, spelled_buffer, spelled_parameter, time_element
 from forms import (ATTRIBUTES, DAY_MILLIS, MILLI, PICOS, SECOND, Elements, element, integer,
                    moment, pdu_message, sent)
 from sites import CLTU, RAF, RCF
@@ -23,17 +23,21 @@ BIND, BIND_RETURN = b"\xbf\x64", b"\xbf\x65"
 UNBIND, UNBIND_RETURN = b"\xbf\x66", b"\xbf\x67"
 PEER_ABORT = b"\x9f\x68"
 START, START_RETURN, STOP, STOP_RETURN = b"\xa0", b"\xa1", b"\xa2", b"\xa3"
+SCHEDULE, SCHEDULE_RETURN, GET, GET_RETURN = b"\xa4", b"\xa5", b"\xa6", b"\xa7"
+REPORT = b"\xa9"
 
 # inner tags
 SEQUENCE, SET, INTEGER, VISIBLE = b"\x30", b"\x31", b"\x02", b"\x1a"
-OCTETS, OBJECT, TAG_0, TAG_1 = b"\x04", b"\x06", b"\x80", b"\x81"
-MEMBERS_1 = b"\xa1"
+OCTETS, OBJECT, TAG_0, TAG_1, TAG_2 = b"\x04", b"\x06", b"\x80", b"\x81", b"\x82"
+MEMBERS_0, MEMBERS_1 = b"\xa0", b"\xa1"
 ATTRIBUTE_ARC = bytes.fromhex("2b7004030102")
 
 # diagnostics of BIND, and of an abort
 ACCESS_DENIED, NO_SERVICE, NO_VERSION, NO_INSTANCE = 0, 1, 2, 3
 BOUND_ALREADY, OF_ANOTHER, OTHER_SERVICE = 4, 5, 6
 ABORT_DENIED, PROTOCOL_ERROR, COMMUNICATIONS_FAILURE, ENCODING_ERROR = 0, 3, 4, 5
+# of GET-PARAMETER
+UNKNOWN_PARAMETER = 0
 
 
 # ---- the stream of transport messages
@@ -204,14 +208,55 @@ def read_conditional(fields):
     return stamp
 
 
-def start_fields(fields):
-    credentials, invoke = read_credentials(fields), fields.integer(INTEGER, 0, 65_535)
-    start, stop = read_conditional(fields), read_conditional(fields)
-    return credentials, invoke, start, stop, fields.integer(INTEGER, 0, 2)
+def read_empty(content):
+    if content:
+        raise ValueError("no NULL")
+
+
+def read_number(content, most):
+    """An INTEGER by its content alone."""
+    return Elements(element(INTEGER, content)).integer(INTEGER, 0, most)
+
+
+def read_channel(fields):
+    spacecraft, version = fields.integer(INTEGER, 0, 1_023), fields.integer(INTEGER, 0, 3)
+    tag, content = fields.one_of(TAG_0, TAG_1)
+    virtual = read_empty(content) if tag == TAG_0 else read_number(content, 63)
+    fields.end()
+    return spacecraft, version, virtual
+
+
+# what a START of each return service asks for: a quality or a channel
+WANTED = {
+    RAF: lambda fields: fields.integer(INTEGER, 0, 2),
+    RCF: lambda fields: read_channel(fields.members(SEQUENCE)),
+}
+
+
+def start_fields(service):
+    def read(fields):
+        credentials, invoke = read_credentials(fields), fields.integer(INTEGER, 0, 65_535)
+        start, stop = read_conditional(fields), read_conditional(fields)
+        return credentials, invoke, start, stop, WANTED[service](fields)
+    return read
 
 
 def stop_fields(fields):
     return read_credentials(fields), fields.integer(INTEGER, 0, 65_535)
+
+
+def schedule_fields(fields):
+    """With "now", "stop", or the seconds of a cycle."""
+    credentials, invoke = stop_fields(fields)
+    tag, content = fields.one_of(TAG_0, TAG_1, TAG_2)
+    if tag == TAG_1:
+        return credentials, invoke, read_number(content, 65_535)
+    read_empty(content)
+    return credentials, invoke, "now" if tag == TAG_0 else "stop"
+
+
+def get_fields(fields):
+    return *stop_fields(fields), fields.integer(INTEGER, 0, 65_535)
 
 
 def abort_fields(octets):
@@ -255,13 +300,25 @@ def spelled_conditional(stamp):
     return element(TAG_0, b"") if stamp is None else element(MEMBERS_1, time_element(stamp))
 
 
-def start_pdu(credentials, invoke, start, stop, quality):
+def start_pdu(credentials, invoke, start, stop, wanted):
+    """Of RAF with a quality, of RCF with a channel."""
+    asked = integer(wanted) if isinstance(wanted, int) else element(SEQUENCE, channel_fields(wanted))
     return element(START, spelled_credentials(credentials) + integer(invoke)
-                   + spelled_conditional(start) + spelled_conditional(stop) + integer(quality))
+                   + spelled_conditional(start) + spelled_conditional(stop) + asked)
 
 
 def stop_pdu(credentials, invoke):
     return element(STOP, spelled_credentials(credentials) + integer(invoke))
+
+
+def schedule_pdu(credentials, invoke, kind):
+    asked = {"now": element(TAG_0, b""), "stop": element(TAG_2, b"")}
+    return element(SCHEDULE, spelled_credentials(credentials) + integer(invoke)
+                   + (asked[kind] if kind in asked else integer(kind, TAG_1)))
+
+
+def get_pdu(credentials, invoke, name):
+    return element(GET, spelled_credentials(credentials) + integer(invoke) + integer(name))
 
 
 # ---- a connection
@@ -308,20 +365,20 @@ class Book:
 
 class Session:
     """A session at a door: opening until its context came, unbound, or bound to a peer, with its
-    instance where that is one of RAF. Its block is a message with what it says, or None, and so is
-    its buffer, once it is fixed."""
+    instance where that is one of RAF or RCF. Its block is messages, each with what it says, and its
+    buffer one, or None until it is fixed."""
 
     def __init__(self, site, door, entered):
         self.site, self.door, self.link = site, door, Link()
-        self.held, self.block, self.buffer = b"", None, None
+        self.held, self.block, self.buffer = b"", [], None
         self.is_opening, self.peer, self.closing = True, None, None
-        self.raf, self.is_active = None, False
+        self.service, self.is_active = None, False
         self.interval = self.factor = 0
         self.sent = self.heard = entered
         self.number = (1 + door) % 2**31
 
     def round(self, book, reading):
-        """One round: the lines that it tells, each with what its message says, and the word with
+        """One round: the lines that it tells, each with what its messages say, and the word with
         which it ends, or None."""
         told, blocked, relieved = [], False, False
         if self.block:
@@ -338,7 +395,9 @@ class Session:
         was_active = self.is_active
         end = self.act(heard, blocked, book, now)
         if end is None and not blocked:
-            if was_active and self.is_active and self.raf.step(book.archive, now):
+            if self.closing is None and self.service is not None:
+                self.report(book.archive, now)
+            if was_active and self.is_active and self.service.step(book.archive, now):
                 self.fix(book.archive, now)
             end = self.speak(told, book.archive, now)
         return told, end
@@ -349,9 +408,9 @@ class Session:
             self.link.stalls -= 1
             told.append((b"stalled %d\n" % self.door, None))
             return False
-        says, message = self.block
-        told.append((sent(self.door, message), says))
-        self.block = None
+        told.append((sent(self.door, b"".join(message for _, message in self.block)),
+                     [says for says, _ in self.block]))
+        self.block = []
         return True
 
     def act(self, heard, blocked, book, now):
@@ -376,16 +435,24 @@ class Session:
     def has_passed(self, now, since, seconds):
         return self.interval > 0 and now - since >= seconds * SECOND
 
+    def report(self, archive, now):
+        """A status report that is due, behind the return."""
+        numbers = self.service.report(archive, now)
+        if numbers is not None:
+            own = self.own_at_all(now)
+            pdu = element(REPORT, own_credentials(own) + b"".join(map(integer, numbers)))
+            self.block.append((("report", own, *numbers), pdu_message(pdu)))
+
     def fix(self, archive, now):
         """The buffer that is due, with credentials for each of its items where the peer wants them."""
-        items = self.raf.told(archive)
+        items = self.service.told(archive)
         own = [self.own_at_all(now) for _ in items]
         says = [list(pair) for pair in zip(own, items)]
         self.buffer = says, pdu_message(spelled_buffer(map(own_credentials, own), items))
 
     def speak(self, told, archive, now):
         if not self.block and self.has_passed(now, self.sent, self.interval):
-            self.block = ("heartbeat",), HEARTBEAT_MESSAGE
+            self.block.append((("heartbeat",), HEARTBEAT_MESSAGE))
         if self.block and self.offer(told):
             self.sent = now
         if not self.block and self.buffer and self.offer_buffer(told, archive):
@@ -397,14 +464,14 @@ class Session:
         if self.link.stalls:
             self.link.stalls -= 1
             told.append((b"stalled %d\n" % self.door, None))
-            discarded = self.raf.stalled()
+            discarded = self.service.stalled()
             if discarded is not None:
                 told.append((b"discarded %d %d\n" % (self.door, discarded), None))
                 self.buffer = None
             return False
         says, message = self.buffer
-        told.append((sent(self.door, message), says))
-        self.raf.taken(archive)
+        told.append((sent(self.door, message), [says]))
+        self.service.taken(archive)
         self.buffer = None
         return True
 
@@ -442,15 +509,19 @@ class Session:
         return answer(*said, book, now) if in_place else b"aborted %d" % PROTOCOL_ERROR
 
     def bound_pdu(self, octets):
-        """What a bound user's PDU says, whether it is in place, and what answers it. Of the services
-        START and STOP of RAF are built; nothing else decodes."""
-        said = decoded(UNBIND, unbind_fields, octets)
-        if said is not None or self.raf is None:
-            return said, not self.is_active, self.unbind
-        said = decoded(START, start_fields, octets)
-        if said is not None:
-            return said, not self.is_active, self.start
-        return decoded(STOP, stop_fields, octets), self.is_active, self.stop
+        """What a bound user's PDU says, whether it is in place, and what answers it. Of FCLTU nothing
+        is built, and nothing decodes."""
+        known = [(UNBIND, unbind_fields, not self.is_active, self.unbind)]
+        if self.service is not None:
+            known += [(START, start_fields(self.service.service), not self.is_active, self.start),
+                      (STOP, stop_fields, self.is_active, self.stop),
+                      (SCHEDULE, schedule_fields, True, self.schedule),
+                      (GET, get_fields, True, self.parameter)]
+        for tag, read, in_place, answer in known:
+            said = decoded(tag, read, octets)
+            if said is not None:
+                return said, in_place, answer
+        return None, False, None
 
     def bind(self, credentials, initiator, service, version, identifier, book, now):
         peer, instance = self.site.peer(initiator), self.site.instance(identifier)
@@ -471,14 +542,14 @@ class Session:
         if diagnostic is not None:
             return self.answer_bind(own, "refused", diagnostic)
         self.peer = peer
-        if service == RAF:
-            self.raf = Raf(instance.mode, instance.size, instance.latency * SECOND)
+        if service != CLTU:
+            self.service = Returning(instance)
         return self.answer_bind(own, "bound", version)
 
     def answer_bind(self, own, word, result):
         fields = own_credentials(own) + element(VISIBLE, self.site.provider)
         pdu = element(BIND_RETURN, fields + integer(result, TAG_0 if word == "bound" else TAG_1))
-        self.block = (word, own, self.site.provider, result), pdu_message(pdu)
+        self.block = [((word, own, self.site.provider, result), pdu_message(pdu))]
 
     def unbind(self, credentials, book, now):
         if self.is_false(credentials, now):
@@ -487,33 +558,47 @@ class Session:
         book.free(self.door)
         self.closing = b"unbound"
         pdu = element(UNBIND_RETURN, own_credentials(own) + element(TAG_0, b""))
-        self.block = ("unbound", own), pdu_message(pdu)
+        self.block = [(("unbound", own), pdu_message(pdu))]
         return None
 
-    def start(self, credentials, invoke, start, stop, quality, book, now):
+    def start(self, credentials, invoke, start, stop, wanted, book, now):
         if self.is_false(credentials, now):
             return b"aborted %d" % ABORT_DENIED
-        own, archive = self.own_at_all(now), book.archive
-        refusal = self.raf.refusal(archive, start, stop)
+        refusal = self.service.refusal(book.archive, start, stop, wanted)
         if refusal is None:
-            self.raf.start(archive, start, stop, quality)
+            self.service.start(book.archive, start, stop, wanted)
             self.is_active = True
-            says, result = ("started", own, invoke), element(TAG_0, b"")
-        else:
-            says = "start refused", own, invoke, refusal
-            result = element(MEMBERS_1, integer(refusal, TAG_1))
-        pdu = element(START_RETURN, own_credentials(own) + integer(invoke) + result)
-        self.block = says, pdu_message(pdu)
-        return None
+        return self.answer("start", START_RETURN, invoke, refusal, now)
 
     def stop(self, credentials, invoke, book, now):
         if self.is_false(credentials, now):
             return b"aborted %d" % ABORT_DENIED
-        own = self.own_at_all(now)
-        self.raf.stop()
+        self.service.stop()
         self.is_active, self.buffer = False, None
-        pdu = element(STOP_RETURN, own_credentials(own) + integer(invoke) + element(TAG_0, b""))
-        self.block = ("stopped", own, invoke), pdu_message(pdu)
+        return self.answer("stop", STOP_RETURN, invoke, None, now)
+
+    def schedule(self, credentials, invoke, kind, book, now):
+        if self.is_false(credentials, now):
+            return b"aborted %d" % ABORT_DENIED
+        return self.answer("schedule", SCHEDULE_RETURN, invoke, self.service.schedule(kind), now)
+
+    def parameter(self, credentials, invoke, name, book, now):
+        if self.is_false(credentials, now):
+            return b"aborted %d" % ABORT_DENIED
+        found = self.service.parameter(name)
+        if found is None:
+            return self.answer("get", GET_RETURN, invoke, UNKNOWN_PARAMETER, now)
+        told = element(MEMBERS_0, spelled_parameter(name, *found))
+        return self.answer("get", GET_RETURN, invoke, None, now, told, name, *found)
+
+    def answer(self, word, tag, invoke, refusal, now, told=element(TAG_0, b""), *value):
+        """A return: what was asked is done, and told so, or why it is refused."""
+        own = self.own_at_all(now)
+        if refusal is not None:
+            word, value, told = word + " refused", [refusal], \
+                element(MEMBERS_1, integer(refusal, TAG_1))
+        pdu = element(tag, own_credentials(own) + integer(invoke) + told)
+        self.block = [((word, own, invoke, *value), pdu_message(pdu))]
         return None
 
     def is_false(self, credentials, now):

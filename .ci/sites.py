@@ -24,10 +24,13 @@ class Instance:
     identifier: tuple
     owner: bytes
     service: int
-    # of a return service, with the latency limit in seconds
+    # of a return service, with the latency limit and the return timeout in seconds, and of RCF the
+    # channels that a START may ask for
     mode: bytes = b""
     size: int = 0
     latency: int = 0
+    timeout: int = 0
+    channels: list = field(default_factory=list)
 
 
 @dataclass
@@ -74,12 +77,9 @@ def returning(service):
     def instance(words):
         which, whose, mode, size, latency, timeout, *channels = words
         offline = one_of(mode, (b"timely", b"complete", b"offline")) == b"offline"
-        made = Instance(identifier(which), owner(whose), service, mode, number(size, 1_000, 1),
-                        number(latency, 0 if offline else 3_600, 0 if offline else 1))
-        number(timeout, 600, 1)
-        for word in channels:
-            channel(word)
-        return made
+        return Instance(identifier(which), owner(whose), service, mode, number(size, 1_000, 1),
+                        number(latency, 0 if offline else 3_600, 0 if offline else 1),
+                        number(timeout, 600, 1), [channel(word) for word in channels])
     return instance
 
 

@@ -75,10 +75,6 @@ def places(lines, said):
     yield "a START after a STOP begins anew", lines + FRAMES[0] + b"ask 1 stop\n" + START % 1 \
         + FRAMES[1] + b"round 1 2\n", \
         said + sent(1, STOPPED) + sent(1, STARTED) + sent(1, frame_buffer(2, True))
-    for name, octets in [("a report", b"0100000000000009a40780000201008000"),
-                         ("a parameter", b"010000000000000aa6088000020100020104")]:
-        yield f"{name} doesn't decode yet", lines + b"in 1 " + octets + b"\n", \
-            said + b"ended 1 aborted 5\n"
 
 
 def timely():
