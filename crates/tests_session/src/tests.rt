@@ -11,6 +11,7 @@ use std::alloc::{AllocError, Global};
 use std::process::Abort;
 use step::step_of;
 
+mod channels;
 mod named;
 mod raf;
 mod rows;
@@ -128,5 +129,12 @@ fn wrong_line_at<'a>(
 fn sessions_lead_to_what_their_scripts_say(rt: HostRuntime) {
     for (site, scripts) in SCRIPTS {
         assert_eq!(rt; wrong_line_at(rt.alloc(), site, scripts), Ok(None));
+    }
+}
+
+#[test]
+fn channels_reports_and_parameters_lead_to_what_their_scripts_say(rt: HostRuntime) {
+    for scripts in [channels::SELECTED, channels::ASKED, channels::CYCLED] {
+        assert_eq!(rt; wrong_line_at(rt.alloc(), SITE, scripts), Ok(None));
     }
 }
