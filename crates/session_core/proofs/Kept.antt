@@ -43,7 +43,7 @@ use Rattle.session_core.proofs.Staying.{stays_unasked}
 
 -- ---- behind its offer
 
-spoke_same : (s : Standing) (spoke : Option Offer) → (standing_spoke s spoke).outgoing ≡ s.outgoing
+pub spoke_same : (s : Standing) (spoke : Option Offer) → (standing_spoke s spoke).outgoing ≡ s.outgoing
 spoke_same s None = refl
 spoke_same s (Some Whole) = refl
 spoke_same s (Some Stalled) = refl

@@ -1,4 +1,5 @@
 mod Truths
+mod Whole
 mod Messages
 mod Staying
 mod Ends

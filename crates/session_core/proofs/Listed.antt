@@ -22,6 +22,8 @@ use Rattle.session_core.specs.Outcome.{has_ended}
 use Rattle.session_core.proofs.Streams.{WorkedOut, Gives}
 use Rattle.session_core.proofs.Rounds.{asks_by, stands_told, events_by, spoke_by, tells-tells}
 use Rattle.session_core.proofs.Sound.{sound_first, sound_rounds}
+use Rattle.session_core.proofs.Whole.{whole_calls}
+use Rattle.session_core.specs.Whole.{AreWhole}
 use Rattle.octet_core.specs.declared.offer.Offer.{Offer}
 use Rattle.link_model.specs.declared.call.Heard.{Heard}
 
@@ -110,10 +112,12 @@ first_shown b v door draw entered v_door v_feeder v_standing begins b_door b_dra
 -- ---- listen
 
 pub goes_listen : WorkedOut → StandsFor fresh [] [] → (a c : Option (List Call))
-    (old new : SessionState) → Listened a c old new → Goes to_listen to_step a c old new
-goes_listen law begins a c old new l = record {
+    (old new : SessionState) → AreWhole old.standing.block → Listened a c old new
+    → Goes to_listen to_step a c old new
+goes_listen law begins a c old new block l = record {
   own = l.own;
   told = l.told;
+  whole = l.whole block;
   stands = λ b calls events h.
       let none = none_yet h.part h.stage_is in
       let s = state_after b h.rounds in
@@ -176,14 +180,15 @@ goes_step law gives site old new bk reading is b calls events same h =
 -- ---- speak
 
 pub goes_speak : (a b c : Option (List Call)) (old between mid new : SessionState)
-    → IsSpoken a b old between → IsSent b c between mid
+    → AreWhole old.standing.block → AreWhole old.standing.outgoing → IsSpoken a b old between → IsSent b c between mid
     → new ≡ record mid { standing = round_ended mid.standing }
     → Goes to_speak to_listen a c old new
-goes_speak a b c old between mid new said sent is =
+goes_speak a b c old between mid new block outgoing said sent is =
     let l = spoke_by a b c old between mid new said sent is in
     record {
       own = l.own;
       told = l.told;
+      whole = l.whole block outgoing;
       stands = λ b calls events h.
           let p = has_acted h.part h.stage_is in
           let start = start_of b in
@@ -230,6 +235,7 @@ pub goes_round : (site : Site) (a c d : Option (List Call)) (bk now : book.State
 goes_round site a c d bk now reading old heard acted new l ended step p = record {
   own = l.own ++ p.own;
   told = tells-tells a c d l.own p.own l.told p.told;
+  whole = whole_calls l.own p.own l.whole p.whole;
   gained = own_events site heard bk reading;
   reads = grind arith;
   legal = grind arith;

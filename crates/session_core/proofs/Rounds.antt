@@ -34,6 +34,7 @@ use Rattle.session_core.specs.SessionState.{PolledOnce, Listened}
 use Rattle.session_core.specs.SessionState.{Hears, told_now, told_by, own_events, kept_after}
 use Rattle.session_core.specs.SessionState.{IsSpoken, IsSent, Spoke}
 use Rattle.session_core.proofs.Streams.{WorkedOut, Gives, next_is, space_is, given_or_not}
+use Rattle.session_core.proofs.Whole.{listen_whole, speak_whole}
 
 pub tells-nil : (a : Option (List Call)) → Tells a a []
 tells-nil a = grind (arith, append-nil)
@@ -86,6 +87,7 @@ listened_by law a b c old between new w was =
       heard = p.heard;
       own = offer_calls old.standing w.waited ++ poll_calls space p.heard;
       told = tells-tells a b c _ (poll_calls space p.heard) w.told p.told;
+      whole = listen_whole old.standing w.waited space p.heard;
       door = p.door;
       own_is = λ s h sound.
           both_same (λ (t : Standing) (calls : List Call). offer_calls t w.waited ++ calls) _ _ _ _
@@ -166,6 +168,7 @@ spoke_by a b c old between mid new w was is =
           offer_calls old.standing w.spoke
           ++ send_calls (standing_spoke old.standing w.spoke) q.sent;
       told = tells-tells a b c _ _ w.told q.told;
+      whole = speak_whole old.standing w.spoke q.sent;
       door = ap (λ (v : SessionState). v.door) all;
       own_is = λ s h.
           ap (λ (t : Standing).

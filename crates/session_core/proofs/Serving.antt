@@ -1,10 +1,10 @@
 -- Rounds from a session's beginning, over whole lists.
 use Rattle.std.proofs.Common.{◌≡◌, ℕ, false, List, [], ◌∷◌, ◌++◌, length, take, Option, refl, ap}
-use Rattle.std.proofs.Common.{◌∙◌, arith}
+use Rattle.std.proofs.Common.{subst, ◌∙◌, arith}
 use Rattle.std.proofs.lemmas.List.{append-nil}
 use Rattle.std.proofs.lemmas.List.Elements.{filter_map-append}
 use Rattle.link_model.specs.declared.call.Call.{Call}
-use Rattle.link_model.specs.Calls.{Tells}
+use Rattle.link_model.specs.Calls.{Tells, octets_handed}
 use Rattle.station_book.specs.State.{Event}
 use Rattle.station_book.specs.State as book
 use Rattle.station_book.specs.History.{IsLegal, then_after, replay}
@@ -17,6 +17,8 @@ use Rattle.session_core.specs.Outcome.{come_to, has_failed, FailsBy}
 use Rattle.session_core.specs.Lists.{Began, start_of, StandsAt, to_listen, none_made, readings_in}
 use Rattle.session_core.specs.Lists.{GoesRound, OnlyListens}
 use Rattle.session_core.specs.Serving.{Made, Serves, Breaks}
+use Rattle.session_core.specs.Whole.{AreWhole}
+use Rattle.session_core.proofs.Whole.{whole_none, whole_calls}
 use Rattle.session_core.specs.Laws.{EndsAsItStands}
 use Rattle.session_core.proofs.Listed.{has_heard}
 use Rattle.session_core.proofs.Longer.{going_on, whole}
@@ -46,6 +48,7 @@ pub record Lasts (b : Began) (before after : Option (List Call)) (book_before
   pub calls : List Call
   pub events : List Event
   pub told : Tells before after calls
+  pub whole : AreWhole (octets_handed calls)
   pub legal : IsLegal book_before events
   pub book_is : book_after ≡ replay book_before events
   pub reads : readings_in events ≡ readings
@@ -57,6 +60,7 @@ lasts_first b before bk v stands = record {
   calls = [];
   events = [];
   told = tells-nil before;
+  whole = whole_none;
   legal = tt;
   book_is = refl;
   reads = refl;
@@ -72,6 +76,7 @@ lasts_on b a c d bk mid now readings reading v w h came r = record {
   calls = h.calls ++ r.own;
   events = h.events ++ r.gained;
   told = tells-tells a c d h.calls r.own h.told r.told;
+  whole = whole_calls h.calls r.own h.whole r.whole;
   legal = legal_both bk h.events r.gained h.legal (rw h.book_is at r.legal);
   book_is = rw fold-append (rw h.book_is at r.book_is);
   reads =
@@ -107,6 +112,7 @@ serves_by b a d bk now readings made end v h ends all =
       so = made_so b bk now readings made h.events h.stands.rounds are.right are.events_are h.legal
           h.book_is h.reads;
       told = rw are.calls_are at h.told;
+      whole = subst (λ (calls : List Call). AreWhole (octets_handed calls)) are.calls_are h.whole;
       ends = ends ∙ ends_as_it_stands b v h.calls h.events h.stands;
       all = all;
     }
@@ -123,6 +129,7 @@ breaks_first b before faults bk readings = record {
   part_right = tt;
   unasked = refl;
   told = tells-nil before;
+  whole = whole_none;
   fails = grind arith;
 }
 
@@ -143,6 +150,9 @@ breaks_by b a c d k m n bk mid now readings made v h faults same l =
       part_right = stands.part_right;
       unasked = rw p.so refl;
       told = rw stands.calls_are at told;
+      whole =
+          subst (λ (calls : List Call). AreWhole (octets_handed calls)) stands.calls_are
+          (whole_calls h.calls l.goes.own h.whole l.goes.whole);
       fails =
           rw stands.shows.standing at
           (both_count false (has_failed v) (has_failed l.heard) k m n faults l.fails).counts;

@@ -16,16 +16,10 @@ use Rattle.session_core.specs.Returns.{bound_peer}
 use Rattle.session_core.specs.ServiceSteps.{answered_with, told_more, may_tell, reported, with_report}
 use Rattle.session_core.specs.ServiceSteps.{noticed, with_notice, has_outgoing, with_fixed, fixed}
 use Rattle.session_core.specs.ServiceSteps.{stepped_by, may_serve, with_service, after_stall}
-use Rattle.session_core.specs.ServiceSteps.{is_active, has_room}
+use Rattle.session_core.specs.ServiceSteps.{is_active, has_room, Stays}
 use Rattle.session_core.specs.Steps.{Next, at_moment, is_idle, with_next, acted, timed}
 use Rattle.session_core.specs.Steps.{with_heartbeat, unasked, after_step, has_block, is_due}
 use Rattle.session_core.specs.Steps.{pulse_of}
-
-pub record Stays (s t : Standing) : Type 0 where
-  pub course : t.course ≡ s.course
-  pub arrival : t.arrival ≡ s.arrival
-  pub moment : t.moment ≡ s.moment
-  pub association : t.association ≡ s.association
 
 stays : (s : Standing) → Stays s s
 stays s = record { course = refl; arrival = refl; moment = refl; association = refl }
@@ -131,12 +125,18 @@ stalled_block s (Some items) = refl
 abbrev behind : Site → Standing → Next → Replied → Standing
 behind site s next r = unasked site r (timed (acted site s next r))
 
+-- the whole of a service's part
+pub service_leaves : (site : Site) (was : Bool) (g : Glimpse) (r : Replied) (s : Standing)
+    → Stays s (with_service site was g (unasked site r s))
+service_leaves site was g r s =
+    stays_on s (unasked site r s) _ (stays_unasked site r s)
+    (stays_service site was g (unasked site r s))
+
 pub stays_behind : (site : Site) (was : Bool) (s : Standing) (next : Next) (r : Replied)
     → Stays (timed (acted site s next r))
     (with_service site was r.glimpse (behind site s next r))
 stays_behind site was s next r =
-    stays_on _ (behind site s next r) _ (stays_unasked site r (timed (acted site s next r)))
-    (stays_service site was r.glimpse (behind site s next r))
+    service_leaves site was r.glimpse r (timed (acted site s next r))
 
 not_going : (s : Standing) → is_live s.course ≡ false → is_going s.course ≡ false
 not_going s still = grind arith

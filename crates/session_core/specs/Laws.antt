@@ -18,8 +18,11 @@ use Rattle.station_book.specs.State as book
 use Rattle.session_core.specs.declared.spoken.Spoken.TheVariants.{Going}
 use Rattle.session_core.specs.declared.standing.Standing.{Standing}
 use Rattle.session_core.specs.Course.{is_live, is_over, is_blocked}
-use Rattle.session_core.specs.ServiceSteps.{has_outgoing}
-use Rattle.session_core.specs.Steps.{Next, has_block, handles}
+use Rattle.session_core.specs.ServiceSteps.{has_outgoing, Stays, with_service}
+use Rattle.session_core.specs.Steps.{Next, has_block, handles, unasked}
+use Rattle.session_core.specs.Inquiry.{Replied}
+use Rattle.session_core.specs.Whole.{AreWhole}
+use Rattle.archive_terms.specs.Glimpse.{Glimpse}
 use Rattle.session_core.specs.Session.{State, Round, BookAnswer, at_first, next_of, before_step}
 use Rattle.session_core.specs.Session.{before_speak, IsRound, round_calls, round_events}
 use Rattle.session_core.specs.Session.{after_round, after_rounds, AreRounds, session_calls}
@@ -109,6 +112,22 @@ EachBlockOnce =
     → AreHandedOnce (session_blocks site (at_first door draw entered) rounds)
     (blocks_in (session_block_calls site (at_first door draw entered) rounds))
     (after_rounds site (at_first door draw entered) rounds).standing
+
+-- ---- whole messages
+
+-- Whole messages are a stream of just these.
+abbrev pub WholeIsStream : Type 0
+WholeIsStream =
+    (place : ℕ) (octets : List ℕ) (whole : AreWhole octets)
+    → IsStream place octets whole.messages [] None
+
+-- ---- a service's part of a step
+
+-- It leaves whether the session goes on, what listen came to, the moment, and the association.
+abbrev pub ServiceLeaves : Type 0
+ServiceLeaves =
+    (site : Site) (was : Bool) (g : Glimpse) (r : Replied) (s : Standing)
+    → Stays s (with_service site was g (unasked site r s))
 
 -- ---- a service's message
 

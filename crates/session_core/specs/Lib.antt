@@ -1,4 +1,5 @@
 pub mod Numbers
+pub mod Whole
 pub mod Course
 pub mod Inquiry
 pub mod Service

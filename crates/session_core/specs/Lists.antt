@@ -5,11 +5,12 @@ use Rattle.std.specs.List.{filter_map}
 use Rattle.octet_core.specs.declared.offer.Offer.{Offer}
 use Rattle.link_model.specs.declared.call.Call.{Call}
 use Rattle.link_model.specs.declared.call.Heard.{Heard}
-use Rattle.link_model.specs.Calls.{Tells}
+use Rattle.link_model.specs.Calls.{Tells, octets_handed}
 use Rattle.station_config.specs.declared.site.Site.{Site}
 use Rattle.station_book.specs.State.{Event}
 use Rattle.station_book.specs.State as book
 use Rattle.station_book.specs.History.{IsLegal, replay, reading_of}
+use Rattle.session_core.specs.Whole.{AreWhole}
 use Rattle.session_core.specs.Session.{State, BookAnswer, at_first, Listens, listened, listen_calls}
 use Rattle.session_core.specs.Session.{Asks}
 use Rattle.session_core.specs.Session.{stepped, step_events, after_rounds, AreRounds, session_calls}
@@ -86,11 +87,13 @@ pub record StandsAt (stage : Stage) (b : Began) (v : SessionState) (calls : List
   pub shows : Shows v (part_state b.site (state_after b rounds) part)
 
 -- A call of a session made these calls of a link that told `before` and tells `after`. For all
--- lists for which the session stood, it stands for these with the call's own behind them.
+-- lists for which the session stood, it stands for these with the call's own behind them. What the
+-- call handed over is whole messages.
 pub record Goes (from to : Stage) (before after : Option (List Call))
     (old new : SessionState) : Type 0 where
   pub own : List Call
   pub told : Tells before after own
+  pub whole : AreWhole (octets_handed own)
   pub stands : (b : Began) (calls : List Call) (events : List Event)
       → StandsAt from b old calls events → StandsAt to b new (calls ++ own) events
 
@@ -117,11 +120,13 @@ abbrev pub readings_in : List Event → List ℕ
 readings_in events = filter_map (λ e. reading_of e.call) events
 
 -- A round at a reading made these calls of a link and these events of a book, one unless the
--- session had ended, and the session stands for them behind all for which it stood.
+-- session had ended, and the session stands for them behind all for which it stood. What the round
+-- handed over is whole messages.
 pub record GoesRound (site : Site) (reading : ℕ) (before after : Option (List Call)) (book_before
     book_after : book.State) (old new : SessionState) : Type 0 where
   pub own : List Call
   pub told : Tells before after own
+  pub whole : AreWhole (octets_handed own)
   pub gained : List Event
   pub reads : readings_in gained ≡ (if has_ended old then [] else reading ∷ [])
   pub legal : IsLegal book_before gained

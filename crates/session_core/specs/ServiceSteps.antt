@@ -91,6 +91,14 @@ pub record Keeps (s t : Standing) : Type 0 where
   pub arrival : t.arrival ≡ s.arrival
   pub moment : t.moment ≡ s.moment
 
+-- What a service's part of a step leaves of a session: whether it goes on, what listen came to, the
+-- moment, and the association.
+pub record Stays (s t : Standing) : Type 0 where
+  pub course : t.course ≡ s.course
+  pub arrival : t.arrival ≡ s.arrival
+  pub moment : t.moment ≡ s.moment
+  pub association : t.association ≡ s.association
+
 -- ---- what is told unasked, behind the return
 
 -- the block has room for a message more, whatever it is (this product's own)

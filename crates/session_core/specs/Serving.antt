@@ -1,13 +1,14 @@
 -- Rounds from a session's beginning.
 use Rattle.std.specs.Prelude.{◌≡◌, ℕ, Option, List, [], ◌++◌, length, take}
 use Rattle.link_model.specs.declared.call.Call.{Call}
-use Rattle.link_model.specs.Calls.{Tells}
+use Rattle.link_model.specs.Calls.{Tells, octets_handed}
 use Rattle.link_model.specs.Counts.{CountsWhere}
 use Rattle.station_book.specs.State as book
 use Rattle.station_book.specs.History.{IsLegal, replay}
 use Rattle.session_core.specs.declared.run.Start.{Start}
 use Rattle.session_core.specs.declared.spoken.Spoken.{Spoken}
 use Rattle.session_core.specs.declared.spoken.Spoken.TheVariants.{Going}
+use Rattle.session_core.specs.Whole.{AreWhole}
 use Rattle.session_core.specs.Session.{Round, AreRounds, session_calls, session_events, session_end}
 use Rattle.session_core.specs.Session.{spoken_of, is_fault}
 use Rattle.session_core.specs.Lists.{Began, start_of, state_after, readings_in, Part, IsPart}
@@ -36,18 +37,20 @@ pub record Made (b : Began) (rounds : List Round) (book_before book_after : book
 
 -- Rounds at the first of these readings, or at all of them where the session goes on, came to this.
 -- By the answers of link and book, the calls of the link with each offer's octets, and the end are
--- *Session* too.
+-- *Session* too. What the link was handed is whole messages.
 pub record Serves (b : Began) (before after : Option (List Call)) (book_before
     book_after : book.State) (readings : List ℕ) (end : Spoken) : Type 0 where
   pub rounds : List Round
   pub so : Made b rounds book_before book_after readings
   pub told : Tells before after (session_calls b.site (start_of b) rounds)
+  pub whole : AreWhole (octets_handed (session_calls b.site (start_of b) rounds))
   pub ends : end ≡ session_end b.site (start_of b) rounds
   pub all : end ≡ Going → so.made ≡ length readings
 
 -- Behind rounds at the first of these readings memory was wanted: in the next round, or where the
 -- session was to begin. The book is as these rounds left it. The link has their calls, and behind
--- them at most those of a listen; its count of faults rose exactly where it failed in these.
+-- them at most those of a listen, and was handed whole messages; its count of faults rose exactly
+-- where it failed in these.
 pub record Breaks (b : Began) (before after : Option (List Call)) (faults faults_now : ℕ)
     (book_before book_after : book.State) (readings : List ℕ) : Type 0 where
   pub rounds : List Round
@@ -57,6 +60,9 @@ pub record Breaks (b : Began) (before after : Option (List Call)) (faults faults
   pub unasked : part_events b.site b.door (state_after b rounds) part ≡ []
   pub told : Tells before after
       (session_calls b.site (start_of b) rounds ++ part_calls (state_after b rounds) part)
+  pub whole : AreWhole
+      (octets_handed
+      (session_calls b.site (start_of b) rounds ++ part_calls (state_after b rounds) part))
   pub fails : CountsWhere
       (is_fault (spoken_of (part_state b.site (state_after b rounds) part).standing.course))
       faults faults_now

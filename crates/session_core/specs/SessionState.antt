@@ -8,7 +8,7 @@ use Rattle.isp1_tml.specs.Feeding.{Feeding, StandsFor, room_of}
 use Rattle.isp1_tml.specs.Feeding.{next_of as next_held, after_next as after_given}
 use Rattle.link_model.specs.declared.call.Call.{Call}
 use Rattle.link_model.specs.declared.call.Heard.{Heard}
-use Rattle.link_model.specs.Calls.{Tells}
+use Rattle.link_model.specs.Calls.{Tells, octets_handed}
 use Rattle.station_config.specs.declared.site.Site.{Site}
 use Rattle.station_book.specs.State.{Event}
 use Rattle.station_book.specs.State as book
@@ -17,6 +17,7 @@ use Rattle.session_core.specs.declared.standing.Standing.{Standing}
 use Rattle.session_core.specs.Course.{is_going, is_over}
 use Rattle.session_core.specs.Inquiry.{Inquiry, call_of, answer_of, Replied, reply_in}
 use Rattle.session_core.specs.Numbers.{longest_piece}
+use Rattle.session_core.specs.Whole.{AreWhole}
 use Rattle.session_core.specs.Steps.{round_begun, waits, may_poll, is_idle, inquiry_at, after_step}
 use Rattle.session_core.specs.Steps.{may_speak, may_send}
 use Rattle.session_core.specs.Session.{State, BookAnswer, IsHeard, Listens, Speaks, offer_calls}
@@ -81,6 +82,7 @@ pub record Listened (before after : Option (List Call)) (old new : SessionState)
   pub heard : Option Heard
   pub own : List Call
   pub told : Tells before after own
+  pub whole : AreWhole old.standing.block → AreWhole (octets_handed own)
   pub door : new.door ≡ old.door
   pub own_is : (s : State) → Shows old s → IsSound s → own ≡ listen_calls s waited heard
   pub listens : (s : State) → Shows old s → IsSound s → Listens s waited heard
@@ -154,6 +156,8 @@ pub record Spoke (before after : Option (List Call)) (old new : SessionState) : 
   pub sent : Option Offer
   pub own : List Call
   pub told : Tells before after own
+  pub whole : AreWhole old.standing.block → AreWhole old.standing.outgoing
+      → AreWhole (octets_handed own)
   pub door : new.door ≡ old.door
   pub own_is : (s : State) → Shows old s → own ≡ speak_calls s spoke sent
   pub speaks : (s : State) → Shows old s → Speaks s spoke sent

@@ -4,6 +4,7 @@ ghost use Rattle.ber_shape.specs.Members.{structured};
 ghost use Rattle.isp1_tml.specs.Message.{heartbeat, spelling};
 ghost use Rattle.session_core.specs.Returns.{return_message, is_short};
 ghost use Rattle.session_core.specs.ServiceSteps.{has_room};
+ghost use Rattle.session_core.specs.Whole.{AreWhole};
 
 use ber_core::Writer;
 use ber_shape::Pdu;
@@ -26,12 +27,14 @@ pub struct Block {
 
 impl Model for Block {
     ghost use Rattle.std.specs.Prelude.{List, ℕ, ◌≡◌, ◌+◌, length};
+    ghost use Rattle.session_core.specs.Whole.{AreWhole};
 
     ghost Value = { List ℕ };
 
     ghost view = { λ block. block.writer.octets };
 
-    ghost invariant = { λ block. block.writer.room + length block.writer.octets ≡ 4096 };
+    ghost invariant = { λ block. (block.writer.room + length block.writer.octets ≡ 4096)
+        × AreWhole block.writer.octets };
 }
 
 impl Block {
@@ -52,7 +55,8 @@ impl Block {
 
     /// The octets.
     pub fn octets(&self) -> &[u8]
-        ensures { result.now ≡ self.now }
+        ensures octets { result.now ≡ self.now }
+        ensures whole { AreWhole self.now }
     {
         self.writer.octets()
     }

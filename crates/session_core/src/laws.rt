@@ -2,7 +2,8 @@
 ghost use Rattle.session_core.specs.Laws.{HandledInOrder, EachBlockOnce, EndsRepeat, FaultsAreLast};
 ghost use Rattle.session_core.specs.Laws.{MessagesAreOnce};
 ghost use Rattle.session_core.specs.Laws.{FaultsAreOfCalls, EndsAsItStands, OneSession};
-ghost use Rattle.session_core.specs.Laws.{NoRoundYet, OneRoundMore};
+ghost use Rattle.session_core.specs.Laws.{NoRoundYet, OneRoundMore, WholeIsStream};
+ghost use Rattle.session_core.specs.Laws.{ServiceLeaves};
 
 use isp1_tml::laws as stream;
 use link_model::laws as link;
@@ -24,6 +25,20 @@ pub fn each_block_is_handed_over_once()
 {
     link::parts_of_two_runs_join();
 }
+
+/// Whole messages, as each call of a session hands them over, are a stream of just these: none is
+/// cut, and nothing stands between them or behind them.
+pub fn whole_messages_are_a_stream()
+    ensures { WholeIsStream }
+{
+    stream::spelled_is_read();
+}
+
+/// What a round tells unasked and its service's own step leave whether the session goes on, what its
+/// listen came to, its moment, and its association.
+pub fn a_service_leaves_its_session()
+    ensures { ServiceLeaves }
+{}
 
 /// A service's message that was taken whole is offered no more, and one that stalled is offered no
 /// more unless its service keeps it, and then unchanged.

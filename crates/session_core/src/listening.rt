@@ -115,6 +115,7 @@ impl Session {
     {
         laws::is_worked_out();
         laws::any_pieces();
+        self.standing.holds_whole_messages();
         self.clear_way(link);
         self.poll(link);
     }

@@ -1,5 +1,6 @@
 // The message of a service that is to be offered behind the block.
 ghost use Rattle.std.specs.Prelude.{◌≡◌, ◌==◌, [], length, IfOk};
+ghost use Rattle.session_core.specs.Whole.{AreWhole};
 
 use ber_core::Writer;
 use buffer_message::BufferMessage;
@@ -18,12 +19,15 @@ pub struct Outgoing {
 
 impl Model for Outgoing {
     ghost use Rattle.std.specs.Prelude.{List, ℕ, ◌≡◌, ◌+◌, length};
+    ghost use Rattle.session_core.specs.Whole.{AreWhole};
 
     ghost Value = { List ℕ };
 
     ghost view = { λ outgoing. outgoing.writer.octets };
 
-    ghost invariant = { λ outgoing. outgoing.writer.room + length outgoing.writer.octets ≡ 1048584 };
+    ghost invariant = { λ outgoing.
+        (outgoing.writer.room + length outgoing.writer.octets ≡ 1048584)
+        × AreWhole outgoing.writer.octets };
 }
 
 impl Outgoing {
@@ -44,13 +48,15 @@ impl Outgoing {
 
     /// The octets.
     pub fn octets(&self) -> &[u8]
-        ensures { result.now ≡ self.now }
+        ensures octets { result.now ≡ self.now }
+        ensures whole { AreWhole self.now }
     {
         self.writer.octets()
     }
 
     // A message alone.
     pub(crate) fn put(&mut self, message: &BufferMessage<'_>)
+        requires { AreWhole message.now }
         ensures { self.new ≡ message.now }
     {
         let _short = message.length();

@@ -91,6 +91,7 @@ impl Session {
         // The session has ended exactly where the round came to an end or to a fault.
         ensures over { has_ended self.new ≡ is_end result }
     {
+        self.standing.holds_whole_messages();
         self.say(link);
         self.send(link);
         self.standing.end_round();

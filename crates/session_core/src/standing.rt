@@ -7,6 +7,7 @@ ghost use Rattle.session_core.specs.declared.ended.Ended.TheVariants.{PeerClosed
 ghost use Rattle.session_core.specs.Handling.{ended_by, aborted};
 ghost use Rattle.session_core.specs.Served.{unserved};
 ghost use Rattle.session_core.specs.Session.{begun};
+ghost use Rattle.session_core.specs.Whole.{AreWhole};
 ghost use Rattle.session_core.specs.Steps.{round_begun, has_block, waits, after_wait, may_speak};
 ghost use Rattle.session_core.specs.Steps.{after_offer, at_moment, is_idle, may_poll_by};
 ghost use Rattle.session_core.specs.Steps.{pulse_of, is_dead, is_due, timed, with_heartbeat};
@@ -118,6 +119,15 @@ impl Standing {
         ensures { result ≡ is_blocked self.now.arrival }
     {
         matches!(self.arrival, Arrival::Blocked)
+    }
+
+    // What it has to offer is whole messages.
+    pub(crate) fn holds_whole_messages(&self)
+        ensures block { AreWhole self.now.block }
+        ensures outgoing { AreWhole self.now.outgoing }
+    {
+        let _block = self.block.octets();
+        let _outgoing = self.outgoing.octets();
     }
 
     // Whether there is a block.
