@@ -250,7 +250,10 @@ fn turns_asked(c: u32, ask: &AskLine) -> Option<Turns>
         | AskLine::Bind { .. }
         | AskLine::Unbind
         | AskLine::StartRaf { .. }
-        | AskLine::Stop => Some(Turns { c, rounds: 1 }),
+        | AskLine::StartRcf { .. }
+        | AskLine::Stop
+        | AskLine::Report(_)
+        | AskLine::Get { .. } => Some(Turns { c, rounds: 1 }),
         _ => None,
     }
 }
