@@ -11,3 +11,4 @@ pub mod Telling
 pub mod Handing
 pub mod OneArchive
 pub mod Shown
+pub mod Moments

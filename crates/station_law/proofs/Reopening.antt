@@ -7,10 +7,11 @@ use Rattle.archive_terms.specs.Archive.{Entry}
 use Rattle.record_form.specs.Entry.{entry_of}
 use Rattle.record_form.specs.declared.entry.Entry as form
 use Rattle.disk_model.specs.Calls.{AllMade}
+use Rattle.disk_model.specs.Moments.{IsImageOf}
 use Rattle.disk_model.specs.MemoryDisk.{DiskState, IsMadeCall, content_of, restarted}
 use Rattle.disk_model.specs.declared.call.Call.TheVariants.{Sync}
 use Rattle.gate_journal.specs.File.{StandsAt}
-use Rattle.gate_journal.specs.JournalState.{holds_batch}
+use Rattle.gate_journal.specs.JournalState.{holds_batch, IsOldOrNew}
 use Rattle.frame_archive.specs.State.{ArchiveState, at_rest, times_of, failed_batch}
 use Rattle.frame_archive.specs.Acknowledges.{Acknowledges, Uses}
 use Rattle.station_law.specs.declared.order.Order.{Order}
@@ -19,9 +20,9 @@ use Rattle.station_law.specs.declared.storing.Settled.TheVariants.{Failed}
 use Rattle.station_law.specs.Store.{Store}
 use Rattle.station_law.specs.Orders.{is_hit}
 use Rattle.station_law.specs.Entries.{used, fails, struck}
-use Rattle.station_law.specs.IsHeld.{told_by, Rests, Takes, HoldsAllOrNone}
+use Rattle.station_law.specs.IsHeld.{told_by, Rests, Takes, Throughout, KeepsAllOrNone}
 use Rattle.station_law.specs.Storing.{IsDown, HasFailed, IsStruck, IsSettled}
-use Rattle.station_law.proofs.Disks.{IsCalm, calm_after}
+use Rattle.station_law.proofs.Disks.{IsCalm, calm_after, leaves_old}
 use Rattle.station_law.proofs.WorldArchives.{stands_at}
 use Rattle.station_law.proofs.Striking.{OneList}
 
@@ -147,14 +148,15 @@ module _ (one : OneList) (place : OnePlace) (archive now : ArchiveState DiskStat
     rw now_is failed.taken,
   )
 
--- while the archive can't be opened the file holds all or nothing of the store that failed
-pub failed_images : (archive now : ArchiveState DiskState) (published : List Entry) (entry : Entry)
-    → archive.waiting ≡ entry ∷ [] → archive.failed ≡ 1
-    → now ≡ record archive { disk = now.disk; is_stale = true }
-    → Acknowledges told_by now published → HoldsAllOrNone now.disk published (entry ∷ [])
-failed_images archive now published entry waits failed is acknowledges image there =
-    let batch : failed_batch now ≡ entry ∷ [] = rw (is, failed, waits) refl in
-    rw batch at (acknowledges.images image there)
+-- while it is opened again the file holds all or nothing of the store that failed
+pub failed_images : (archive : ArchiveState DiskState) (now : DiskState) (calls : ℕ)
+    (published : List Entry) (entry : Entry) → HasFailed archive calls published entry
+    → Throughout archive.disk now (IsImageOf (told_by archive.disk))
+    → KeepsAllOrNone archive.disk now published (entry ∷ [])
+failed_images archive now calls published entry failed holds =
+    let batch : failed_batch archive ≡ entry ∷ [] = rw (failed.failed, failed.waits) refl in
+    leaves_old archive.disk now (IsOldOrNew published (entry ∷ [])) holds
+    (λ image is. rw batch at (failed.acknowledges.images image is))
 
 -- ---- what a store that was hit is told as
 

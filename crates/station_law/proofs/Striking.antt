@@ -1,14 +1,12 @@
 -- What a store leaves that an order hits.
 use Rattle.std.proofs.Common.{◌≡◌, ℕ, ◌-◌, ◌<◌, ◌≤◌, false, IsTrue, nat_le, Some, None, List, []}
-use Rattle.std.proofs.Common.{◌∷◌, ◌++◌, length, refl, arith}
+use Rattle.std.proofs.Common.{◌∷◌, ◌++◌, length, refl, ap, subst, arith}
 use Rattle.std.proofs.lemmas.Bool.Decides.{nat_tests}
 use Rattle.std.specs.List.{list_all}
 use Rattle.archive_terms.specs.Archive.{Entry, IsArchive, is_storable}
 use Rattle.disk_model.specs.Calls.{AllMade, FailedAtOne}
 use Rattle.disk_model.specs.MemoryDisk.{DiskState, IsMadeCall, IsFailedCall, pending_of, steered}
 use Rattle.disk_model.specs.MemoryDisk.{restarted, content_of, medium_of, synced_medium}
-use Rattle.disk_model.specs.MemoryDisk.{IsImageSince}
-use Rattle.disk_model.specs.Moments.{HoldsThroughout}
 use Rattle.disk_model.specs.Images.{all_synced}
 use Rattle.disk_model.specs.declared.orders.Orders.{Orders}
 use Rattle.disk_model.specs.declared.orders.Pick.{Pick}
@@ -21,9 +19,9 @@ use Rattle.frame_archive.specs.State.{ArchiveState, with_failed}
 use Rattle.frame_archive.specs.Acknowledges.{Acknowledges}
 use Rattle.station_law.specs.declared.order.Strike.{Strike}
 use Rattle.station_law.specs.declared.order.Strike.TheVariants.{Stop, Fail}
-use Rattle.station_law.specs.IsHeld.{told_by, Rests, Waits, HoldsAllOrNone}
+use Rattle.station_law.specs.IsHeld.{told_by, Rests, Waits, Throughout, KeepsAllOrNone}
 use Rattle.station_law.specs.Storing.{no_orders, stop_at, orders_by, IsDown, IsStruck}
-use Rattle.station_law.proofs.Disks.{restart_keeps, at_end}
+use Rattle.station_law.proofs.Disks.{restart_keeps, from_steered}
 use Rattle.station_law.proofs.WorldArchives.{stands_at, steered_still}
 
 -- ---- laws of appends
@@ -84,12 +82,13 @@ module _ (archive told : ArchiveState DiskState) (orders : Orders) (published : 
   -- during the store the file holds the entry or not
   pub told_images : (now : ArchiveState DiskState)
       → (told.is_stale ≡ false → Acknowledges told_by told published
-      → HoldsThroughout (λ (d : DiskState). length d.log) IsImageSince told.disk now.disk
-      (IsOldOrNew published told.waiting))
-      → HoldsAllOrNone now.disk published (entry ∷ [])
-  told_images now holds image there = rw told_waits at
-      (at_end told.disk now.disk (IsOldOrNew published told.waiting) (holds (cc) told_still) image
-      there)
+      → Throughout told.disk now.disk (IsOldOrNew published told.waiting))
+      → KeepsAllOrNone archive.disk now.disk published (entry ∷ [])
+  told_images now holds =
+      from_steered archive.disk now.disk orders (IsOldOrNew published (entry ∷ []))
+      (subst (λ (disk : DiskState). KeepsAllOrNone disk now.disk published (entry ∷ []))
+      (ap (λ (a : ArchiveState DiskState). a.disk) told_is)
+      (subst (KeepsAllOrNone told.disk now.disk published) told_waits (holds (cc) told_still)))
 
 -- what the calls of a store left that an order hits
 module _ (laws : Struck) (calls : ℕ) (some : 0 < calls) (hit : IsTrue (nat_le calls 4))

@@ -1,7 +1,7 @@
 -- What holds of an archive on a disk in memory and of what is published, step by step.
 use Rattle.std.proofs.Common.{◌≡◌, inl, inr, ℕ, ◌+◌, ◌-◌, ◌≤◌, Bool, true, false, if◌then◌else◌}
 use Rattle.std.proofs.Common.{IsTrue, Option, Some, None, option_map, List, [], ◌∷◌, ◌++◌, length}
-use Rattle.std.proofs.Common.{refl, sym, ap, ◌∙◌, add-zero, arith, Result, Ok, Err, OnErr}
+use Rattle.std.proofs.Common.{refl, sym, ap, subst, ◌∙◌, add-zero, arith, Result, Ok, Err, OnErr}
 use Rattle.std.proofs.lemmas.Bool.{and_parts}
 use Rattle.std.proofs.Math.Nat.{sub-zero}
 use Rattle.std.proofs.lemmas.List.{append-nil}
@@ -13,9 +13,9 @@ use Rattle.record_form.specs.Entry.{entry_of}
 use Rattle.record_form.specs.Spelling.{entry_octets}
 use Rattle.record_form.specs.declared.entry.Entry as form
 use Rattle.disk_model.specs.Images.{Pending, IsImage}
-use Rattle.disk_model.specs.Moments.{IsImageOf, HoldsThroughout}
+use Rattle.disk_model.specs.Moments.{IsImageOf}
 use Rattle.disk_model.specs.Calls.{AllMade}
-use Rattle.disk_model.specs.MemoryDisk.{DiskState, IsMadeCall, IsImageSince, pending_of, steered}
+use Rattle.disk_model.specs.MemoryDisk.{DiskState, IsMadeCall, pending_of, steered}
 use Rattle.disk_model.specs.declared.call.Call.{Call}
 use Rattle.disk_model.specs.declared.orders.Orders.{Orders}
 use Rattle.gate_journal.specs.File.{IsBatch, joined, StandsAt, StandsFor, entries_octets}
@@ -31,8 +31,8 @@ use Rattle.station_law.specs.declared.refusal.Refusal.TheVariants as refusals
 use Rattle.station_law.specs.Store.{Store}
 use Rattle.station_law.specs.Entries.{need, used, refusal}
 use Rattle.station_law.specs.IsHeld.{told_by, IsAt, Rests, Waits, HoldsAllOrNone, fault_of}
-use Rattle.station_law.specs.IsHeld.{IsOfOffer}
-use Rattle.station_law.proofs.Disks.{IsCalm, calm_after, at_end}
+use Rattle.station_law.specs.IsHeld.{IsOfOffer, Throughout, KeepsAllOrNone}
+use Rattle.station_law.proofs.Disks.{IsCalm, calm_after}
 
 -- ---- a file of no entries
 
@@ -194,12 +194,10 @@ waits_now archive offered entries entry rests taken is acknowledges = rw is (rec
 -- during its store, and also where that fails, the file holds it or not
 pub store_images : (archive now : ArchiveState DiskState) (entries : List Entry) (entry : Entry)
     → Waits archive entries entry
-    → HoldsThroughout (λ (d : DiskState). length d.log) IsImageSince archive.disk now.disk
-    (IsOldOrNew entries archive.waiting)
-    → HoldsAllOrNone now.disk entries (entry ∷ [])
-store_images archive now entries entry waits holds image is =
-    rw waits.is_at.waits at
-    (at_end archive.disk now.disk (IsOldOrNew entries archive.waiting) holds image is)
+    → Throughout archive.disk now.disk (IsOldOrNew entries archive.waiting)
+    → KeepsAllOrNone archive.disk now.disk entries (entry ∷ [])
+store_images archive now entries entry waits holds =
+    subst (KeepsAllOrNone archive.disk now.disk entries) waits.is_at.waits holds
 
 -- it was stored
 pub stored_now : (archive stored : ArchiveState DiskState) (entries : List Entry) (entry : Entry)

@@ -1,11 +1,13 @@
 -- What holds of the parts of each recorder: unless it is spent, its archive on a disk in memory has
 -- acknowledged what is published, and nothing else.
 use Rattle.std.specs.Prelude.{◌≡◌, ℕ, ◌<◌, Bool, false, Option, Some, None, IfSome, List, [], ◌∷◌}
+use Rattle.std.specs.Prelude.{length}
 use Rattle.archive_terms.specs.Archive.{Entry}
 use Rattle.record_form.specs.Entry.{entry_of}
 use Rattle.record_form.specs.declared.entry.Entry as form
 use Rattle.disk_model.specs.Images.{Pending, IsImage}
-use Rattle.disk_model.specs.MemoryDisk.{DiskState, pending_of}
+use Rattle.disk_model.specs.Moments.{HoldsThroughout}
+use Rattle.disk_model.specs.MemoryDisk.{DiskState, IsImageSince, pending_of}
 use Rattle.gate_journal.specs.JournalState.{IsOldOrNew}
 use Rattle.gate_journal.specs.declared.order.Times.{Times}
 use Rattle.frame_archive.specs.declared.fault.OfferFault.{OfferFault}
@@ -57,6 +59,15 @@ pub record Waits (archive : ArchiveState DiskState) (entries : List Entry) (entr
 abbrev pub HoldsAllOrNone : DiskState → List Entry → List Entry → Type 0
 HoldsAllOrNone disk entries batch =
     (image : List ℕ) → IsImage (pending_of disk) image → IsOldOrNew entries batch image
+
+-- at every moment from an old disk to a new one each image has this
+abbrev pub Throughout : DiskState → DiskState → (List ℕ → Type 0) → Type 0
+Throughout old new holds =
+    HoldsThroughout (λ (disk : DiskState). length disk.log) IsImageSince old new holds
+
+-- it stands for the entries, or for them and a batch, whole
+abbrev pub KeepsAllOrNone : DiskState → DiskState → List Entry → List Entry → Type 0
+KeepsAllOrNone old new entries batch = Throughout old new (IsOldOrNew entries batch)
 
 -- the entry of a store that isn't over
 abbrev pub begun_list : Option form.Entry → List Entry

@@ -7,6 +7,7 @@ ghost use Rattle.record_form.specs.Entry.{entry_of};
 ghost use Rattle.frame_archive.specs.State.{times_after};
 ghost use Rattle.station_law.specs.Store.{blank};
 ghost use Rattle.station_law.specs.Entries as entries;
+ghost use Rattle.station_law.specs.IsHeld.{KeepsAllOrNone};
 ghost use Rattle.station_law.specs.Stopped.{IsDone, IsLeft, HoldsAlone, Recovers};
 ghost use Rattle.station_law.specs.Outcomes.{said_of, done_of};
 ghost use Rattle.station_law.specs.Power.{fails_now};
@@ -115,9 +116,12 @@ impl Recorder {
             self.new) }
         ensures stopped { OnErr result (IsLeft self.old
             (entries.offer self.old.state (entry_of entry.now)).given self.new) }
+        ensures images { KeepsAllOrNone self.old.disk self.new.disk self.old.state.published
+            (entries.offer self.old.state (entry_of entry.now)).given }
     {
         archive_terms::laws::follows_by_last_times();
         gate_journal::laws::an_image_at_rest_stands_for_what_is_kept();
+        let count = self.published.len();
         let given = share(entry)?;
         let kept = share(entry)?;
         let begun = share(entry)?;
@@ -126,7 +130,6 @@ impl Recorder {
         }
         self.begun = Some(begun);
         self.is_spent = true;
-        let count = self.published.len();
         let settled = store_under(&mut self.archive, self.alloc, self.order, entry)?;
         let outcome = publish(&mut self.published, settled, kept)?;
         let now = self.published.len();
@@ -144,6 +147,7 @@ impl Recorder {
         ensures done { IfOk result (λ outcome. done_of outcome ≡ (fails_now self.old.state).done) }
         ensures next { OnOk result (IsDone (fails_now self.old.state) self.new) }
         ensures stopped { OnErr result (IsLeft self.old [] self.new) }
+        ensures images { KeepsAllOrNone self.old.disk self.new.disk self.old.state.published [] }
     {
         gate_journal::laws::an_image_at_rest_stands_for_what_is_kept();
         self.is_spent = true;
@@ -162,13 +166,16 @@ impl Recorder {
         requires to_come { 0 < order.calls }
         ensures next { self.new.state ≡ record self.old.state { order = Some order } }
         ensures ready { self.new.is_spent ≡ false }
+        ensures disk { self.new.disk ≡ self.old.disk }
     {
         self.order = Some(order);
     }
 
-    /// Whether memory was refused in the middle of a line.
+    /// Whether memory was refused in the middle of a line. Where it wasn't, a recovery finds what
+    /// is published.
     pub fn is_spent(&self) -> bool
-        ensures { result ≡ self.now.is_spent }
+        ensures spent { result ≡ self.now.is_spent }
+        ensures alone { result ≡ false → HoldsAlone self.now.disk self.now.state.published }
     {
         self.is_spent
     }

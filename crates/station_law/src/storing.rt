@@ -1,7 +1,8 @@
 // Stores of an archive on a disk in memory, as a script orders them: one that an order hits fails,
-// and the archive is opened again. After want of memory the file holds what was stored or not.
+// and the archive is opened again. At every moment of each call, also of one that wants memory, the
+// file holds what is stored whole or not at all.
 ghost use Rattle.std.specs.Prelude.{◌≡◌, ◌<◌, ℕ, true, false, List, [], ◌∷◌, Option, Some, IfOk};
-ghost use Rattle.std.specs.Prelude.{OnOk, OnErr};
+ghost use Rattle.std.specs.Prelude.{OnOk};
 ghost use Rattle.std.specs.Prelude.{IfSome, IsTrue, if◌then◌else◌, length, nat_lt};
 ghost use Rattle.archive_terms.specs.Archive.{Entry, is_valid};
 ghost use Rattle.archive_terms.specs.Archive as terms;
@@ -10,7 +11,7 @@ ghost use Rattle.gate_journal.specs.JournalState.{holds_batch};
 ghost use Rattle.station_law.specs.Store.{Store};
 ghost use Rattle.station_law.specs.Orders.{is_hit};
 ghost use Rattle.frame_archive.specs.declared.fault.OfferFault.TheVariants as OfferFault;
-ghost use Rattle.station_law.specs.IsHeld.{Rests, Waits, Takes, HoldsAllOrNone};
+ghost use Rattle.station_law.specs.IsHeld.{Rests, Waits, Takes, HoldsAllOrNone, KeepsAllOrNone};
 ghost use Rattle.station_law.specs.Storing.{IsDown, HasFailed, IsStruck, IsSettled, with_entry};
 
 use crate::order::{Order, Strike, no_orders, stop_at_once};
@@ -46,9 +47,9 @@ pub fn store_under(
     ensures settled { IfOk result (λ settled. (state : Store) → state.order ≡ order
         → Waits archive.old state.published (entry_of entry.now)
         → IsSettled state (entry_of entry.now) archive.new settled) }
-    ensures images { OnErr result ((published : List terms.Entry)
+    ensures images { (published : List terms.Entry)
         → Waits archive.old published (entry_of entry.now)
-        → HoldsAllOrNone archive.new.disk published (entry_of entry.now ∷ [])) }
+        → KeepsAllOrNone archive.old.disk archive.new.disk published (entry_of entry.now ∷ []) }
     ensures capacity { archive.new.capacity ≡ archive.old.capacity }
 {
     let Some(order) = order else {
@@ -77,9 +78,9 @@ fn store_struck(
     ensures settled { IfOk result (λ settled. (state : Store) → state.order ≡ Some order
         → Waits archive.old state.published (entry_of entry.now)
         → IsSettled state (entry_of entry.now) archive.new settled) }
-    ensures images { OnErr result ((published : List terms.Entry)
+    ensures images { (published : List terms.Entry)
         → Waits archive.old published (entry_of entry.now)
-        → HoldsAllOrNone archive.new.disk published (entry_of entry.now ∷ [])) }
+        → KeepsAllOrNone archive.old.disk archive.new.disk published (entry_of entry.now ∷ []) }
     ensures capacity { archive.new.capacity ≡ archive.old.capacity }
 {
     strike(archive, alloc, order)?;
@@ -100,9 +101,9 @@ fn store_struck(
 fn store(archive: &mut FrameArchive<MemoryDisk>) -> Result<(), Memory>
     ensures stored { OnOk result ((published : List terms.Entry) (one : terms.Entry)
         → Waits archive.old published one → Rests archive.new (with_entry published one)) }
-    ensures images { OnErr result ((published : List terms.Entry) (one : terms.Entry)
+    ensures images { (published : List terms.Entry) (one : terms.Entry)
         → Waits archive.old published one
-        → HoldsAllOrNone archive.new.disk published (one ∷ [])) }
+        → KeepsAllOrNone archive.old.disk archive.new.disk published (one ∷ []) }
     ensures capacity { archive.new.capacity ≡ archive.old.capacity }
 {
     let Ok(_) = archive.store() else {
@@ -122,7 +123,7 @@ fn strike(archive: &mut FrameArchive<MemoryDisk>, alloc: Global, order: Order) -
         → IsStruck order.strike order.calls archive.new published one) }
     ensures images { (published : List terms.Entry) (one : terms.Entry)
         → Waits archive.old published one
-        → HoldsAllOrNone archive.new.disk published (one ∷ []) }
+        → KeepsAllOrNone archive.old.disk archive.new.disk published (one ∷ []) }
     ensures capacity { archive.new.capacity ≡ archive.old.capacity }
 {
     gate_journal::laws::a_stop_leaves_whole_batches();
@@ -156,7 +157,7 @@ pub fn fail_power(archive: &mut FrameArchive<MemoryDisk>, alloc: Global, pick: P
         → IsDown archive.new published }
     ensures images { (published batch : List terms.Entry)
         → HoldsAllOrNone archive.old.disk published batch
-        → HoldsAllOrNone archive.new.disk published batch }
+        → KeepsAllOrNone archive.old.disk archive.new.disk published batch }
     ensures capacity { archive.new.capacity ≡ archive.old.capacity }
 {
     disk_model::laws::a_stop_leaves_an_image();
@@ -171,9 +172,9 @@ pub fn restart(archive: &mut FrameArchive<MemoryDisk>) -> Result<Entries, Memory
         → found ≡ left) }
     ensures rests { OnOk result ((left : List terms.Entry) → IsDown archive.old left
         → Rests archive.new left) }
-    ensures images { OnErr result ((published batch : List terms.Entry)
+    ensures images { (published batch : List terms.Entry)
         → HoldsAllOrNone archive.old.disk published batch
-        → HoldsAllOrNone archive.new.disk published batch) }
+        → KeepsAllOrNone archive.old.disk archive.new.disk published batch }
     ensures capacity { archive.new.capacity ≡ archive.old.capacity }
 {
     disk_model::laws::a_sync_leaves_one_image();
@@ -202,9 +203,9 @@ fn reopen(archive: &mut FrameArchive<MemoryDisk>) -> Result<(u64, bool), Memory>
         (published : List terms.Entry) (one : terms.Entry)
         → HasFailed archive.old calls published one
         → Rests archive.new published × Takes archive.new published one) }
-    ensures images { OnErr result ((calls : ℕ) (published : List terms.Entry) (one : terms.Entry)
+    ensures images { (calls : ℕ) (published : List terms.Entry) (one : terms.Entry)
         → HasFailed archive.old calls published one
-        → HoldsAllOrNone archive.new.disk published (one ∷ [])) }
+        → KeepsAllOrNone archive.old.disk archive.new.disk published (one ∷ []) }
     ensures capacity { archive.new.capacity ≡ archive.old.capacity }
 {
     gate_journal::laws::a_file_stands_for_one_list();
@@ -229,9 +230,9 @@ fn store_again(archive: &mut FrameArchive<MemoryDisk>, again: Entry) -> Result<(
     ensures rests { OnOk result ((published : List terms.Entry) → Rests archive.old published
         → Takes archive.old published (entry_of again)
         → Rests archive.new (with_entry published (entry_of again))) }
-    ensures images { OnErr result ((published : List terms.Entry) → Rests archive.old published
+    ensures images { (published : List terms.Entry) → Rests archive.old published
         → Takes archive.old published (entry_of again)
-        → HoldsAllOrNone archive.new.disk published (entry_of again ∷ [])) }
+        → KeepsAllOrNone archive.old.disk archive.new.disk published (entry_of again ∷ []) }
     ensures capacity { archive.new.capacity ≡ archive.old.capacity }
 {
     gate_journal::laws::an_image_at_rest_stands_for_what_is_kept();
@@ -265,9 +266,9 @@ fn settle(archive: &mut FrameArchive<MemoryDisk>, again: Entry) -> Result<u64, M
     ensures rests { OnOk result ((calls : ℕ) (published : List terms.Entry)
         → HasFailed archive.old calls published (entry_of again)
         → Rests archive.new (with_entry published (entry_of again))) }
-    ensures images { OnErr result ((calls : ℕ) (published : List terms.Entry)
+    ensures images { (calls : ℕ) (published : List terms.Entry)
         → HasFailed archive.old calls published (entry_of again)
-        → HoldsAllOrNone archive.new.disk published (entry_of again ∷ [])) }
+        → KeepsAllOrNone archive.old.disk archive.new.disk published (entry_of again ∷ []) }
     ensures capacity { archive.new.capacity ≡ archive.old.capacity }
 {
     let opened = reopen(archive)?;

@@ -14,6 +14,8 @@ ghost use Rattle.station_law.specs.Does.{Steps, Does};
 ghost use Rattle.station_law.specs.Doors.{Doors as Exchange, act, anew};
 ghost use Rattle.sle_numbers.specs.RequestedFrameQuality.{number_of};
 ghost use Rattle.station_law.specs.Desk.{desk};
+ghost use Rattle.station_law.specs.Entries.{offer};
+ghost use Rattle.station_law.specs.IsHeld.{KeepsAllOrNone};
 ghost use Rattle.station_law.specs.Lines.{step, offered, recorded, connected, doors_by};
 ghost use Rattle.station_law.specs.Power.{crash_line, fault_line, fails_now};
 ghost use Rattle.station_law.specs.Runs.{in_store};
@@ -99,7 +101,9 @@ impl World {
 
     /// Does what a line says, and writes its text: of a START's text no more is held than the
     /// message that is being written. What a line does is done before its text is written, so that
-    /// it stays done where the text can't be written.
+    /// it stays done where the text can't be written. At every moment of a line, also of one that
+    /// is stopped, a recovery would find on the disk what was published before it, or that with
+    /// all that the line gives to stores.
     pub fn step<O: Sink>(&mut self, line: &ScriptLine, output: &mut O) -> Result<StepDone, Stop>
         requires valid { HasValidEntry line.now }
         requires fits { Fits line.now }
@@ -115,6 +119,10 @@ impl World {
             → Stands self.old state → HasDone (step state line.now) self.new }
         ensures stopped { OnErr result ((state : State) → Stands self.old state
             → IsStopped self.old.recorder (in_store (step state line.now)) self.new.recorder) }
+        ensures images { self.old.recorder.is_spent ≡ false → (state : State)
+            → Stands self.old state
+            → KeepsAllOrNone self.old.recorder.disk self.new.recorder.disk state.store.published
+            (step state line.now).given }
         ensures spent { self.old.recorder.is_spent ≡ true
             → IsErrOf result Stop.Memory × (self.new ≡ self.old) }
     {
@@ -143,9 +151,12 @@ impl World {
     fn offer_line<O: Sink>(&mut self, entry: &Entry, output: &mut O) -> Result<StepDone, Stop>
         requires valid { IsTrue (is_valid (entry_of entry.now)) }
         requires ready { self.old.recorder.is_spent ≡ false }
-        ensures { Does (λ state. offered state (entry_of entry.now)) self.old self.new
+        ensures does { Does (λ state. offered state (entry_of entry.now)) self.old self.new
             (O.written output.old) (O.written output.new)
             (O.faults output.old) (O.faults output.new) result }
+        ensures images { KeepsAllOrNone self.old.recorder.disk self.new.recorder.disk
+            self.old.recorder.state.published
+            (offer self.old.recorder.state (entry_of entry.now)).given }
     {
         let outcome = self.offer(entry)?;
         outcome.put(self.alloc, output)?;
@@ -157,7 +168,11 @@ impl World {
     fn offer(&mut self, entry: &Entry) -> Result<Outcome, Memory>
         requires valid { IsTrue (is_valid (entry_of entry.now)) }
         requires ready { self.old.recorder.is_spent ≡ false }
-        ensures { Steps (λ state. offered state (entry_of entry.now)) self.old self.new result }
+        ensures steps { Steps (λ state. offered state (entry_of entry.now)) self.old self.new
+            result }
+        ensures images { KeepsAllOrNone self.old.recorder.disk self.new.recorder.disk
+            self.old.recorder.state.published
+            (offer self.old.recorder.state (entry_of entry.now)).given }
     {
         one_archive_stays();
         let Ok(outcome) = self.recorder.offer(entry) else {
@@ -171,9 +186,12 @@ impl World {
     // The power fails now, or at a later call of the disk.
     fn crash_line<O: Sink>(&mut self, k: u32, pick: Pick, output: &mut O) -> Result<StepDone, Stop>
         requires ready { self.old.recorder.is_spent ≡ false }
-        ensures { Does (λ state. recorded state (crash_line state.store k pick)) self.old self.new
-            (O.written output.old) (O.written output.new)
+        ensures does { Does (λ state. recorded state (crash_line state.store k pick)) self.old
+            self.new (O.written output.old) (O.written output.new)
             (O.faults output.old) (O.faults output.new) result }
+        ensures images { HoldsAlone self.old.recorder.disk self.old.recorder.state.published
+            → KeepsAllOrNone self.old.recorder.disk self.new.recorder.disk
+            self.old.recorder.state.published [] }
     {
         if k == 0 {
             return self.crash_now(pick, output);
@@ -188,9 +206,11 @@ impl World {
     // The power fails now, and the archive is opened again.
     fn crash_now<O: Sink>(&mut self, pick: Pick, output: &mut O) -> Result<StepDone, Stop>
         requires ready { self.old.recorder.is_spent ≡ false }
-        ensures { Does (λ state. recorded state (fails_now state.store)) self.old self.new
+        ensures does { Does (λ state. recorded state (fails_now state.store)) self.old self.new
             (O.written output.old) (O.written output.new)
             (O.faults output.old) (O.faults output.new) result }
+        ensures images { KeepsAllOrNone self.old.recorder.disk self.new.recorder.disk
+            self.old.recorder.state.published [] }
     {
         let outcome = self.fail_power(pick)?;
         outcome.put(self.alloc, output)?;
@@ -200,7 +220,10 @@ impl World {
     // The power fails; the archive is opened again, the book is new, and nobody is connected.
     fn fail_power(&mut self, pick: Pick) -> Result<Outcome, Memory>
         requires ready { self.old.recorder.is_spent ≡ false }
-        ensures { Steps (λ state. recorded state (fails_now state.store)) self.old self.new result }
+        ensures steps { Steps (λ state. recorded state (fails_now state.store)) self.old self.new
+            result }
+        ensures images { KeepsAllOrNone self.old.recorder.disk self.new.recorder.disk
+            self.old.recorder.state.published [] }
     {
         let Ok(outcome) = self.recorder.fail_power(pick) else {
             self.recorder.give_up();
@@ -217,6 +240,7 @@ impl World {
             → result ≡ (recorded state (fault_line state.store k)).done }
         ensures next { (state : State) → Stands self.old state
             → HasDone (recorded state (fault_line state.store k)) self.new }
+        ensures disk { self.new.recorder.disk ≡ self.old.recorder.disk }
     {
         if k == 0 {
             return StepDone::WrongState;
@@ -255,9 +279,10 @@ impl World {
     fn doors_line<O: Sink>(&mut self, line: &ScriptLine, output: &mut O) -> Result<StepDone, Stop>
         requires ready { self.old.recorder.is_spent ≡ false }
         requires fits { Fits line.now }
-        ensures { Does (λ state. connected state (act state.doors state.clock line.now))
+        ensures does { Does (λ state. connected state (act state.doors state.clock line.now))
             self.old self.new (O.written output.old) (O.written output.new)
             (O.faults output.old) (O.faults output.new) result }
+        ensures disk { self.new.recorder.disk ≡ self.old.recorder.disk }
     {
         one_archive_stays();
         let Ok(said) = self.doors.act(line, self.clock) else {

@@ -1,3 +1,6 @@
+use Rattle.disk_model.specs.MemoryDisk.{steered}
+use Rattle.gate_journal.specs.JournalState.{IsOldOrNew}
+use Rattle.station_law.proofs.Disks.{unmoved, to_steered}
 use Rattle.station_law.proofs.Striking.{down_now}
 use Rattle.station_law.proofs.storing.fail_power.Goals as goal
 
@@ -11,4 +14,8 @@ returns-clause-down c = λ published rests.
 
 pub returns-clause-images : goal.returns-clause-images
 returns-clause-images c = λ published batch holds.
-    rw (c.steer-2.ensures.steered, c.steer.ensures.steered) holds
+    let disk = c.args.archive.now.disk in
+    let P = IsOldOrNew published batch in
+    rw (c.steer-2.ensures.steered, c.steer.ensures.steered)
+    (to_steered disk (steered disk c.stop_at_once.result) c.no_orders.result P
+    (to_steered disk disk c.stop_at_once.result P (unmoved disk P holds)))

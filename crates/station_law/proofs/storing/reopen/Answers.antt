@@ -4,8 +4,13 @@ use Rattle.station_law.proofs.storing.reopen.Goals as goal
 
 pub returns-in_default-clause-images : goal.returns-in_default-clause-images
 returns-in_default-clause-images c = λ calls published one failed.
-    failed_images c.args.archive.now c.reopen.new.self published one failed.waits failed.failed
-    c.in_default.ensures.refused (c.in_default.ensures.still published failed.acknowledges)
+    failed_images c.args.archive.now c.reopen.new.self.disk calls published one failed
+    c.reopen.ensures.any_moment
+
+pub returns-clause-images : goal.returns-clause-images
+returns-clause-images c = λ calls published one failed.
+    failed_images c.args.archive.now c.reopen.new.self.disk calls published one failed
+    c.reopen.ensures.any_moment
 
 pub returns-clause-count : goal.returns-clause-count
 returns-clause-count c = λ calls published one failed.

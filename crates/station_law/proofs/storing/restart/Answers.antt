@@ -1,15 +1,35 @@
-use Rattle.disk_model.specs.Moments.{IsImageOf}
-use Rattle.station_law.specs.IsHeld.{told_by}
-use Rattle.station_law.proofs.Disks.{at_end, image_before}
+use Rattle.std.proofs.Common.{List, sym, subst}
+use Rattle.archive_terms.specs.Archive.{Entry}
+use Rattle.disk_model.specs.MemoryDisk.{DiskState}
+use Rattle.gate_journal.specs.JournalState.{IsOldOrNew}
+use Rattle.station_law.specs.IsHeld.{HoldsAllOrNone, KeepsAllOrNone}
+use Rattle.station_law.proofs.Disks.{unmoved, restarts_and_opens}
 use Rattle.station_law.proofs.Reopening.{found_left, rests_left}
 use Rattle.station_law.proofs.storing.restart.Goals as goal
+use Rattle.station_law.proofs.storing.restart.Goals.{After-open_anew}
+
+pub returns-in_default-clause-images : goal.returns-in_default-clause-images
+returns-in_default-clause-images c = λ published batch before.
+    subst (λ (disk : DiskState). KeepsAllOrNone c.args.archive.now.disk disk published batch)
+    (sym c.in_default.ensures.err)
+    (unmoved c.args.archive.now.disk (IsOldOrNew published batch) before)
+
+-- whatever became of the opening
+opens : (c : After-open_anew) → (published batch : List Entry)
+    → HoldsAllOrNone c.args.archive.now.disk published batch
+    → KeepsAllOrNone c.args.archive.now.disk c.open_anew.new.self.disk published batch
+opens c published batch before =
+    restarts_and_opens c.a_sync_leaves_one_image.ensures c.args.archive.now.disk
+    c.restart.new.self.disk c.open_anew.new.self.disk c.args.archive.now.disk.stopped
+    c.in-Ok.ensures.ok c.in-Ok.ensures.image (IsOldOrNew published batch) before
+    c.open_anew.ensures.any_moment
 
 pub returns-in_default-open_anew-clause-images : goal.returns-in_default-open_anew-clause-images
-returns-in_default-open_anew-clause-images c = λ published batch before image is.
-    before image (image_before c.a_sync_leaves_one_image.ensures c.args.archive.now.disk
-    c.restart.new.self.disk c.args.archive.now.disk.stopped c.in-Ok.ensures.ok c.in-Ok.ensures.image
-    image (at_end c.restart.new.self.disk c.open_anew.new.self.disk
-    (IsImageOf (told_by c.restart.new.self.disk)) c.open_anew.ensures.any_moment image is))
+returns-in_default-open_anew-clause-images c =
+    opens (goal.at.returns-in_default-open_anew-clause-images c).After-open_anew
+
+pub returns-clause-images : goal.returns-clause-images
+returns-clause-images c = opens (goal.at.returns-clause-images c).After-open_anew
 
 pub returns-clause-found : goal.returns-clause-found
 returns-clause-found c = λ left down. found_left c.a_file_stands_for_one_list.ensures.list

@@ -1,12 +1,12 @@
-use Rattle.std.proofs.lemmas.Result.{err_from_is_err_and}
+use Rattle.std.proofs.Common.{ℕ, List, [], ◌∷◌}
+use Rattle.archive_terms.specs.Archive.{Entry}
 use Rattle.record_form.specs.Entry.{entry_of}
+use Rattle.gate_journal.specs.JournalState.{IsOldOrNew}
+use Rattle.station_law.specs.IsHeld.{KeepsAllOrNone}
+use Rattle.station_law.specs.Storing.{HasFailed}
+use Rattle.station_law.proofs.Disks.{then_on}
 use Rattle.station_law.proofs.storing.settle.Goals as goal
-
-pub returns-in_err-opened-clause-images : goal.returns-in_err-opened-clause-images
-returns-in_err-opened-clause-images c =
-    let err = err_from_is_err_and c.from_residual.result c.from_residual.ensures.1 in
-    rw (err.1) (λ calls published failed.
-    c.in_err-opened.ensures.images calls published (entry_of c.args.again) failed)
+use Rattle.station_law.proofs.storing.settle.Goals.{After-store_again}
 
 pub returns-then-not-is_lost-clause-rests : goal.returns-then-not-is_lost-clause-rests
 returns-then-not-is_lost-clause-rests c = λ calls published failed.
@@ -19,14 +19,25 @@ store_again-requires-clause-taken c =
     f.2 in
     (f.1, lost.0, lost.1)
 
-pub returns-in_err-store_again-clause-images : goal.returns-in_err-store_again-clause-images
-returns-in_err-store_again-clause-images c =
-    let err = err_from_is_err_and c.from_residual-in_err-store_again.result
-    c.from_residual-in_err-store_again.ensures.1 in
-    rw (err.1) (λ calls published failed.
+-- whatever became of the second store
+stored : (c : After-store_again) → (calls : ℕ) (published : List Entry)
+    → HasFailed c.args.archive.now calls published (entry_of c.args.again)
+    → KeepsAllOrNone c.args.archive.now.disk c.store_again.new.archive.disk published
+    (entry_of c.args.again ∷ [])
+stored c calls published failed =
     let lost = c.in_ok-opened.ensures.lost c.if-not-is_lost.false calls published
     (entry_of c.args.again) failed in
-    c.in_err-store_again.ensures.images published lost.0 lost.1)
+    then_on c.args.archive.now.disk c.reopen.new.archive.disk c.store_again.new.archive.disk
+    (IsOldOrNew published (entry_of c.args.again ∷ []))
+    (c.reopen.ensures.images calls published (entry_of c.args.again) failed)
+    (c.store_again.ensures.images published lost.0 lost.1)
+
+pub returns-in_err-store_again-clause-images : goal.returns-in_err-store_again-clause-images
+returns-in_err-store_again-clause-images c =
+    stored (goal.at.returns-in_err-store_again-clause-images c).After-store_again
+
+pub returns-clause-images : goal.returns-clause-images
+returns-clause-images c = stored (goal.at.returns-clause-images c).After-store_again
 
 pub returns-clause-rests : goal.returns-clause-rests
 returns-clause-rests c = λ calls published failed.

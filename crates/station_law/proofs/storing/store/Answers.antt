@@ -8,6 +8,11 @@ returns-in_default-clause-images c = λ published one waits.
     store_images c.args.archive.now c.store.new.self published one waits
     (c.store.ensures.any_moment waits.is_at.fresh published waits.is_at.acknowledges)
 
+pub returns-clause-images : goal.returns-clause-images
+returns-clause-images c = λ published one waits.
+    store_images c.args.archive.now c.store.new.self published one waits
+    (c.store.ensures.any_moment waits.is_at.fresh published waits.is_at.acknowledges)
+
 pub returns-clause-stored : goal.returns-clause-stored
 returns-clause-stored c = λ published one waits.
     stored_now c.args.archive.now c.store.new.self published one

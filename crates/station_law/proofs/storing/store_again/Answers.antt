@@ -1,9 +1,13 @@
-use Rattle.std.proofs.Common.{◌∙◌, Option, [], ◌∷◌, subst}
-use Rattle.std.proofs.lemmas.Result.{on_err_weaker}
+use Rattle.std.proofs.Common.{◌∙◌, Option, [], ◌∷◌, ap, subst}
 use Rattle.record_form.specs.Entry.{entry_of}
 use Rattle.disk_model.specs.Calls.{follows_if_ok}
+use Rattle.disk_model.specs.MemoryDisk.{DiskState}
+use Rattle.gate_journal.specs.JournalState.{IsOldOrNew}
+use Rattle.frame_archive.specs.State.{ArchiveState}
 use Rattle.frame_archive.specs.declared.fault.OfferFault.{OfferFault}
 use Rattle.frame_archive.specs.Faults.{IsRefusal}
+use Rattle.station_law.specs.IsHeld.{KeepsAllOrNone}
+use Rattle.station_law.proofs.Disks.{unmoved}
 use Rattle.station_law.proofs.WorldArchives.{none_stored, takes_so, waits_now}
 use Rattle.station_law.proofs.storing.store_again.Goals as goal
 
@@ -15,8 +19,9 @@ only_memory-requires c =
 
 pub returns-in-Err-clause-images : goal.returns-in-Err-clause-images
 returns-in-Err-clause-images c = rw c.in-Err.ensures.unchanged (λ published rests takes.
-    none_stored c.an_image_at_rest_stands_for_what_is_kept.ensures c.args.archive.now published []
-    rests (entry_of c.args.again ∷ []))
+    unmoved c.args.archive.now.disk (IsOldOrNew published (entry_of c.args.again ∷ []))
+    (none_stored c.an_image_at_rest_stands_for_what_is_kept.ensures c.args.archive.now published []
+    rests (entry_of c.args.again ∷ [])))
 
 pub returns-clause-rests : goal.returns-clause-rests
 returns-clause-rests c = follows_if_ok c.store.result c.store.ensures.stored
@@ -26,8 +31,11 @@ returns-clause-rests c = follows_if_ok c.store.result c.store.ensures.stored
     (c.in_default.ensures.acknowledged published rests.acknowledges)))
 
 pub returns-clause-images : goal.returns-clause-images
-returns-clause-images c = on_err_weaker c.store.result
-    (λ images published rests takes. images published (entry_of c.args.again)
+returns-clause-images c = λ published rests takes.
+    subst (λ (disk : DiskState). KeepsAllOrNone disk c.store.new.archive.disk published
+    (entry_of c.args.again ∷ []))
+    (ap (λ (a : ArchiveState DiskState). a.disk) c.in_default.ensures.taken)
+    (c.store.ensures.images published (entry_of c.args.again)
     (waits_now c.args.archive.now c.offer.new.self published (entry_of c.args.again) rests
     c.in_default.ensures.in_order c.in_default.ensures.taken
-    (c.in_default.ensures.acknowledged published rests.acknowledges))) c.store.ensures.images
+    (c.in_default.ensures.acknowledged published rests.acknowledges)))

@@ -1,8 +1,10 @@
 use Rattle.std.proofs.Common.{◌≡◌, rules, List, [], ◌∷◌}
 use Rattle.archive_terms.specs.Archive.{Entry}
 use Rattle.disk_model.specs.MemoryDisk.{steered}
-use Rattle.station_law.specs.IsHeld.{Waits, HoldsAllOrNone}
+use Rattle.gate_journal.specs.JournalState.{IsOldOrNew}
+use Rattle.station_law.specs.IsHeld.{Waits, KeepsAllOrNone}
 use Rattle.station_law.specs.Storing.{orders_by}
+use Rattle.station_law.proofs.Disks.{unmoved, to_steered}
 use Rattle.station_law.proofs.WorldArchives.{none_stored}
 use Rattle.station_law.proofs.Striking.{Struck, never_made, struck_by, told_still, told_images}
 use Rattle.station_law.proofs.Striking.{failed_there}
@@ -31,15 +33,16 @@ told c = rw c.in_ok-orders.ensures at c.steer.ensures.steered
 -- whatever became of the store
 images : (c : After-store) → (published : List Entry) (one : Entry)
     → Waits c.args.archive.now published one
-    → HoldsAllOrNone c.store.new.self.disk published (one ∷ [])
+    → KeepsAllOrNone c.args.archive.now.disk c.store.new.self.disk published (one ∷ [])
 images c published one waits = told_images c.args.archive.now c.steer.new.self
     c.in_ok-orders.orders published one waits c.steer.ensures.steered c.store.new.self
     (λ fresh. c.store.ensures.any_moment fresh published)
 
 pub returns-in_err-orders-clause-images : goal.returns-in_err-orders-clause-images
 returns-in_err-orders-clause-images c = λ published one waits.
-    none_stored c.an_image_at_rest_stands_for_what_is_kept.ensures c.args.archive.now published
-    (one ∷ []) waits.is_at (one ∷ [])
+    unmoved c.args.archive.now.disk (IsOldOrNew published (one ∷ []))
+    (none_stored c.an_image_at_rest_stands_for_what_is_kept.ensures c.args.archive.now published
+    (one ∷ []) waits.is_at (one ∷ []))
 
 pub unreachable-requires : goal.unreachable-requires
 unreachable-requires c =
@@ -75,4 +78,6 @@ returns-clause-struck c = λ published one waits.
 
 pub returns-clause-images : goal.returns-clause-images
 returns-clause-images c = λ published one waits. rw c.steer-2.ensures.steered
-    (images (goal.at.returns-clause-images c).After-store published one waits)
+    (to_steered c.args.archive.now.disk c.store.new.self.disk c.no_orders.result
+    (IsOldOrNew published (one ∷ []))
+    (images (goal.at.returns-clause-images c).After-store published one waits))

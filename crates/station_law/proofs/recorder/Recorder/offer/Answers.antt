@@ -4,18 +4,21 @@ use Rattle.archive_terms.specs.Archive.{Entry}
 use Rattle.record_form.specs.Entry.{entry_of}
 use Rattle.record_form.specs.declared.entry.Entry as form
 use Rattle.disk_model.specs.MemoryDisk.{DiskState}
+use Rattle.gate_journal.specs.JournalState.{IsOldOrNew}
 use Rattle.frame_archive.specs.State.{ArchiveState}
 use Rattle.station_law.specs.declared.recorder.Recorder.TheInside.{Inside}
 use Rattle.station_law.specs.Store.{Store}
 use Rattle.station_law.specs.Answer.{Answer}
 use Rattle.station_law.specs.Entries.{refusal, stores_under, by_refusal, offer}
-use Rattle.station_law.specs.IsHeld.{begun_list, Rests, Waits, HoldsAllOrNone}
+use Rattle.station_law.specs.IsHeld.{begun_list, Rests, Waits, HoldsAllOrNone, KeepsAllOrNone}
 use Rattle.station_law.specs.Storing.{published_by}
+use Rattle.station_law.proofs.Disks.{at_end}
+use Rattle.station_law.proofs.Moments.{idle}
 use Rattle.station_law.proofs.WorldArchives.{cause_of, none_of, is_of_offer, waits_now, on_err}
 use Rattle.station_law.proofs.WorldArchives as held
 use Rattle.station_law.proofs.Worlds.{held_spent, held_next, times_next, next_published, done_now}
 use Rattle.station_law.proofs.Worlds.{still_to_come, done_is, stored_so, settled_images, left_begun}
-use Rattle.station_law.proofs.Worlds.{refused_so}
+use Rattle.station_law.proofs.Worlds.{refused_so, given_is}
 use Rattle.station_law.proofs.recorder.Recorder.offer.Goals as goal
 use Rattle.station_law.proofs.recorder.Recorder.offer.Goals.{In_ok-of, After-store_under}
 use Rattle.station_law.proofs.recorder.Recorder.offer.Goals.{In_ok-outcome}
@@ -28,6 +31,20 @@ before w = record {
   unsettled = begun_list w.begun;
   order = w.order;
 }
+
+-- ---- nothing is done
+
+pub returns-in_err-given-clause-images : goal.returns-in_err-given-clause-images
+returns-in_err-given-clause-images c = rw (← c.self.view_is)
+    (idle c.self.inside c.self.invariant (rw (← c.self.view_is) at c.requires.ready) _)
+
+pub returns-in_err-kept-clause-images : goal.returns-in_err-kept-clause-images
+returns-in_err-kept-clause-images c = rw (← c.self.view_is)
+    (idle c.self.inside c.self.invariant (rw (← c.self.view_is) at c.requires.ready) _)
+
+pub returns-in_err-begun-clause-images : goal.returns-in_err-begun-clause-images
+returns-in_err-begun-clause-images c = rw (← c.self.view_is)
+    (idle c.self.inside c.self.invariant (rw (← c.self.view_is) at c.requires.ready) _)
 
 -- ---- the archive refuses the entry
 
@@ -67,6 +84,14 @@ returns-in-Err-clause-next c = rw (c.in-Err.ensures.unchanged, ← c.self.view_i
   ready = rw (← c.self.view_is) at c.requires.ready;
 })
 
+pub returns-in_err-of-clause-images : goal.returns-in_err-of-clause-images
+returns-in_err-of-clause-images c = rw (c.in-Err.ensures.unchanged, ← c.self.view_is)
+    (idle c.self.inside c.self.invariant (rw (← c.self.view_is) at c.requires.ready) _)
+
+pub returns-in-Err-clause-images : goal.returns-in-Err-clause-images
+returns-in-Err-clause-images c = rw (c.in-Err.ensures.unchanged, ← c.self.view_is)
+    (idle c.self.inside c.self.invariant (rw (← c.self.view_is) at c.requires.ready) _)
+
 -- ---- the entry waits, and is stored
 
 pub store_under-requires-clause-waits : goal.store_under-requires-clause-waits
@@ -104,6 +129,18 @@ capacity : (c : After-store_under)
 capacity c = c.store_under.ensures.capacity
     ∙ ap (λ (a : ArchiveState DiskState). a.capacity) c.in_default.ensures.taken
 
+-- the disk's images, whatever became of its store
+images : (c : After-store_under)
+    → KeepsAllOrNone c.self.inside.archive.disk c.store_under.new.archive.disk
+    c.self.inside.published (offer (before c.self.inside) (entry_of c.args.entry.now)).given
+images c =
+    subst (KeepsAllOrNone c.self.inside.archive.disk c.store_under.new.archive.disk
+    c.self.inside.published) (given_is (before c.self.inside) (entry_of c.args.entry.now) (taken c))
+    (subst (λ (disk : DiskState). KeepsAllOrNone disk c.store_under.new.archive.disk
+    c.self.inside.published (entry_of c.args.entry.now ∷ []))
+    (ap (λ (a : ArchiveState DiskState). a.disk) c.in_default.ensures.taken)
+    (c.store_under.ensures.images c.self.inside.published (waits c)))
+
 pub invariant_of-self-in_err-settled : goal.invariant_of-self-in_err-settled
 invariant_of-self-in_err-settled c =
     let at = (goal.at.invariant_of-self-in_err-settled c).After-store_under in
@@ -111,7 +148,21 @@ invariant_of-self-in_err-settled c =
     (Some c.in_ok-begun.begun) c.self.inside.order
     (subst (λ (e : form.Entry). HoldsAllOrNone c.store_under.new.archive.disk
     c.self.inside.published (entry_of e ∷ [])) (sym c.in_ok-begun.ensures)
-    (c.in_err-settled.ensures.images c.self.inside.published (waits at))) c.self.invariant.to_come
+    (at_end c.offer.new.self.disk c.store_under.new.archive.disk
+    (IsOldOrNew c.self.inside.published (entry_of c.args.entry.now ∷ []))
+    (c.store_under.ensures.images c.self.inside.published (waits at)))) c.self.invariant.to_come
+
+pub returns-in_err-settled-clause-images : goal.returns-in_err-settled-clause-images
+returns-in_err-settled-clause-images c = rw (← c.self.view_is)
+    (images (goal.at.returns-in_err-settled-clause-images c).After-store_under)
+
+pub returns-in_err-outcome-clause-images : goal.returns-in_err-outcome-clause-images
+returns-in_err-outcome-clause-images c = rw (← c.self.view_is)
+    (images (goal.at.returns-in_err-outcome-clause-images c).After-store_under)
+
+pub returns-clause-images : goal.returns-clause-images
+returns-clause-images c =
+    rw (← c.self.view_is) (images (goal.at.returns-clause-images c).After-store_under)
 
 pub returns-in_err-settled-clause-stopped : goal.returns-in_err-settled-clause-stopped
 returns-in_err-settled-clause-stopped c =

@@ -41,18 +41,20 @@ taken g c said is =
     rw (← c.self.view_is) (acted_taken seen new refl refl ready c.args.line.now c.in-Ok.said said is
     c.in-Ok.ensures.acted)
 
-pub returns-in_default-said : goal.returns-in_default-said
-returns-in_default-said g c = told_nothing (taken g (goal.at.returns-in_default-said g c).In-Ok
+pub returns-in_default-said-clause-does : goal.returns-in_default-said-clause-does
+returns-in_default-said-clause-does g c =
+    told_nothing (taken g (goal.at.returns-in_default-said-clause-does g c).In-Ok
     None c.in_default-said.is) _ _
 
-pub returns-in_err-put : goal.returns-in_err-put
-returns-in_err-put g c = untold (taken g (goal.at.returns-in_err-put g c).In-Ok
+pub returns-in_err-put-clause-does : goal.returns-in_err-put-clause-does
+returns-in_err-put-clause-does g c =
+    untold (taken g (goal.at.returns-in_err-put-clause-does g c).In-Ok
     (Some c.in-Some.said) c.in-Some.is) _ _ _ _
     c.in_err-put.field-0.0 c.from_residual.result c.from_residual.ensures.1 c.in_err-put.ensures
 
-pub returns : goal.returns
-returns g c = told (taken g (goal.at.returns g c).In-Ok (Some c.in-Some.said) c.in-Some.is)
-    _ _ _ _ _ c.in_ok-put.ensures
+pub returns-clause-does : goal.returns-clause-does
+returns-clause-does g c = told (taken g (goal.at.returns-clause-does g c).In-Ok
+    (Some c.in-Some.said) c.in-Some.is) _ _ _ _ _ c.in_ok-put.ensures
 
 pub invariant_of-self-in_default-said : goal.invariant_of-self-in_default-said
 invariant_of-self-in_default-said g c =

@@ -5,8 +5,8 @@ use Rattle.station_law.proofs.Following.{offer_taken}
 use Rattle.station_law.proofs.OneArchive.{agrees, agree_unless, offer_agrees}
 use Rattle.station_law.proofs.world.World.offer.Goals as goal
 
-pub returns : goal.returns
-returns c =
+pub returns-clause-steps : goal.returns-clause-steps
+returns-clause-steps c =
     let seen : Seen = record {
       recorder = c.self.inside.recorder;
       clock = c.self.inside.clock;
