@@ -11,11 +11,16 @@ use Rattle.octet_core.specs.Fault.{last_count, count_up, Rose}
 use Rattle.archive_terms.specs.Archive.{IsArchive}
 use Rattle.station_desk.specs.Start.{moment}
 use Rattle.sle_numbers.specs.RequestedFrameQuality.{number_of}
-use Rattle.station_law.specs.State.{start as new_world}
 use Rattle.station_desk.specs.ToldBuffer.{ToldBuffer, buffer_message}
+use Rattle.station_world.specs.File.{acknowledged}
+use Rattle.station_world.specs.World.{World, before_all}
+use Rattle.station_world.specs.Comes.{AllCome}
+use Rattle.drill_text.specs.Reading.{reading}
+use Rattle.station_law.specs.State.{start as new_world}
 use Rattle.station_law.specs.Said.{handed, texts}
 use Rattle.station_law.specs.Lines.{step_text}
-use Rattle.station_law.specs.Runs.{IsAnswered, after, transcript, transcript_from}
+use Rattle.station_law.specs.Runs.{IsTold, transcript, transcript_from}
+use Rattle.script_world.specs.Script.{origin, script_events, world_behind}
 use Rattle.provider_cli.specs.declared.status.Status.{Status}
 use Rattle.provider_cli.specs.declared.status.Status.TheVariants.{Done, Usage, BadLine, BadSite}
 use Rattle.provider_cli.specs.declared.status.Status.TheVariants.{ReadFault, WriteFault, Full}
@@ -25,7 +30,7 @@ use Rattle.provider_cli.specs.Drilled.{GainsAll, GainsSome, HasText, text_by, st
 use Rattle.provider_cli.specs.Drilled.{DrillOutcome, ran, cut_off, given_up, unread, too_long}
 use Rattle.provider_cli.specs.Drilled.{never}
 use Rattle.provider_cli.specs.Drilled.{Drilled, Completes}
-use Rattle.provider_cli.specs.Headline.{HasHeadline, HasWorld, terms_of, IsDelivered, HasRun}
+use Rattle.provider_cli.specs.Headline.{HasTranscript, HasWorld, terms_of, IsDelivered, HasRun}
 use Rattle.provider_cli.specs.Headline.{IsSent, sent, IsStreamed, IsReadOf}
 use Rattle.provider_cli.specs.Laws.{Laws}
 use Rattle.provider_cli.specs.Lines.{lines_of}
@@ -38,20 +43,24 @@ use Rattle.provider_cli.specs.Start.{told_by, messages_of}
 
 -- what is promised of any line, at this one
 at_line : Laws → (script : List ℕ) (s : Start) (is : IsStartOf script s)
-    → IsAnswered step_text (new_world s.site) s.earlier s.later is.line
+    → IsTold step_text (new_world s.site) s.earlier s.later is.line
 at_line laws script s is =
-    laws.headline s.site (s.earlier ++ is.line ∷ s.later) s.earlier s.later is.line refl is.good
+    laws.told s.site (s.earlier ++ is.line ∷ s.later) s.earlier s.later is.line refl is.good
 
 not_before : (a b : ℕ) → a ≤ b → nat_lt b a ≡ false
 not_before a b le = grind arith
 
 module _ (laws : Laws) (script : List ℕ) (s : Start) (is : IsStartOf script s) where
-  abbrev answered : IsAnswered step_text (new_world s.site) s.earlier s.later is.line
-  answered = at_line laws script s is
-
-  -- the published entries are an archive at its line
+  -- the published entries are an archive at its line: they are what the world of the earlier lines
+  -- has acknowledged
   archive_now : IsArchive (archive_at s)
-  archive_now = rw is.says at (answered.archive 0)
+  archive_now =
+      let here = laws.world s.site s.earlier [] in
+      let come = subst (AllCome (origin s.site) before_all) here.begins.1 here.come in
+      let kept = (here.headline (script_events reading s.site s.earlier) here.begins.0 here.begins
+      come).recovery (acknowledged (world_behind reading s.site s.earlier).file) (inl refl) in
+      subst IsArchive (ap (λ (w : World). acknowledged w.file) here.shows.is
+      ∙ here.shows.acknowledges) kept.archive
 
   pub read_of : IsReadOf s
   read_of = laws.readable (archive_at s) s.start s.stop (number_of s.quality) archive_now
@@ -89,7 +98,7 @@ module _ (laws : Laws) (script : List ℕ) (s : Start) (is : IsStartOf script s)
   stands_sent =
       let before = transcript step_text (new_world s.site) s.earlier in
       let count : length s.earlier + 1 + 1 ≡ length s.earlier + 2 = omega arith in
-      ap script_text is.stands ∙ answered.text
+      ap script_text is.stands ∙ (at_line laws script s is).text
       ∙ ap (λ text. before ++ text)
       (text_at (length s.earlier + 1)
       ∙ ap (λ n. flat_map sent (messages_of s)
@@ -128,9 +137,9 @@ pub each_start : (input : Option (List ℕ)) (IsSo : Start → Type 0)
 each_start None IsSo so = tt
 each_start (Some script) IsSo so = λ s is. so script s is
 
-pub has_headline : Laws → (input : Option (List ℕ)) → HasHeadline input
-has_headline laws None = tt
-has_headline laws (Some script) = λ site lines _. laws.headline site lines
+pub has_transcript : Laws → (input : Option (List ℕ)) → HasTranscript input
+has_transcript laws None = tt
+has_transcript laws (Some script) = λ site lines _. laws.told site lines
 
 pub has_world : Laws → (input : Option (List ℕ)) → HasWorld input
 has_world laws None = tt

@@ -1,4 +1,5 @@
--- What a drill promises of each START of its script, one fact each.
+-- What a drill promises of its script: of its text, of the world of its lines, and of each START,
+-- one fact each.
 use Rattle.std.specs.Prelude.{◌≡◌, ℕ, ◌+◌, IfSome, Option, None, List, [], ◌++◌}
 use Rattle.std.specs.Prelude.{length, map, take}
 use Rattle.std.specs.List.{flat_map}
@@ -14,7 +15,7 @@ use Rattle.station_law.specs.State.{start as new_world}
 use Rattle.station_law.specs.Said.{sent_text}
 use Rattle.station_desk.specs.Start.{selection}
 use Rattle.station_law.specs.Lines.{step_text}
-use Rattle.station_law.specs.Runs.{transcript, transcript_from, Headline}
+use Rattle.station_law.specs.Runs.{transcript, transcript_from, AreTold}
 use Rattle.script_world.specs.Script.{IsInWorld}
 use Rattle.drill_text.specs.Reading.{reading}
 use Rattle.provider_cli.specs.Lines.{lines_of}
@@ -26,17 +27,17 @@ use Rattle.station_desk.specs.Readable.{AreReadable}
 use Rattle.provider_cli.specs.Drilled.{GainsAll, GainsSome, DrillOutcome, ran, cut_off, given_up}
 use Rattle.provider_cli.specs.Drilled.{ended}
 
--- What station_law promises of any lines holds of those that run: at each line behind others in
--- order, whatever its form is.
-abbrev pub HasHeadline : Option (List ℕ) → Type 0
-HasHeadline input =
+-- At each line that runs behind others in order, whatever its form is, its text stands between
+-- theirs and that of the later ones, and each buffer that it tells is a START's.
+abbrev pub HasTranscript : Option (List ℕ) → Type 0
+HasTranscript input =
     IfSome input (λ script. (site : Site) (lines : List (List ℕ))
     → script_of (lines_of script) ≡ runs site lines
-    → Headline step_text (new_world site) lines)
+    → AreTold step_text (new_world site) lines)
 
 -- The lines that run are events of a station's world. Behind any first ones of them stands the
--- world of their events: its state is the script's, its STARTs did what was handed over, and it has
--- the headline against the world behind any more of them.
+-- world of their events: its state is the script's, and its STARTs did what was handed over. And at
+-- each moment, also within a line, the headline holds against each later world.
 abbrev pub HasWorld : Option (List ℕ) → Type 0
 HasWorld input =
     IfSome input (λ script. (site : Site) (first more rest : List (List ℕ))

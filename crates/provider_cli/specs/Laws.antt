@@ -17,7 +17,7 @@ use Rattle.station_desk.specs.ToldBuffer.{ToldBuffer, buffer_message}
 use Rattle.station_desk.specs.Readable.{AreReadable}
 use Rattle.station_desk.specs.Start.{told_desk}
 use Rattle.station_law.specs.Lines.{step_text}
-use Rattle.station_law.specs.Runs.{Headline}
+use Rattle.station_law.specs.Runs.{AreTold}
 use Rattle.station_law.specs.Connections.{AreSessions}
 use Rattle.drill_text.specs.Reading.{reading}
 use Rattle.script_world.specs.Script.{AreInWorld}
@@ -28,8 +28,7 @@ pub record Laws : Type 0 where
       → handed_buffers (outcomes t entries (map (free_round front) moments) started)
       ≡ take (length moments) (offline_buffers t.size (picked_at t entries front)
       (is_stop_closed t.selection (take front entries)))
-  pub headline : (site : Site) (lines : List (List ℕ))
-      → Headline step_text (new_world site) lines
+  pub told : (site : Site) (lines : List (List ℕ)) → AreTold step_text (new_world site) lines
   pub readable : (entries : List Entry) (start stop : Cds) (quality : ℕ) → IsArchive entries
       → AreReadable (told_desk entries start stop quality)
   pub messages : (told : List ToldBuffer) → AreReadable told

@@ -18,7 +18,7 @@ use octet_core::{Sink, Source};
 use script_world::laws::a_script_is_events;
 use station_desk::laws::a_start_is_read;
 use station_law::Stop;
-use station_law::laws::{connections_are_sessions, headline_law};
+use station_law::laws::{connections_are_sessions, transcript_law};
 use std::alloc::{AllocError, Global};
 
 /// The most octets that a script may have.
@@ -45,7 +45,7 @@ pub fn drill<I: Source, O: Sink>(alloc: Global, input: &mut I, output: &mut O) -
 fn laws()
     ensures { Laws }
 {
-    headline_law();
+    transcript_law();
     a_script_is_events();
     connections_are_sessions();
     a_start_is_read();

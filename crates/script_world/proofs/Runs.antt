@@ -6,10 +6,10 @@ use Rattle.station_book.specs.State.{Opening}
 use Rattle.station_book.specs.Origin.{opening_of}
 use Rattle.station_config.specs.declared.site.Site.{Site}
 use Rattle.drill_text.specs.declared.script_line.ScriptLine.{ScriptLine}
-use Rattle.station_world.specs.World.{World, before_all, lives, Event, after_event, after_events}
+use Rattle.station_world.specs.World.{World, before_all, Event, after_event, after_events}
 use Rattle.station_world.specs.Comes.{AllCome}
-use Rattle.station_world.specs.Headline.{Headline, HeadlineLaw}
-use Rattle.station_world.specs.Stays.{Match, LifeGoesOn, WhatWasDoneStays}
+use Rattle.station_world.specs.Headline.{HeadlineLaw}
+use Rattle.station_world.specs.Stays.{WhatWasDoneStays}
 use Rattle.line_events.specs.Shows.{View, Shows}
 use Rattle.line_events.specs.Forms.{first_events, LeadTo, LinesAreEvents}
 use Rattle.station_law.specs.State.{State, start}
@@ -154,20 +154,12 @@ module _ (law : LinesAreEvents) (hands : HandsOver) (headline : HeadlineLaw) (si
 
     pub in_world : WhatWasDoneStays → (lines more : List L) → IsInWorld reads site lines more
     in_world stays lines more =
-        let events : List Event = script_events reads site lines in
         let rest : List Event = events_from reads o (after (answers reads) (start site) lines)
         (after_events o first (events_from reads o (start site) first lines)) more in
-        let is : script_events reads site (lines ++ more) ≡ events ++ rest =
-        script_splits lines more in
-        let all = script_leads (lines ++ more) in
-        let come : AllCome o before_all (events ++ rest) =
-        subst (AllCome o before_all) is all.0 in
         record {
-          come = all.0;
+          come = (script_leads (lines ++ more)).0;
+          begins = (rest, script_splits lines more);
           shows = (script_leads lines).1;
-          headline = subst (λ (es : List Event). Headline (after_events o before_all events)
-              (after_events o before_all es)) (sym is) (headline o events rest come);
-          stays = subst (λ (es : List Event). Match LifeGoesOn
-              (lives (after_events o before_all events)) (lives (after_events o before_all es)))
-              (sym is) (stays o events rest come);
+          headline = λ events next _ come. headline o events next come;
+          stays = λ events next _ come. stays o events next come;
         }

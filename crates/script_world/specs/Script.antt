@@ -6,7 +6,7 @@ use Rattle.station_config.specs.declared.site.Site.{Site}
 use Rattle.drill_text.specs.declared.script_line.ScriptLine.{ScriptLine}
 use Rattle.gate_journal.specs.JournalState.{IsOldOrNew}
 use Rattle.station_world.specs.World.{World, before_all, lives, Event, after_events}
-use Rattle.station_world.specs.Comes.{AllCome}
+use Rattle.station_world.specs.Comes.{Begins, AllCome}
 use Rattle.station_world.specs.Headline.{Headline}
 use Rattle.station_world.specs.Stays.{Match, LifeGoesOn}
 use Rattle.station_world.specs.Archives.{StandsForOne}
@@ -38,6 +38,17 @@ view_of state starts = record {
   told = told_since starts;
 }
 
+-- It holds of the world behind any first of some events, and of each world that further events lead
+-- to from there, be they the rest of these or others that may come.
+abbrev pub AtEachMoment : (World → World → Type 0) → Opening → List Event → Type 0
+AtEachMoment holds o events =
+    (first next : List Event) → Begins first events → AllCome o before_all (first ++ next)
+    → holds (after_events o before_all first) (after_events o before_all (first ++ next))
+
+-- a later world has the lives of an earlier one, and what was done in them
+abbrev pub LivesGoOn : World → World → Type 0
+LivesGoOn w later = Match LifeGoesOn (lives w) (lives later)
+
 module _ {L : Type 0} (reads : L → Option ScriptLine) where
   -- what a line answers
   abbrev pub answers : State → L → Answer State
@@ -60,16 +71,17 @@ module _ {L : Type 0} (reads : L → Option ScriptLine) where
   abbrev pub world_behind : Site → List L → World
   world_behind site lines = after_events (origin site) before_all (script_events site lines)
 
-  -- Some lines of a script, and further ones: their events may come; the state behind the lines is
-  -- that of the world behind them, as is what each START has handed over; that world has the
-  -- headline against the one behind the further lines; and what was done in it stays.
+  -- Some lines of a script, and further ones: the events of all may come, those of the first lines
+  -- first. The state behind these is that of the world behind their events, as is what each START
+  -- has handed over. And at each moment, also within a line, and whatever comes then, the headline
+  -- holds, and what was done stays.
   pub record IsInWorld (site : Site) (lines more : List L) : Type 0 where
     pub come : AllCome (origin site) before_all (script_events site (lines ++ more))
+    pub begins : Begins (script_events site lines) (script_events site (lines ++ more))
     pub shows : Shows (view_of (after answers (start site) lines)
         (handed_after answers (start site) [] lines)) (world_behind site lines)
-    pub headline : Headline (world_behind site lines) (world_behind site (lines ++ more))
-    pub stays : Match LifeGoesOn (lives (world_behind site lines))
-        (lives (world_behind site (lines ++ more)))
+    pub headline : AtEachMoment Headline (origin site) (script_events site (lines ++ more))
+    pub stays : AtEachMoment LivesGoOn (origin site) (script_events site (lines ++ more))
 
 -- so is every script, and each front of it
 abbrev pub AreInWorld : {L : Type 0} → (L → Option ScriptLine) → Type 0

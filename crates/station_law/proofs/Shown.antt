@@ -19,7 +19,8 @@ use Rattle.station_law.specs.State.{State, start}
 use Rattle.station_law.specs.Answer.{Answer}
 use Rattle.station_law.specs.Sound.{IsSound, Moves, Keeps}
 use Rattle.station_law.specs.Runs as runs
-use Rattle.station_law.specs.LinesFacts.{Laws, facts, facts_text}
+use Rattle.station_law.specs.EntriesFacts.{Grows}
+use Rattle.station_law.specs.LinesFacts.{facts, facts_text}
 use Rattle.station_law.specs.Lines.{doors_behind, recorded, connected, step, step_read, step_text}
 use Rattle.station_law.specs.Shown.{HasWhatIsStored, HasOneArchive}
 use Rattle.station_law.proofs.Rounds.{replay-append}
@@ -100,14 +101,14 @@ module _ (state : State) (shown : state.doors.book.published ≡ state.store.pub
   shows None keeps = shown
   shows (Some line) keeps = line_shown line keeps
 
-module _ (laws : Laws) where
+module _ (grows : Grows) where
   shown_behind : (lines : List (List ℕ)) (state : State) → IsSound state.store
       → state.doors.book.published ≡ state.store.published
       → (runs.after step_text state lines).doors.book.published
       ≡ (runs.after step_text state lines).store.published
   shown_behind [] state sound shown = shown
   shown_behind (line ∷ lines) state sound shown =
-      let keeps = facts_text laws state line sound in
+      let keeps = facts_text grows state line sound in
       shown_behind lines (step_text state line).next keeps.sound
       (shows state shown (reading line) keeps)
 
@@ -118,7 +119,7 @@ module _ (laws : Laws) where
   pub one_stays : (state : State) (line : ScriptLine) → HasOneArchive state
       → HasOneArchive (step state line).next
   one_stays state line one =
-      let keeps = facts laws state line one.sound in
+      let keeps = facts grows state line one.sound in
       record { sound = keeps.sound; same = line_shown state one.same line keeps }
 
 pub one_stays_at_doors : (state : State) (line : ScriptLine) → HasOneArchive state

@@ -2,10 +2,16 @@
 use Rattle.std.specs.Prelude.{ℕ, nat_lt, if◌then◌else◌, List, [], ◌∷◌, map}
 use Rattle.cds_time.specs.declared.cds.Cds.{Cds}
 use Rattle.archive_terms.specs.Archive.{Entry}
+use Rattle.archive_terms.specs.Delivery.{Item}
 use Rattle.station_desk.specs.Start.{moment, terms, told_desk}
+use Rattle.station_desk.specs.ToldBuffer.{ToldBuffer}
 use Rattle.station_law.specs.Store.{Store}
 use Rattle.station_law.specs.Said.{told, refused, begun, handed, Said, Handed}
 use Rattle.station_law.specs.Answer.{Answer, says}
+
+-- the items of buffers, one after another, without what is told of them
+abbrev pub items_of : List ToldBuffer → List (List Item)
+items_of buffers = map (λ buffer. map (λ x. x.0) buffer) buffers
 
 abbrev pub said_at_start : List Entry → Cds → Cds → ℕ → List Said
 said_at_start entries start stop quality =

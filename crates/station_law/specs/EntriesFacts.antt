@@ -19,7 +19,6 @@ use Rattle.station_law.specs.Said.{Said, Handed, handed_by, told, buffers_handed
 use Rattle.station_law.specs.Said.{fault}
 use Rattle.station_law.specs.Answer.{ends}
 use Rattle.station_law.specs.Sound.{IsSound, Keeps}
-use Rattle.station_law.specs.Once.{are_right_later}
 use Rattle.station_law.specs.Entries.{need, free, notice_of, done_of, by_refusal, offer}
 use Rattle.station_law.specs.Entries.{opened, stores, crashes, struck, stores_under}
 
@@ -35,7 +34,6 @@ pub leaves_all : (before next : Store) (done : StepDone) (said : List Said)
 leaves_all before next done said same settled hands none sound = record {
   sound = record { archive = rw same sound.archive; settled = settled ∙ sound.settled };
   moves = same ∙ sym (append-nil before.published);
-  right = λ starts right. rw (hands starts, same) right;
   whole = λ starts.
       let all : buffers_handed (handed_by starts said) ≡ buffers_handed starts =
       ap buffers_handed (hands starts) in
@@ -63,8 +61,6 @@ module _ (grows : Grows) (state : Store) (entry : Entry) (sound : IsSound state)
   adds next said archive is settled hands none = record {
     sound = record { archive = rw is archive; settled = settled ∙ sound.settled };
     moves = is;
-    right = λ starts right. rw (hands starts, is) (are_right_later state.published
-        (state.published ++ entry ∷ []) starts (entry ∷ [], refl) right);
     whole = λ starts.
         let all : buffers_handed (handed_by starts said) ≡ buffers_handed starts =
         ap buffers_handed (hands starts) in
@@ -78,14 +74,11 @@ module _ (grows : Grows) (state : Store) (entry : Entry) (sound : IsSound state)
   recovers true archive = record {
     sound = record { archive = archive; settled = sound.settled };
     moves = (1, refl);
-    right = λ starts right. are_right_later state.published (state.published ++ entry ∷ []) starts
-        (entry ∷ [], refl) right;
     whole = λ starts. omega arith;
   }
   recovers false archive = record {
     sound = record { archive = sound.archive; settled = sound.settled };
     moves = (0, sym (append-nil state.published));
-    right = λ starts right. right;
     whole = λ starts. omega arith;
   }
 

@@ -21,16 +21,10 @@ use Rattle.station_law.specs.Runs.{in_store}
 use Rattle.station_law.specs.Once.{IsLawful}
 use Rattle.station_law.specs.EntriesFacts.{Grows, leaves_all}
 use Rattle.station_law.specs.EntriesFacts as entries
-use Rattle.station_law.specs.DeskFacts.{Delivers}
 use Rattle.station_law.specs.DeskFacts as desk
 use Rattle.station_law.specs.Orders.{pick_of}
 use Rattle.station_law.specs.PowerFacts.{crash_facts, fault_facts}
 use Rattle.station_law.specs.Lines.{recorded, offered, connected, step, step_read, step_text}
-
--- the laws that the lines rest on
-pub record Laws : Type 0 where
-  pub grows : Grows
-  pub delivers : Delivers
 
 -- ---- lines that give nothing to a store
 
@@ -67,16 +61,15 @@ of_store : (state : State) (a : Answer Store) → Keeps state.store a
 of_store state a keeps = record {
   sound = keeps.sound;
   moves = keeps.moves;
-  right = keeps.right;
   whole = keeps.whole;
 }
 
-module _ (laws : Laws) where
+module _ (grows : Grows) where
   by_valid : (state : State) (entry : terms.Entry) (valid : Bool) → is_valid entry ≡ valid
       → IsSound state.store
       → Keeps state.store (in_store (if valid then offered state entry else is_wrong state))
   by_valid state entry true valid sound =
-      of_store state _ (entries.facts laws.grows state.store entry sound valid)
+      of_store state _ (entries.facts grows state.store entry sound valid)
   by_valid state entry false valid sound = wrong state.store sound
 
   pub facts : IsLawful step
@@ -84,7 +77,7 @@ module _ (laws : Laws) where
   facts state (Offer entry) sound =
       by_valid state (entry_of entry) (is_valid (entry_of entry)) refl sound
   facts state (Desk start stop quality) sound =
-      of_store state _ (desk.facts laws.delivers state.store start stop (number_of quality) sound)
+      of_store state _ (desk.facts state.store start stop (number_of quality) sound)
   facts state (Clock at) sound = idle state.store sound
   facts state (Crash k pick) sound =
       of_store state _ (crash_facts state.store sound k (pick_of pick))

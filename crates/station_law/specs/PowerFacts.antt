@@ -16,7 +16,6 @@ module _ (state : Store) (sound : IsSound state) where
   recovers = record {
     sound = record { archive = sound.archive; settled = sound.settled };
     moves = (0, sym (append-nil state.published));
-    right = λ starts right. right;
     whole = λ starts. omega arith;
   }
 

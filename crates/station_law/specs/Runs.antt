@@ -1,15 +1,13 @@
 -- A script's run, whatever its lines are: each is a step.
 use Rattle.std.specs.Prelude.{◌≡◌, ℕ, ◌+◌, Bool, true, false, ◌&&◌, IsTrue}
-use Rattle.std.specs.Prelude.{List, [], ◌∷◌, ◌++◌, length, take, codes}
+use Rattle.std.specs.Prelude.{List, [], ◌∷◌, ◌++◌, length, codes}
 use Rattle.std.specs.Fmt.{decimal}
-use Rattle.archive_terms.specs.Archive.{Entry, IsArchive}
 use Rattle.station_law.specs.declared.step_done.StepDone.{StepDone}
 use Rattle.station_law.specs.declared.step_done.StepDone.TheVariants.{Fine, Full, WrongState}
 use Rattle.station_law.specs.Store.{Store}
 use Rattle.station_law.specs.State.{State}
 use Rattle.station_law.specs.Said.{Handed, texts, handed_by, buffers_handed, buffers_told}
 use Rattle.station_law.specs.Answer.{Answer}
-use Rattle.station_law.specs.Sound.{Begins, AreRight}
 
 -- the line that tells the number of a bad line
 abbrev pub bad_line : ℕ → List ℕ
@@ -60,22 +58,6 @@ in_store a = record {
   next = a.next.store;
 }
 
--- What was stored since the last recovery: the entries that it found, and those given to stores
--- since then, without those that a reopen named lost.
-pub record Course : Type 0 where
-  pub found : List Entry
-  pub given : List Entry
-
--- what was stored behind a line that recovers or doesn't, with what it gave and what is published
--- then
-abbrev pub course_by : Bool → List Entry → List Entry → Course → Course
-course_by true given published course = record { found = published; given = [] }
-course_by false given published course = record course { given = course.given ++ given }
-
-abbrev pub course_behind : Course → Answer State → Course
-course_behind course answer =
-    course_by answer.recovers answer.given answer.next.store.published course
-
 module _ {L : Type 0} (step : State → L → Answer State) where
   -- what is written for lines from a number on
   abbrev pub transcript_from : ℕ → State → List L → List ℕ
@@ -109,59 +91,26 @@ module _ {L : Type 0} (step : State → L → Answer State) where
   after state [] = state
   after state (line ∷ lines) = after (step state line).next lines
 
-  -- what each START has handed over behind lines, and what was stored
+  -- what each START has handed over behind lines
   abbrev pub handed_after : State → List Handed → List L → List Handed
   handed_after state starts [] = starts
   handed_after state starts (line ∷ lines) =
       handed_after (step state line).next (handed_by starts (step state line).said) lines
 
-  abbrev pub course_after : State → Course → List L → Course
-  course_after state course [] = course
-  course_after state course (line ∷ lines) =
-      course_after (step state line).next (course_behind course (step state line)) lines
-
--- What a recovery found: it begins with all that was acknowledged, and is what the recovery before
--- found, followed by a prefix of what was given to stores since then.
-pub record IsFound (course : Course) (before answer_given found : List Entry) : Type 0 where
-  pub keeps : Begins before found
-  pub count : ℕ
-  pub is : found ≡ course.found ++ take count (course.given ++ answer_given)
-
 -- What is promised of a line that stands in a script behind others in order, with the world before
--- it and its answer: where its text stands; what is published is an archive then and after any
--- first few of the later lines, and what each START has handed over up to it is right for it; each
--- buffer that it tells is one that a START handed over; what is published and a front of what the
--- line gives to stores is what a recovery may find; and what it found, where it recovers the
--- archive.
-pub record IsAnswered {L : Type 0} (step : State → L → Answer State)
-    (first : State)
+-- it and its answer: where its text stands; and each buffer that it tells is one that a START
+-- handed over.
+pub record IsTold {L : Type 0} (step : State → L → Answer State) (first : State)
     (earlier later : List L) (line : L) : Type 0 where
   pub text : transcript step first (earlier ++ line ∷ later) ≡ transcript step first earlier
       ++ transcript_from step (length earlier + 1) (after step first earlier) (line ∷ later)
-  pub archive : (some : ℕ) → IsArchive
-      (after step (step (after step first earlier) line).next (take some later)).store.published
-  pub right : (some : ℕ) → AreRight
-      (after step (step (after step first earlier) line).next (take some later)).store.published
-      (handed_by (handed_after step first [] earlier)
-      (step (after step first earlier) line).said)
   pub whole : buffers_handed (handed_by (handed_after step first [] earlier)
       (step (after step first earlier) line).said)
       ≡ buffers_handed (handed_after step first [] earlier)
       + buffers_told (step (after step first earlier) line).said
-  pub found : (count : ℕ)
-      → IsFound (course_after step first
-      (record { found = first.store.published; given = [] }) earlier)
-      (after step first earlier).store.published (step (after step first earlier) line).given
-      ((after step first earlier).store.published
-      ++ take count (step (after step first earlier) line).given)
-  pub recovered : IsTrue (step (after step first earlier) line).recovers
-      → IsFound (course_after step first
-      (record { found = first.store.published; given = [] }) earlier)
-      (after step first earlier).store.published (step (after step first earlier) line).given
-      (step (after step first earlier) line).next.store.published
 
 -- so it is at each line behind others in order
-abbrev pub Headline : {L : Type 0} → (State → L → Answer State) → State → List L → Type 0
-Headline {L} step first lines =
+abbrev pub AreTold : {L : Type 0} → (State → L → Answer State) → State → List L → Type 0
+AreTold {L} step first lines =
     (earlier later : List L) (line : L) → lines ≡ earlier ++ line ∷ later
-    → IsTrue (in_order step first earlier) → IsAnswered step first earlier later line
+    → IsTrue (in_order step first earlier) → IsTold step first earlier later line

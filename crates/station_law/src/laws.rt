@@ -1,32 +1,37 @@
 // The promises of every script, each the contract of a function that does nothing: a caller has it
-// by the call. The headline follows from the facts of each line alone.
+// by the call. The headline is that of every list of events.
 ghost use Rattle.std.specs.Prelude.{◌≡◌, ℕ, ◌≤◌, List, ◌∷◌, Some};
 ghost use Rattle.cds_time.specs.declared.cds.Cds.{Cds};
 ghost use Rattle.drill_text.specs.declared.script_line.ScriptLine.{ScriptLine};
 ghost use Rattle.station_config.specs.declared.site.Site.{Site};
+ghost use Rattle.station_world.specs.Headline.{HeadlineLaw};
 ghost use Rattle.station_law.specs.Store.{Store};
 ghost use Rattle.station_desk.specs.Start.{moment, desk_buffers};
 ghost use Rattle.station_law.specs.State.{State, start};
 ghost use Rattle.station_law.specs.Said.{Handed, handed_by};
-ghost use Rattle.station_law.specs.Desk.{desk, handed_at_start};
-ghost use Rattle.station_law.specs.Sound.{items_of};
+ghost use Rattle.station_law.specs.Desk.{desk, handed_at_start, items_of};
 ghost use Rattle.station_law.specs.Doors.{act};
 ghost use Rattle.archive_terms.specs.Archive.{Entry};
-ghost use Rattle.station_law.specs.Runs.{Headline, ending, ending_of, in_order, all_fine};
+ghost use Rattle.station_law.specs.Runs.{AreTold, ending, ending_of, in_order, all_fine};
 ghost use Rattle.station_law.specs.Lines.{connected, step, step_text};
-ghost use Rattle.station_law.specs.LinesFacts.{Laws};
+ghost use Rattle.station_law.specs.EntriesFacts.{Grows};
 ghost use Rattle.station_law.specs.Connections.{AreSessions};
 ghost use Rattle.station_law.specs.Shown.{HasWhatIsStored, HasOneArchive};
 ghost use Rattle.drill_text.specs.Reading.{reading};
 
-/// The headline: at each line of a script, behind others that are in order, its text stands between
-/// theirs and that of the later lines; what is published is an archive then and after any further
-/// lines, and what each START has handed over up to it is right for it; and where it recovers the
-/// archive, it finds all that was acknowledged, and of the rest what was given first.
+/// The headline, over every list of events of a station's world: what each START hands its link,
+/// what radiates, and what a recovery keeps, then and in each later world.
 pub fn headline_law()
-    ensures lines { (site : Site) (lines : List ScriptLine) → Headline step (start site) lines }
-    ensures texts { (site : Site) (lines : List (List ℕ))
-        → Headline step_text (start site) lines }
+    ensures { HeadlineLaw }
+{
+    station_world::laws::headline_law();
+}
+
+/// At each line of a script, behind others that are in order, its text stands between theirs and
+/// that of the later lines, and each buffer that it tells is one that a START handed over.
+pub fn transcript_law()
+    ensures lines { (site : Site) (lines : List ScriptLine) → AreTold step (start site) lines }
+    ensures texts { (site : Site) (lines : List (List ℕ)) → AreTold step_text (start site) lines }
 {
     lines_rest_on();
 }
@@ -80,12 +85,9 @@ pub(crate) fn one_archive_stays()
     lines_rest_on();
 }
 
-// The laws of the archive and of deliveries.
+// An archive grows by an entry that may follow.
 fn lines_rest_on()
-    ensures { Laws }
+    ensures { Grows }
 {
     archive_terms::laws::archive_grows();
-    archive_terms::laws::offline_buffers_hold_a_prefix();
-    archive_terms::laws::handed_over_stays_a_prefix();
-    archive_terms::laws::continuity_stays();
 }

@@ -3,8 +3,8 @@
 // A world is a record of lists and moments (`specs/State.antt`), and a line is a step: a function
 // of the world and the line that gives what the line says and the next world (`specs/Lines.antt`).
 // Its text, and what each START handed over, are functions of what was said. From the facts of each
-// line (`specs/Sound.antt`) the promises of whole scripts follow once, for any lines
-// (`specs/Once.antt`).
+// line (`specs/Sound.antt`) where its text stands follows once, for any lines (`specs/Once.antt`).
+// The headline is that of every list of events of a station's world, which `laws` hands on.
 //
 // In code a world is a `Recorder`, which stores, and `Doors`, a book with the connections over it.
 // Which world of the definitions it stands for is a relation (`specs/Standing.antt`).

@@ -1,6 +1,7 @@
 use Rattle.provider_cli.specs.Outside.{Outside, showing}
 use Rattle.provider_cli.proofs.Promises.{delivered, read_of, streamed}
-use Rattle.provider_cli.proofs.Promises.{each_start, each_sent, has_headline, has_world, completes}
+use Rattle.provider_cli.proofs.Promises.{each_start, each_sent, has_transcript, has_world}
+use Rattle.provider_cli.proofs.Promises.{completes}
 use Rattle.provider_cli.proofs.Sessions.{each_connection, is_session, has_history}
 use Rattle.provider_cli.proofs.drill.drill.Goals as goal
 
@@ -21,7 +22,7 @@ returns g c =
       writes = c.read_and_run.ensures.writes;
       script = c.read_and_run.ensures.script;
       complete = completes before after c.read_and_run.result c.read_and_run.ensures;
-      headline = has_headline laws before.left;
+      transcript = has_transcript laws before.left;
       world = has_world laws before.left;
       delivered = each_start before.left _ (delivered laws);
       sent = each_sent laws before after c.read_and_run.result c.read_and_run.ensures.text;
