@@ -5,8 +5,10 @@ use Rattle.std.proofs.Common.{Some, None, List, [], ◌∷◌, ◌++◌, refl, s
 use Rattle.std.specs.List.{AllByRecursion}
 use Rattle.bind_pdu.specs.Binding.{bind}
 use Rattle.bind_pdu.specs.Unbinding.{unbind}
-use Rattle.return_pdu.specs.Starting.{raf_start}
+use Rattle.return_pdu.specs.Starting.{raf_start, rcf_start}
 use Rattle.return_pdu.specs.Stopping.{stop}
+use Rattle.return_pdu.specs.Scheduling.{schedule}
+use Rattle.return_pdu.specs.Getting.{get_parameter}
 use Rattle.words.specs.Line as line
 use Rattle.words.specs.Parts.{parts}
 use Rattle.words.specs.Steps.{◌>>=◌, some_bind, some_is, chosen}
@@ -15,14 +17,16 @@ use Rattle.drill_text.specs.Reading.{reading, forms}
 use Rattle.drill_text.specs.Script.{script_row, Behind, line_of, is_skipped}
 use Rattle.drill_text.specs.declared.ask_line.AskLine.{AskLine}
 use Rattle.drill_text.specs.declared.ask_line.AskLine.TheVariants.{Context, Bind, Unbind}
-use Rattle.drill_text.specs.declared.ask_line.AskLine.TheVariants.{StartRaf, Stop}
+use Rattle.drill_text.specs.declared.ask_line.AskLine.TheVariants.{StartRaf, StartRcf, Stop}
+use Rattle.drill_text.specs.declared.ask_line.AskLine.TheVariants.{Report, Get}
 use Rattle.drill_text.specs.declared.script_form.ScriptForm.{ScriptForm}
 use Rattle.drill_text.specs.declared.script_form.ScriptForm.TheVariants.{In, Ask, Shut, Break}
 use Rattle.drill_text.specs.declared.script_form.ScriptForm.TheVariants.{Stall}
 use Rattle.drill_text.specs.declared.script_line.ScriptLine.{ScriptLine}
 use Rattle.drill_text.specs.declared.script_line.ScriptLine.TheVariants.{Skip}
 use Rattle.station_config.specs.declared.site.Site.{Site}
-use Rattle.station_links.specs.Asked.{message_of, bind_asked, unbind_asked, start_asked, stop_asked}
+use Rattle.station_links.specs.Asked.{message_of, bind_asked, unbind_asked, start_asked}
+use Rattle.station_links.specs.Asked.{channel_asked, stop_asked, report_asked, get_asked}
 use Rattle.station_links.specs.Connected.{Connected}
 use Rattle.station_links.specs.Run.{Deed, BringsPieces}
 use Rattle.station_law.specs.Connections.{Life, life, life_by, at_door, deeds_at, deeds_by}
@@ -30,8 +34,9 @@ use Rattle.station_law.specs.Connections.{orders_in, turns_of}
 use Rattle.station_law.specs.Doors.{Act, act_of, comes_whole, ordered}
 use Rattle.station_law.specs.Lines.{step_read}
 use Rattle.station_law.specs.State.{State}
-use Rattle.provider_cli.proofs.PiecesSpelled.{bind_formed, unbind_formed, start_formed, stop_formed}
-use Rattle.provider_cli.proofs.PiecesSpelled.{context_piece, pdu_piece}
+use Rattle.provider_cli.proofs.PiecesSpelled.{bind_formed, unbind_formed, start_formed}
+use Rattle.provider_cli.proofs.PiecesSpelled.{channel_start_formed, stop_formed, report_formed}
+use Rattle.provider_cli.proofs.PiecesSpelled.{get_formed, context_piece, pdu_piece}
 
 -- ---- what a line brings
 
@@ -50,7 +55,14 @@ asked c (StartRaf first last quality) fits = (
       (start_formed first last quality),
   tt,
 )
+asked c (StartRcf first last g) fits = (
+  pdu_piece (rcf_start.tree (channel_asked first last g)) (channel_start_formed first last g),
+  tt,
+)
 asked c Stop fits = (pdu_piece (stop.tree stop_asked) stop_formed, tt)
+asked c (Report kind) fits =
+    (pdu_piece (schedule.tree (report_asked kind)) (report_formed kind), tt)
+asked c (Get name) fits = (pdu_piece (get_parameter.tree (get_asked name)) (get_formed name), tt)
 asked c _ fits = tt
 
 line_brings : (f : ScriptForm) (p : Behind f) → (script_row f).Fits p

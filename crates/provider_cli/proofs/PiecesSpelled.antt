@@ -21,6 +21,8 @@ use Rattle.cds_time.specs.declared.cds.Rest.{Rest}
 use Rattle.cds_time.specs.declared.cds.Rest.TheVariants.{Micros, Picos}
 use Rattle.sle_numbers.specs.RequestedFrameQuality.{number_of}
 use Rattle.sle_numbers.specs.declared.requested_frame_quality.RequestedFrameQuality.{RequestedFrameQuality}
+use Rattle.sle_common.specs.Gvcid.{channel}
+use Rattle.sle_common.specs.Report.{report_kind}
 use Rattle.sle_common.specs.Time.{time, conditional_time}
 use Rattle.sle_common.specs.Attribute.{arc_of}
 use Rattle.sle_common.specs.Identifier.{is_value, is_value_octet}
@@ -28,11 +30,18 @@ use Rattle.sle_common.specs.IdentifierOctets.{attribute_octets, part, parts_tree
 use Rattle.sle_common.specs.declared.attribute.Attribute.{Attribute}
 use Rattle.sle_common.specs.declared.attribute.Attribute.TheVariants.{Sagr, Spack, RslFg, FslFg}
 use Rattle.sle_common.specs.declared.attribute.Attribute.TheVariants.{Raf, Rcf, Rocf, Cltu}
+use Rattle.sle_common.specs.declared.gvcid.Channel.{Channel}
+use Rattle.sle_common.specs.declared.gvcid.Channel.TheVariants.{Master, Virtual}
+use Rattle.sle_common.specs.declared.gvcid.Gvcid.{Gvcid}
 use Rattle.sle_common.specs.declared.instance_id.InstancePart.{InstancePart}
+use Rattle.sle_common.specs.declared.report_kind.ReportKind.{ReportKind}
+use Rattle.sle_common.specs.declared.report_kind.ReportKind.TheVariants.{Now, Cycle, Stop}
 use Rattle.bind_pdu.specs.Binding.{bind}
 use Rattle.bind_pdu.specs.Unbinding.{unbind}
-use Rattle.return_pdu.specs.Starting.{raf_start}
+use Rattle.return_pdu.specs.Starting.{raf_start, rcf_start}
 use Rattle.return_pdu.specs.Stopping.{stop}
+use Rattle.return_pdu.specs.Scheduling.{schedule}
+use Rattle.return_pdu.specs.Getting.{get_parameter}
 use Rattle.isp1_tml.specs.Message.{header, spelling, pdu, context}
 use Rattle.session_core.specs.Session.{AreOctets}
 use Rattle.words.specs.Alphabet.{Of}
@@ -40,7 +49,8 @@ use Rattle.words.specs.Identifiers.{fits_identifier, value_octets}
 use Rattle.words.specs.Names.{is_graphic, name_octets}
 use Rattle.drill_text.specs.Asks.{ask}
 use Rattle.drill_text.specs.declared.ask_line.AskLine.TheVariants.{Bind}
-use Rattle.station_links.specs.Asked.{port, bind_asked, unbind_asked, start_asked, stop_asked}
+use Rattle.station_links.specs.Asked.{port, bind_asked, unbind_asked, start_asked, channel_asked}
+use Rattle.station_links.specs.Asked.{stop_asked, report_asked, get_asked}
 
 -- ---- lists of octets
 
@@ -104,9 +114,11 @@ mutual
 no_credentials : IsWellFormed (primitive (0x80 ∷ []) [])
 no_credentials = (identifier_so false (0x80 ∷ []) refl, tt)
 
+number_octets : (n : ℕ) → IsOctets (integer_octets (pos n))
+number_octets n = (IsKept-integer_octets (pos n)).octets_all
+
 number_formed : (n : ℕ) → IsWellFormed (primitive (0x02 ∷ []) (integer_octets (pos n)))
-number_formed n =
-    (identifier_so false (0x02 ∷ []) refl, (IsKept-integer_octets (pos n)).octets_all)
+number_formed n = (identifier_so false (0x02 ∷ []) refl, number_octets n)
 
 text_formed : (w : List ℕ) → IsOctets w → IsWellFormed (primitive (0x1a ∷ []) w)
 text_formed w all = (identifier_so false (0x1a ∷ []) refl, all)
@@ -219,8 +231,57 @@ start_formed first last quality = (
   ),
 )
 
+channel_formed : (c : Channel) → IsWellFormed (channel.tree c)
+channel_formed Master = (identifier_so false (0x80 ∷ []) refl, tt)
+channel_formed (Virtual n) = (identifier_so false (0x81 ∷ []) refl, number_octets n)
+
+pub channel_start_formed : (first last : Option Cds) (g : Gvcid)
+    → IsWellFormed (rcf_start.tree (channel_asked first last g))
+channel_start_formed first last g = (
+  identifier_so true (0xa0 ∷ []) refl,
+  (
+    no_credentials,
+    (
+      number_formed 0,
+      (
+        when_formed first,
+        (
+          when_formed last,
+          (
+            (
+              identifier_so true (0x30 ∷ []) refl,
+              (
+                number_formed g.spacecraft,
+                (number_formed g.version, (channel_formed g.channel, tt)),
+              ),
+            ),
+            tt,
+          ),
+        ),
+      ),
+    ),
+  ),
+)
+
 pub stop_formed : IsWellFormed (stop.tree stop_asked)
 stop_formed = (identifier_so true (0xa2 ∷ []) refl, (no_credentials, (number_formed 0, tt)))
+
+kind_formed : (kind : ReportKind) → IsWellFormed (report_kind.tree kind)
+kind_formed Now = (identifier_so false (0x80 ∷ []) refl, tt)
+kind_formed (Cycle n) = (identifier_so false (0x81 ∷ []) refl, number_octets n)
+kind_formed Stop = (identifier_so false (0x82 ∷ []) refl, tt)
+
+pub report_formed : (kind : ReportKind) → IsWellFormed (schedule.tree (report_asked kind))
+report_formed kind = (
+  identifier_so true (0xa4 ∷ []) refl,
+  (no_credentials, (number_formed 0, (kind_formed kind, tt))),
+)
+
+pub get_formed : (name : ℕ) → IsWellFormed (get_parameter.tree (get_asked name))
+get_formed name = (
+  identifier_so true (0xa6 ∷ []) refl,
+  (no_credentials, (number_formed 0, (number_formed name, tt))),
+)
 
 -- ---- messages of the transport
 
