@@ -1,0 +1,4 @@
+pub mod Printed
+pub mod Rests
+pub mod Spoken
+pub mod Steps

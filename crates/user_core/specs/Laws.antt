@@ -1,0 +1,124 @@
+-- What holds of every user, over every list of turns.
+use Rattle.std.specs.Prelude.{◌≡◌, ◌⊎◌, ℕ, ◌+◌, Bool, true, false, Option, Some, None, List, []}
+use Rattle.std.specs.Prelude.{◌∷◌, ◌++◌}
+use Rattle.isp1_auth.specs.Numbers.{first_number, next_number}
+use Rattle.isp1_tml.specs.Message.{Content, spelling, heartbeat}
+use Rattle.user_task.specs.declared.task.Task.{Task}
+use Rattle.user_task.specs.Invocation.{Said, invocation_at}
+use Rattle.user_task.specs.Work.{service_of}
+use Rattle.user_lines.specs.Shown.{Shown, shown}
+use Rattle.user_core.specs.Course.{is_over}
+use Rattle.user_core.specs.Dialogue.{Talk, front_of, message_said, heard}
+use Rattle.user_core.specs.Hearing.{Hearing, heard_all}
+use Rattle.user_core.specs.Turn.{Standing, Answer, new_user, turned, answered}
+
+-- ---- what is said
+
+-- the next invocation of the task, said at a moment, or a heartbeat
+pub data Utterance : Type 0 where
+  invoked : ℕ → Utterance
+  beaten : Utterance
+
+-- the invocation at a place of the task, behind credentials with this number, said at a moment; the
+-- context goes before BIND
+abbrev pub octets_by : Task → ℕ → ℕ → ℕ → Option Said → List ℕ
+octets_by task place latest now None = []
+octets_by task place latest now (Some s) = front_of s ++ message_said task s place latest now
+
+-- what is said one after the other, from a place of the task on
+abbrev pub octets_said : Task → ℕ → ℕ → List Utterance → List ℕ
+octets_said task place latest [] = []
+octets_said task place latest (beaten ∷ us) =
+    spelling heartbeat ++ octets_said task place latest us
+octets_said task place latest (invoked now ∷ us) =
+    octets_by task place latest now (invocation_at task.work place)
+    ++ octets_said task (place + 1) (next_number latest) us
+
+-- the place behind it
+abbrev pub place_after : ℕ → List Utterance → ℕ
+place_after place [] = place
+place_after place (beaten ∷ us) = place_after place us
+place_after place (invoked now ∷ us) = place_after (place + 1) us
+
+abbrev pub latest_after : ℕ → List Utterance → ℕ
+latest_after latest [] = latest
+latest_after latest (beaten ∷ us) = latest_after latest us
+latest_after latest (invoked now ∷ us) = latest_after (next_number latest) us
+
+-- these octets are said from one place to another: the task's invocations in their order, each
+-- once, and heartbeats between them
+pub record Says (task : Task) (place latest to latest_to : ℕ) (octets : List ℕ) : Type 0 where
+  pub said : List Utterance
+  pub octets_are : octets ≡ octets_said task place latest said
+  pub place_is : to ≡ place_after place said
+  pub latest_is : latest_to ≡ latest_after latest said
+
+-- ---- turns
+
+pub record Turn : Type 0 where
+  pub waits : Bool
+  pub now : ℕ
+  pub hearing : Hearing
+
+abbrev pub after_turn : Standing → Turn → Standing
+after_turn s t = turned s t.waits t.now t.hearing
+
+abbrev pub answer_in : Standing → Turn → Answer
+answer_in s t = answered s t.waits t.now t.hearing
+
+abbrev pub after_turns : Standing → List Turn → Standing
+after_turns s [] = s
+after_turns s (t ∷ turns) = after_turns (after_turn s t) turns
+
+-- all that is offered in turns
+abbrev pub offers : Standing → List Turn → List ℕ
+offers s [] = []
+offers s (t ∷ turns) = (answer_in s t).offer ++ offers (after_turn s t) turns
+
+-- ---- the laws
+
+-- Over every list of turns, what is offered is the task's invocations in their order.
+abbrev pub OffersInOrder : Type 0
+OffersInOrder =
+    (task : Task) (turns : List Turn)
+    → Says task 0 (first_number task.draw 0)
+    (after_turns (new_user task) turns).course.said
+    (after_turns (new_user task) turns).latest
+    (offers (new_user task) turns)
+
+-- a message is answered by nothing, or by the next invocation
+pub record AnswersOnce (task : Task) (now : ℕ) (d e : Talk) : Type 0 where
+  pub answer : (e.course.said ≡ d.course.said) × (e.offer ≡ d.offer)
+      ⊎ (s : Said) × ((invocation_at task.work d.course.said ≡ Some s)
+      × (e.course.said ≡ d.course.said + 1)
+      × (e.offer ≡ (d.offer ++ front_of s) ++ message_said task s d.course.said d.latest now))
+
+abbrev pub OneAnswer : Type 0
+OneAnswer =
+    (task : Task) (now place : ℕ) (d : Talk) (m : Content)
+    → AnswersOnce task now d (heard task now place d m)
+
+-- A user that is over offers and prints nothing, and stays so.
+pub record StaysOver (s : Standing) (t : Turn) : Type 0 where
+  pub standing : after_turn s t ≡ s
+  pub offer : (answer_in s t).offer ≡ []
+  pub lines : (answer_in s t).lines ≡ []
+  pub status : (answer_in s t).status ≡ s.course.status
+
+abbrev pub EndsForGood : Type 0
+EndsForGood = (s : Standing) (t : Turn) → is_over s.course ≡ true → StaysOver s t
+
+-- These lines begin those of messages, and are all of them where the user goes on.
+pub record Prints (s : Shown) (d e : Talk) : Type 0 where
+  pub front : List ℕ
+  pub rest : List ℕ
+  pub lines : e.lines ≡ d.lines ++ front
+  pub whole : s.text ≡ front ++ rest
+  pub all : is_over e.course ≡ false → rest ≡ []
+
+-- Each message that comes whole is printed once, in order, up to the one that ends the user.
+abbrev pub PrintsInOrder : Type 0
+PrintsInOrder =
+    (task : Task) (now place : ℕ) (refused : Bool) (messages : List Content) (d : Talk)
+    → Prints (shown (service_of task.work) place refused messages) d
+    (heard_all task now place refused messages d)

@@ -1,0 +1,28 @@
+// What holds of every user. A law's function does nothing: its contract is the law.
+ghost use Rattle.user_core.specs.Laws.{OffersInOrder, OneAnswer, EndsForGood, PrintsInOrder};
+
+/// Over every list of turns, what is offered is BIND behind the context, START, a TRANSFER-DATA for
+/// each CLTU, STOP and UNBIND as far as they were said, in this order, each once, with its invoke
+/// identifier and its credentials, and heartbeats between them.
+#[tactic(auto, using(crate::proofs::Spoken::offers_in_order))]
+pub fn offers_in_order()
+    ensures { OffersInOrder }
+{}
+
+/// A message is answered by at most one invocation, which is the next.
+#[tactic(auto, using(crate::proofs::Spoken::one_answer))]
+pub fn one_answer()
+    ensures { OneAnswer }
+{}
+
+/// Behind its end a user offers nothing and prints nothing, whatever it hears.
+pub fn ends_for_good()
+    ensures { EndsForGood }
+{}
+
+/// Of the messages that came whole in a turn each is printed once, in order, up to the one that ends
+/// the user: the lines begin those of the messages, and are all of them where the user goes on.
+#[tactic(auto, using(crate::proofs::Printed::prints_in_order))]
+pub fn prints_in_order()
+    ensures { PrintsInOrder }
+{}
