@@ -1,0 +1,6 @@
+mod Places
+mod Histories
+mod Losing
+mod Seeing
+mod Deliveries
+mod Starts

@@ -1,0 +1,228 @@
+-- What a START of a session hands its link: by the session's rounds, what the delivery does in them.
+use Rattle.std.specs.Prelude.{◌≡◌, ℕ, ◌≤◌, Bool, true, not, ◌&&◌, if◌then◌else◌, Option, Some, None}
+use Rattle.std.specs.Prelude.{List, [], ◌∷◌, ◌++◌, length, take, IsTrue, IsFalse}
+use Rattle.std.specs.List.{list_any}
+use Rattle.std.specs.Option.{option_map, option_map_or, option_to_list}
+use Rattle.octet_core.specs.declared.offer.Offer.{Offer}
+use Rattle.archive_terms.specs.Archive.{Entry, IsArchive}
+use Rattle.archive_terms.specs.Selection.{picked, is_stop_closed}
+use Rattle.archive_terms.specs.Delivery.{Terms, Mode, is_timely, entries_of, is_end_of_data}
+use Rattle.archive_terms.specs.Delivery.{archived_items, end_of_data, started}
+use Rattle.archive_terms.specs.Rounds.{Round as DeliveryRound, Outcome, outcomes, handed_items}
+use Rattle.archive_terms.specs.Rounds.{settled_items, without_backlog, last_front, to_hand_over}
+use Rattle.archive_terms.specs.Rounds.{TimelyShape}
+use Rattle.archive_terms.specs.Glimpse.{glimpse}
+use Rattle.archive_terms.specs.Placed.{ToldItem}
+use Rattle.frame_select.specs.Glimpse.{as_said}
+use Rattle.return_core.specs.Course.{Course, is_offering, held_of}
+use Rattle.return_core.specs.Mode.{answer_of}
+use Rattle.return_core.specs.Visits.{Visit, passed, stepped, after_visits, visits_handed, visits_done}
+use Rattle.return_core.specs.Visits.{discards_told, AreLooks, rounds_of, VisitsStand}
+use Rattle.return_core.specs.Standing.{all_go_on, StandsFor}
+use Rattle.return_pdu.specs.declared.service.Service.{Service as ReturnService}
+use Rattle.buffer_message.specs.Signing.{Signing}
+use Rattle.buffer_message.specs.Fitting.{fits_message}
+use Rattle.buffer_message.specs.Message.{message_octets}
+use Rattle.link_model.specs.Calls.{blocks_in}
+use Rattle.station_config.specs.declared.site.Site.{Site}
+use Rattle.station_book.specs.State.{State as Book, Event}
+use Rattle.station_book.specs.History.{IsLegal, replay}
+use Rattle.session_core.specs.declared.service_state.ServiceState.TheVariants.{Raf}
+use Rattle.session_core.specs.declared.standing.Standing.{Standing}
+use Rattle.session_core.specs.Course.{is_going, is_blocked}
+use Rattle.session_core.specs.Served.{Served}
+use Rattle.session_core.specs.ServiceSteps.{is_active, has_outgoing}
+use Rattle.session_core.specs.Steps.{has_block, inquiry_at}
+use Rattle.session_core.specs.Session.{State, Round, BookAnswer, next_of, standing_spoke, send_calls}
+use Rattle.session_core.specs.Session.{before_step, before_speak, after_round, after_rounds}
+use Rattle.session_core.specs.Session.{AreRounds, session_events}
+use Rattle.session_laws.specs.Losing.{own_in}
+
+-- ---- the delivery of a session
+
+-- the delivery that a service keeps
+unfoldable pub delivery_of : Served → Option Course
+delivery_of (Raf r) = Some r.serving.course
+delivery_of _ = None
+
+-- the session goes on, and its service is started
+abbrev pub is_serving : Standing → Bool
+is_serving s = is_going s.course && is_active s.association
+
+-- it serves, up to the end of each of these rounds
+abbrev pub ServesOn : Site → State → List Round → Type 0
+ServesOn site s [] = is_serving s.standing ≡ true
+ServesOn site s (r ∷ rounds) =
+    (is_serving s.standing ≡ true) × ServesOn site (after_round site s r) rounds
+
+-- ---- what its rounds do
+
+-- the octets are the message of these items, which go into one, by somebody who signs them or by
+-- nobody
+pub record IsMessageOf (octets : List ℕ) (items : List ToldItem) : Type 0 where
+  pub service : ReturnService
+  pub by : Option Signing
+  pub first : ℕ
+  pub octets_are : octets ≡ message_octets service by first items
+  pub fits : IsTrue (fits_message items)
+
+-- each is the message of its buffer
+abbrev pub AreMessagesOf : List (List ℕ) → List (List ToldItem) → Type 0
+AreMessagesOf [] [] = Unit {0}
+AreMessagesOf (octets ∷ more) (items ∷ buffers) =
+    IsMessageOf octets items × AreMessagesOf more buffers
+AreMessagesOf _ _ = ⊥
+
+-- what is kept to be offered is the message of the buffer that the delivery holds fixed
+pub record Delivers (s : Standing) (c : Course) : Type 0 where
+  pub delivery : delivery_of s.service ≡ Some c
+  pub offers : has_outgoing s ≡ true → IsTrue (is_offering c)
+  pub message : has_outgoing s ≡ true → IsMessageOf s.outgoing (held_of c)
+
+-- a round is a visit: where a block of an earlier round waits it passes, else the delivery takes a
+-- step on the round's look, and is answered where its message was offered
+abbrev pub visit_by : Bool → BookAnswer → Option Offer → Visit
+visit_by blocked told sent =
+    if blocked
+    then passed told.answer.glimpse.front told.moment
+    else stepped told.answer.glimpse told.moment (option_map answer_of sent)
+
+abbrev pub visit_in : State → Round → Option Visit
+visit_in s r =
+    option_map
+    (λ told. visit_by (is_blocked (before_step s r).standing.arrival) told r.sent) r.told
+
+abbrev pub visits_of : Site → State → List Round → List Visit
+visits_of site s [] = []
+visits_of site s (r ∷ rounds) =
+    option_to_list (visit_in s r) ++ visits_of site (after_round site s r) rounds
+
+-- the messages of the service that the link took whole in rounds
+abbrev pub sent_in : Site → State → Round → List (List ℕ)
+sent_in site s r =
+    blocks_in (send_calls (standing_spoke (before_speak site s r).standing r.spoke) r.sent)
+
+abbrev pub sent_of : Site → State → List Round → List (List ℕ)
+sent_of site s [] = []
+sent_of site s (r ∷ rounds) = sent_in site s r ++ sent_of site (after_round site s r) rounds
+
+-- how many items were dropped in rounds, each time that a message was
+abbrev pub dropped_of : Site → State → List Round → List ℕ
+dropped_of site s [] = []
+dropped_of site s (r ∷ rounds) =
+    option_to_list (after_round site s r).standing.dropped
+    ++ dropped_of site (after_round site s r) rounds
+
+-- ---- what the book answers
+
+-- each look is one at a front of the entries, as the round wants it, and fronts don't fall
+abbrev pub IsLookAt : List Entry → ℕ → Site → State → Option BookAnswer → Type 0
+IsLookAt entries from site s None = Unit {0}
+IsLookAt entries from site s (Some told) =
+    (from ≤ told.answer.glimpse.front)
+    × (told.answer.glimpse
+    ≡ as_said
+    (glimpse (take told.answer.glimpse.front entries)
+    (inquiry_at site s.standing (next_of s) told.moment).want))
+
+abbrev pub front_behind : ℕ → Option BookAnswer → ℕ
+front_behind from told = option_map_or (λ t. t.answer.glimpse.front) told from
+
+abbrev pub SeeEntries : List Entry → ℕ → Site → State → List Round → Type 0
+SeeEntries entries from site s [] = Unit {0}
+SeeEntries entries from site s (r ∷ rounds) =
+    IsLookAt entries from site (before_step s r) r.told
+    × SeeEntries entries (front_behind from r.told) site (after_round site s r) rounds
+
+-- In a legal history whose events at a door begin with those of a session's rounds, these see the
+-- entries that are published behind it.
+abbrev pub SeesPublished : Type 0
+SeesPublished =
+    (site : Site) (door : ℕ) (book : Book) (h last : List Event) (s : State) (rounds : List Round)
+    (from : ℕ) → IsLegal book h → own_in door h ≡ session_events site door s rounds ++ last
+    → from ≤ length book.published → SeeEntries (replay book h).published from site s rounds
+
+-- ---- the law
+
+-- In rounds in which a session serves, it stands for the delivery's visits: their looks are those
+-- that the delivery wants; what the link took whole is, message by message, what they hand over;
+-- what was dropped is what they discard; and what waits is a message of what the delivery holds.
+pub record AreDelivered (site : Site) (s : State) (c : Course) (entries : List Entry) (from : ℕ)
+    (rounds : List Round) : Type 0 where
+  pub looks : AreLooks entries from c (visits_of site s rounds)
+  pub goes_on : IsTrue (all_go_on (rounds_of (visits_of site s rounds)))
+  pub now : Delivers (after_rounds site s rounds).standing (after_visits (visits_of site s rounds) c)
+  pub handed : AreMessagesOf (sent_of site s rounds)
+      (visits_handed (visits_of site s rounds) c)
+  pub dropped : dropped_of site s rounds
+      ≡ discards_told (visits_done (visits_of site s rounds) c)
+
+-- the law: over any rounds in which a session with a delivery serves, which see these entries
+abbrev pub AreVisits : Type 0
+AreVisits =
+    (entries : List Entry) (site : Site) (rounds : List Round) (s : State) (c : Course) (from : ℕ)
+    → Delivers s.standing c → ServesOn site s rounds → AreRounds site s rounds
+    → SeeEntries entries from site s rounds → AreDelivered site s c entries from rounds
+
+-- ---- a START
+
+-- Where the delivery stood for rounds since its START, it stands for these and those of its visits,
+-- over the same entries; and what the link took whole is what it hands over in them.
+pub record StartDelivers (site : Site) (s : State) (c : Course) (t : Terms) (entries : List Entry)
+    (earlier : List DeliveryRound) (rounds : List Round) : Type 0 where
+  pub delivered : AreDelivered site s c entries (last_front t.selection.first earlier) rounds
+  pub stand : VisitsStand c t entries earlier (visits_of site s rounds)
+
+abbrev pub StartsDeliver : Type 0
+StartsDeliver =
+    (entries : List Entry) (site : Site) (rounds : List Round) (s : State) (c : Course) (t : Terms)
+    (earlier : List DeliveryRound)
+    → StandsFor c t entries earlier → Delivers s.standing c → ServesOn site s rounds
+    → AreRounds site s rounds
+    → SeeEntries entries (last_front t.selection.first earlier) site s rounds
+    → StartDelivers site s c t entries earlier rounds
+
+-- what a START's delivery did in the session's rounds behind it
+abbrev pub done_in_rounds : Site → State → Terms → List Entry → List Round → List Outcome
+done_in_rounds site s t entries rounds =
+    outcomes t entries (rounds_of (visits_of site s rounds)) started
+
+-- the archive up to the last front that these rounds saw, and what came later
+abbrev pub seen_and_later : Site → State → List Entry → List Round → List Entry → List Entry
+seen_and_later site s entries rounds later =
+    take (last_front 0 (rounds_of (visits_of site s rounds))) entries ++ later
+
+-- What a complete or offline START handed over is, in order and each once, the first of what it
+-- picks of the archive and of each longer one; with end of data it is all of that, behind a closed
+-- stop.
+pub record IsComplete (t : Terms) (archive : List Entry) (done : List Outcome) : Type 0 where
+  pub items : take (length (handed_items done)) (to_hand_over t archive) ≡ handed_items done
+  pub picks : take (length (entries_of (handed_items done))) (picked archive t.selection)
+      ≡ entries_of (handed_items done)
+  pub end : IsTrue (list_any is_end_of_data (handed_items done))
+      → IsTrue (is_stop_closed t.selection archive)
+      × (handed_items done ≡ archived_items (picked archive t.selection) ++ end_of_data ∷ [])
+
+-- What a timely START handed over and discarded is, in order, the first of what it picks, and each
+-- discard is told before the next buffer that is handed over.
+pub record IsTimely (t : Terms) (archive : List Entry) (done : List Outcome) : Type 0 where
+  pub shape : TimelyShape (to_hand_over t archive) done
+  pub end : IsTrue (list_any is_end_of_data (handed_items done))
+      → IsTrue (is_stop_closed t.selection archive)
+      × (without_backlog (settled_items done)
+      ≡ archived_items (picked archive t.selection) ++ end_of_data ∷ [])
+
+-- From a START on, over any rounds in which its session serves.
+abbrev pub FromStart : (Terms → List Entry → List Outcome → Type 0) → (Mode → Type 0) → Type 0
+FromStart Is Has =
+    (entries later : List Entry) (site : Site) (rounds : List Round) (s : State) (c : Course)
+    (t : Terms) → StandsFor c t entries [] → Delivers s.standing c → ServesOn site s rounds
+    → AreRounds site s rounds → SeeEntries entries t.selection.first site s rounds → Has t.mode
+    → IsArchive (seen_and_later site s entries rounds later)
+    → Is t (seen_and_later site s entries rounds later) (done_in_rounds site s t entries rounds)
+
+abbrev pub CompleteStarts : Type 0
+CompleteStarts = FromStart IsComplete (λ mode. IsFalse (is_timely mode))
+
+abbrev pub TimelyStarts : Type 0
+TimelyStarts = FromStart IsTimely (λ mode. IsTrue (is_timely mode))

@@ -1,0 +1,90 @@
+// What sessions and a book come to together. A law's function does nothing: its contract is the law.
+ghost use Rattle.session_laws.specs.Losing.{NothingIsLost, BeginsFree};
+ghost use Rattle.session_laws.specs.Deliveries.{AreVisits, SeesPublished, StartsDeliver};
+ghost use Rattle.session_laws.specs.Deliveries.{CompleteStarts, TimelyStarts};
+ghost use Rattle.session_laws.specs.Starts.{StartsBegin, BegunStands};
+
+use assoc_core::laws as association;
+use return_core::laws as delivery;
+use session_core::laws as session;
+use station_book::laws as book;
+
+/// In a legal history of a site's book whose events at a door begin with those of a session's
+/// rounds, from where the door has no instance on, the book answers none of these Lost: what the
+/// session asks always fits what the door has bound. So no session ends with OtherReason, which a
+/// lost reply alone leads to.
+pub fn nothing_is_lost()
+    ensures { NothingIsLost }
+{
+    association::binds_its_own();
+    book::other_doors_leave_a_door();
+    session::a_service_leaves_its_session();
+}
+
+/// In a new book of a site no door has an instance, and none has one that has asked nothing yet.
+pub fn a_door_begins_free()
+    ensures { BeginsFree }
+{
+    book::other_doors_leave_a_door();
+}
+
+/// In rounds in which a session serves, each is a visit of its delivery: the looks are those that
+/// the delivery wants; each message that the link took whole is that of the buffer which the
+/// delivery hands over in that visit; and what the session drops is what it discards.
+pub fn a_sessions_rounds_are_its_deliverys()
+    ensures { AreVisits }
+{
+    session::a_service_leaves_its_session();
+}
+
+/// In a legal history whose events at a door begin with those of a session's rounds, the looks of
+/// these are looks at the entries that are published behind it, each at a front of its own, and
+/// fronts don't fall.
+pub fn what_a_session_sees_is_published()
+    ensures { SeesPublished }
+{
+    book::published_entries_grow();
+    delivery::a_wanted_look_is_one_at_its_front();
+}
+
+/// Behind a round that starts a session's service, with a START that is answered positively, the
+/// delivery of that START begins, on the terms of its instance and from a place that the round's
+/// look saw; and it stands for no rounds yet.
+pub fn a_start_begins_a_delivery()
+    ensures begins { StartsBegin }
+    ensures stands { BegunStands }
+{
+    session::a_service_leaves_its_session();
+}
+
+/// Where the delivery of a START stood for rounds, it stands for these and those of the session's
+/// rounds behind them, by the links' answers: what the link took whole is, message by message, what
+/// the delivery hands over of the published entries, and what was dropped is what it discards.
+pub fn what_a_start_hands_over_is_delivered()
+    ensures { StartsDeliver }
+{
+    session::a_service_leaves_its_session();
+    delivery::each_visit_stands();
+}
+
+/// What a complete or offline START of a session handed over is, in order and each once, the first
+/// of what it picks, of the archive and of each longer one; and end of data stands last, behind all
+/// that it picks, and only where the stop is closed.
+pub fn a_complete_start_hands_over_what_it_picks()
+    ensures { CompleteStarts }
+{
+    session::a_service_leaves_its_session();
+    delivery::each_visit_stands();
+    delivery::complete_rounds();
+}
+
+/// What a timely START of a session handed over and discarded is, in order, the first of what it
+/// picks; each discard is told by a backlog in front of the next buffer that is handed over, and no
+/// other one; and end of data stands behind all that it picks, handed over or discarded.
+pub fn a_timely_start_tells_what_it_discards()
+    ensures { TimelyStarts }
+{
+    session::a_service_leaves_its_session();
+    delivery::each_visit_stands();
+    delivery::timely_rounds();
+}
