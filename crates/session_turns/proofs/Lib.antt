@@ -1,4 +1,3 @@
-pub mod Making
 pub mod Steps
 pub mod Running
 pub mod Serving

@@ -1,4 +1,3 @@
 mod Gaining
-mod Making
 mod Replayed
 mod Readings

@@ -1,3 +1,4 @@
 pub mod Turned
 pub mod Gained
 pub mod Reads
+pub mod Making

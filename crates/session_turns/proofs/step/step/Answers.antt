@@ -3,7 +3,7 @@ use Rattle.turn_lock.specs.PassState.{PassState}
 use Rattle.station_book.specs.State.{Opening, State, Event}
 use Rattle.station_book.specs.History.{StandsAs}
 use Rattle.session_turns.specs.Stepping.{call_now, StepsBy}
-use Rattle.session_turns.proofs.Making.{book_is, event_is, pass_by}
+use Rattle.station_turns.specs.Making.{book_is, event_is, pass_by}
 use Rattle.session_turns.proofs.step.step.Goals as goal
 
 pub commit_by-requires-clause-origin : goal.commit_by-requires-clause-origin

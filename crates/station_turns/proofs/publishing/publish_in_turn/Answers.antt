@@ -2,7 +2,7 @@ use Rattle.std.proofs.Common.{[], ◌∷◌, ◌++◌, ap, sym, subst, ◌∙◌
 use Rattle.turn_lock.specs.PassState.{PassState}
 use Rattle.station_book.specs.State.{Opening, State, Event, publish}
 use Rattle.station_book.specs.History.{StandsAs}
-use Rattle.station_turns.proofs.Making.{event_is, pass_by}
+use Rattle.station_turns.specs.Making.{event_is, pass_by}
 use Rattle.station_turns.proofs.publishing.publish_in_turn.Goals as goal
 
 pub commit_by-requires-clause-value : goal.commit_by-requires-clause-value

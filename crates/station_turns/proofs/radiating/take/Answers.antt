@@ -2,7 +2,7 @@ use Rattle.std.proofs.Common.{[], ◌∷◌, ◌++◌, ap, sym, subst, ◌∙◌
 use Rattle.turn_lock.specs.PassState.{PassState}
 use Rattle.station_book.specs.State.{Opening, State, Event, take}
 use Rattle.station_book.specs.History.{StandsAs, all_gone}
-use Rattle.station_turns.proofs.Making.{book_is, event_is, pass_by}
+use Rattle.station_turns.specs.Making.{book_is, event_is, pass_by}
 use Rattle.station_turns.proofs.radiating.take.Goals as goal
 
 pub returns : goal.returns
