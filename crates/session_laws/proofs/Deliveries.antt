@@ -14,7 +14,9 @@ use Rattle.archive_terms.specs.Delivery.{Terms}
 use Rattle.archive_terms.specs.Rounds.{whole, stall, nothing, Round as DeliveryRound, last_front}
 use Rattle.frame_select.specs.Glimpse.{as_said}
 use Rattle.isp1_tml.specs.Beat.{Pulse}
-use Rattle.isp1_tml.specs.Message.{spelling, heartbeat as beat}
+use Rattle.ber_core.specs.Spelling.{canonical}
+use Rattle.buffer_message.specs.Message.{buffer_tree}
+use Rattle.isp1_tml.specs.Message.{pdu, spelling, heartbeat as beat}
 use Rattle.link_model.specs.declared.call.Heard.{Heard}
 use Rattle.link_model.specs.declared.call.Heard.TheVariants.{Arrived, Nothing as HeardNothing}
 use Rattle.link_model.specs.declared.call.Heard.TheVariants.{Closed, Failed}
@@ -81,7 +83,8 @@ use Rattle.session_core.specs.Laws.{ServiceLeaves}
 use Rattle.session_laws.specs.Deliveries.{delivery_of, is_serving, ServesOn, IsMessageOf}
 use Rattle.session_laws.specs.Deliveries.{AreMessagesOf, Delivers, visit_by, visits_of, sent_of}
 use Rattle.session_laws.specs.Deliveries.{dropped_of, IsLookAt, front_behind, SeeEntries}
-use Rattle.session_laws.specs.Deliveries.{AreDelivered, AreVisits, StartsDeliver}
+use Rattle.session_laws.specs.Deliveries.{AreDelivered, AreVisits, StartsDeliver, DueIsOffered}
+use Rattle.session_laws.specs.Deliveries.{is_due_to_offer}
 
 -- ---- what each service makes of its delivery
 
@@ -117,6 +120,10 @@ is_spelled f = not (length (spelled f.message) == 0)
 record Fixes (c : Course) (f : Fixed) : Type 0 where
   offers : is_spelled f ≡ true → IsTrue (is_offering c)
   message : is_spelled f ≡ true → IsMessageOf (spelled f.message) (held_of c)
+  due : is_spelled f ≡ (is_offering c && fits_message (held_of c))
+
+some_octets : (body : List ℕ) → not (length (spelling (pdu body)) == 0) ≡ true
+some_octets body = grind arith
 
 and_first : (a b : Bool) → (a && b) ≡ true → a ≡ true
 and_first a b e = grind arith
@@ -138,6 +145,7 @@ due_fixes c true None numbers e = record {
     octets_are = refl;
     fits = and_second (is_offering c) (fits_message (held_of c)) e;
   };
+  due = some_octets (canonical (buffer_tree RafBuffer None 0 (held_of c))) ∙ sym e;
 }
 due_fixes c true (Some by) numbers e = record {
   offers = λ h. and_first (is_offering c) (fits_message (held_of c)) e;
@@ -148,9 +156,12 @@ due_fixes c true (Some by) numbers e = record {
     octets_are = refl;
     fits = and_second (is_offering c) (fits_message (held_of c)) e;
   };
+  due =
+      some_octets (canonical (buffer_tree RafBuffer (Some by) (next_number numbers) (held_of c)))
+      ∙ sym e;
 }
 due_fixes c false by numbers e =
-    record { offers = λ h. absurd (cc); message = λ h. absurd (cc) }
+    record { offers = λ h. absurd (cc); message = λ h. absurd (cc); due = sym e }
 
 fixes : (served : Served) (c : Course) (site : Site) (peer : Option Peer) (numbers now : ℕ)
     → delivery_of served ≡ Some c → Fixes c (fixed_by served site peer numbers now)
@@ -193,7 +204,9 @@ stays_fixed : (c : Course) (g : Glimpse) (now : ℕ) → IsTrue (is_offering c)
 stays_fixed c g now e = by c.run refl
   where
     by : (o : Option Run) → c.run ≡ o → with_step c g now ≡ c
-    by None is = ap (λ (x : Option Run). record c { run = option_map (run_stepped g now) x }) is ∙ sym (ap (λ (x : Option Run). record c { run = x }) is)
+    by None is =
+        ap (λ (x : Option Run). record c { run = option_map (run_stepped g now) x }) is
+        ∙ sym (ap (λ (x : Option Run). record c { run = x }) is)
     by (Some r) is =
         let held : r.placed.fixed ≡ true =
         sym (ap (λ (x : Option Run). option_map_or (λ (y : Run). y.placed.fixed) x false) is) ∙ e in
@@ -207,7 +220,9 @@ stays_kept : (c : Course) → IsTrue (is_offering c) → discard_told (fate_by c
 stays_kept c e none = by c.run refl
   where
     by : (o : Option Run) → c.run ≡ o → with_answer c stall ≡ c
-    by None is = ap (λ (x : Option Run). record c { run = option_map (run_answered stall) x }) is ∙ sym (ap (λ (x : Option Run). record c { run = x }) is)
+    by None is =
+        ap (λ (x : Option Run). record c { run = option_map (run_answered stall) x }) is
+        ∙ sym (ap (λ (x : Option Run). record c { run = x }) is)
     by (Some r) is =
         let held : r.placed.fixed ≡ true =
         sym (ap (λ (x : Option Run). option_map_or (λ (y : Run). y.placed.fixed) x false) is) ∙ e in
@@ -609,21 +624,36 @@ fixed_delivers site s c d =
     by false f h =
         record { delivery = d.delivery; offers = h.offers; message = h.message }
 
-delivers_step : (site : Site) (g : Glimpse) (now : ℕ) (s : Standing) (c : Course)
-    → s.moment ≡ now → Delivers s c
-    → Delivers (fixed site (stepped_by g s)) (with_step c g now)
-delivers_step site g now s c at d =
-    fixed_delivers site (stepped_by g s) (with_step c g now) (record {
-      delivery =
-          steps s.service c g s.moment d.delivery
-          ∙ ap (λ (n : ℕ). Some (with_step c g n)) at;
-      offers = λ has.
-          subst (λ (x : Course). IsTrue (is_offering x)) (sym (stays_fixed c g now (d.offers has)))
-          (d.offers has);
-      message = λ has.
-          subst (λ (x : Course). IsMessageOf s.outgoing (held_of x))
-          (sym (stays_fixed c g now (d.offers has))) (d.message has);
-    })
+stepped_delivers : (site : Site) (g : Glimpse) (now : ℕ) (s : Standing) (c : Course)
+    → s.moment ≡ now → Delivers s c → Delivers (stepped_by g s) (with_step c g now)
+stepped_delivers site g now s c at d = record {
+  delivery =
+      steps s.service c g s.moment d.delivery ∙ ap (λ (n : ℕ). Some (with_step c g n)) at;
+  offers = λ has.
+      subst (λ (x : Course). IsTrue (is_offering x)) (sym (stays_fixed c g now (d.offers has)))
+      (d.offers has);
+  message = λ has.
+      subst (λ (x : Course). IsMessageOf s.outgoing (held_of x))
+      (sym (stays_fixed c g now (d.offers has))) (d.message has);
+}
+
+-- behind it a message is there exactly where a buffer is due that goes into one
+both_true : (a b : Bool) → a ≡ true → b ≡ true → true ≡ (a && b)
+both_true a b e f = grind arith
+
+fixed_due : (site : Site) (s : Standing) (c : Course) → Delivers s c
+    → has_outgoing (fixed site s) ≡ (is_offering c && fits_message (held_of c))
+fixed_due site s c d =
+    by (has_outgoing s) refl (fixed_by s.service site (bound_peer site s) s.numbers s.moment)
+    (fixes s.service c site (bound_peer site s) s.numbers s.moment d.delivery)
+  where
+    by : (has : Bool) → has_outgoing s ≡ has → (f : Fixed) → Fixes c f
+        → has_outgoing (if has then s else with_fixed s f)
+        ≡ (is_offering c && fits_message (held_of c))
+    by true e f h =
+        e
+        ∙ both_true (is_offering c) (fits_message (held_of c)) (d.offers e) ((d.message e).fits)
+    by false e f h = h.due
 
 serves_free : (was active going blocked : Bool) → was ≡ true → active ≡ true → going ≡ true
     → blocked ≡ false → ((was && active) && (going && not blocked)) ≡ true
@@ -647,6 +677,9 @@ record StepDelivers (blocked : Bool) (site : Site) (s : Standing) (next : Next) 
   waits : blocked ≡ true → Delivers (after_step site s next now r) c
   free : blocked ≡ false
       → Delivers (after_step site s next now r) (with_step c r.glimpse now)
+  due : blocked ≡ false
+      → has_outgoing (after_step site s next now r)
+      ≡ (is_offering (with_step c r.glimpse now) && fits_message (held_of (with_step c r.glimpse now)))
   wanted : blocked ≡ false → (inquiry_at site s next now).want ≡ want_of_course c
   arrival : (after_step site s next now r).arrival ≡ s.arrival
 
@@ -700,6 +733,7 @@ step_delivers leaves site s next now r c before d serving =
     let serving_x =
     both_serving x (after_step site s next now r) (same.course ∙ sym told.course) (same.association ∙ sym told.association) serving
     in
+    let dz = stepped_delivers site r.glimpse now x c moment dx in
     record {
       waits = λ blocked.
           subst (λ (y : Standing). Delivers y c)
@@ -714,7 +748,14 @@ step_delivers leaves site s next now r c before d serving =
           (serves_free was (is_active x.association) (is_going x.course) (is_blocked x.arrival)
           (serving_active s before) (serving_active x serving_x) (serving_going x serving_x)
           (ap is_blocked arrival ∙ clear))))
-          (delivers_step site r.glimpse now x c moment dx);
+          (fixed_delivers site (stepped_by r.glimpse x) (with_step c r.glimpse now) dz);
+      due = λ clear.
+          ap has_outgoing
+          (if_yes (may_serve was x) (fixed site (stepped_by r.glimpse x)) x
+          (serves_free was (is_active x.association) (is_going x.course) (is_blocked x.arrival)
+          (serving_active s before) (serving_active x serving_x) (serving_going x serving_x)
+          (ap is_blocked arrival ∙ clear)))
+          ∙ fixed_due site (stepped_by r.glimpse x) (with_step c r.glimpse now) dz;
       wanted = λ clear.
           goes.wants_it clear
           ∙ alive_want u (is_dead (pulse_of u) now) (want_served u.service)
@@ -1159,6 +1200,55 @@ module _ (leaves : ServiceLeaves) (entries : List Entry) (site : Site) where
 pub a_sessions_rounds : ServiceLeaves → AreVisits
 a_sessions_rounds leaves entries site rounds s c from d serves are sees =
     delivered leaves entries site rounds s c from d serves are sees
+
+-- ---- a buffer that is due
+
+due_sent : (going block blocked has : Bool) → going ≡ true → blocked ≡ false
+    → ((going && not block) && (not blocked && has)) ≡ (not block && has)
+due_sent going block blocked has e f = grind arith
+
+sent_due : (s : Standing) → is_going s.course ≡ true → is_blocked s.arrival ≡ false
+    → may_send s ≡ (not (has_block s) && has_outgoing s)
+sent_due s e f =
+    due_sent (is_going s.course) (has_block s) (is_blocked s.arrival) (has_outgoing s) e f
+
+told_due : ServiceLeaves → (site : Site) (t : State) (asks : Option BookAnswer) (told : BookAnswer)
+    (spoke sent : Option Offer) (c : Course) → asks ≡ Some told → is_serving t.standing ≡ true
+    → Delivers t.standing c
+    → is_some sent ≡ may_send (standing_spoke (stepped site t asks).standing spoke)
+    → is_serving (spoken_state (stepped site t asks) spoke sent).standing ≡ true
+    → is_blocked t.standing.arrival ≡ false
+    → is_some sent
+    ≡ (not (has_block (standing_spoke (stepped site t asks).standing spoke))
+    && is_due_to_offer (with_step c told.answer.glimpse told.moment))
+told_due leaves site t None told spoke sent c is before d sends serving clear = absurd (cc)
+told_due leaves site t (Some x) told spoke sent c is before d sends serving clear =
+    let y = (stepped site t (Some x)).standing in
+    let z = standing_spoke y spoke in
+    let serving_z = sent_serving z sent (ended_serving (standing_sent z sent) serving) in
+    let serving_y = same_serving y z (same_spoke y spoke) serving_z in
+    let step =
+    step_delivers leaves site t.standing (next_of t) x.moment (reply_in x.answer) c before d
+    serving_y in
+    let free : is_blocked z.arrival ≡ false =
+    ap is_blocked (spoke_arrival y spoke ∙ step.arrival) ∙ clear in
+    let same : x ≡ told = cc is in
+    sends
+    ∙ sent_due z (serving_going z serving_z) free
+    ∙ ap (λ (o : List ℕ). not (has_block z) && not (length o == 0)) (same_spoke y spoke).outgoing
+    ∙ ap (λ (b : Bool). not (has_block z) && b) (step.due clear)
+    ∙ ap
+    (λ (w : BookAnswer).
+    not (has_block z) && is_due_to_offer (with_step c w.answer.glimpse w.moment)) same
+
+pub due_buffers : ServiceLeaves → DueIsOffered
+due_buffers leaves site s r c told is d before serving asked clear =
+    let t = before_step s r in
+    let same = same_listened s r.waited r.heard in
+    let going = going_back leaves [] site t r serving in
+    told_due leaves site t r.told told r.spoke r.sent c asked
+    (listened_serving s.standing t.standing same going before)
+    (delivers_same s.standing t.standing c same d) is.speaks.sends serving clear
 
 -- ---- a START
 

@@ -1,6 +1,6 @@
 -- What a START of a session hands its link: by the session's rounds, what the delivery does in them.
 use Rattle.std.specs.Prelude.{◌≡◌, ℕ, ◌≤◌, Bool, true, not, ◌&&◌, if◌then◌else◌, Option, Some, None}
-use Rattle.std.specs.Prelude.{List, [], ◌∷◌, ◌++◌, length, take, IsTrue, IsFalse}
+use Rattle.std.specs.Prelude.{false, is_some, List, [], ◌∷◌, ◌++◌, length, take, IsTrue, IsFalse}
 use Rattle.std.specs.List.{list_any}
 use Rattle.std.specs.Option.{option_map, option_map_or, option_to_list}
 use Rattle.octet_core.specs.declared.offer.Offer.{Offer}
@@ -14,7 +14,7 @@ use Rattle.archive_terms.specs.Rounds.{TimelyShape}
 use Rattle.archive_terms.specs.Glimpse.{glimpse}
 use Rattle.archive_terms.specs.Placed.{ToldItem}
 use Rattle.frame_select.specs.Glimpse.{as_said}
-use Rattle.return_core.specs.Course.{Course, is_offering, held_of}
+use Rattle.return_core.specs.Course.{Course, is_offering, held_of, with_step}
 use Rattle.return_core.specs.Mode.{answer_of}
 use Rattle.return_core.specs.Visits.{Visit, passed, stepped, after_visits, visits_handed, visits_done}
 use Rattle.return_core.specs.Visits.{discards_told, AreLooks, rounds_of, VisitsStand}
@@ -35,7 +35,7 @@ use Rattle.session_core.specs.ServiceSteps.{is_active, has_outgoing}
 use Rattle.session_core.specs.Steps.{has_block, inquiry_at}
 use Rattle.session_core.specs.Session.{State, Round, BookAnswer, next_of, standing_spoke, send_calls}
 use Rattle.session_core.specs.Session.{before_step, before_speak, after_round, after_rounds}
-use Rattle.session_core.specs.Session.{AreRounds, session_events}
+use Rattle.session_core.specs.Session.{IsRound, AreRounds, session_events}
 use Rattle.session_laws.specs.Losing.{own_in}
 
 -- ---- the delivery of a session
@@ -163,6 +163,25 @@ AreVisits =
     (entries : List Entry) (site : Site) (rounds : List Round) (s : State) (c : Course) (from : ℕ)
     → Delivers s.standing c → ServesOn site s rounds → AreRounds site s rounds
     → SeeEntries entries from site s rounds → AreDelivered site s c entries from rounds
+
+-- ---- a buffer that is due
+
+-- a buffer is fixed, and goes into one message
+abbrev pub is_due_to_offer : Course → Bool
+is_due_to_offer c = is_offering c && fits_message (held_of c)
+
+-- Behind a round in which a session served and no block of an earlier round waits, its buffer was
+-- offered exactly where it is due after the round's step and no block of its own waits. One that was
+-- taken whole is handed over in the round's visit.
+abbrev pub DueIsOffered : Type 0
+DueIsOffered =
+    (site : Site) (s : State) (r : Round) (c : Course) (told : BookAnswer) → IsRound site s r
+    → Delivers s.standing c → is_serving s.standing ≡ true
+    → is_serving (after_round site s r).standing ≡ true → r.told ≡ Some told
+    → is_blocked (before_step s r).standing.arrival ≡ false
+    → is_some r.sent
+    ≡ (not (has_block (standing_spoke (before_speak site s r).standing r.spoke))
+    && is_due_to_offer (with_step c told.answer.glimpse told.moment))
 
 -- ---- a START
 

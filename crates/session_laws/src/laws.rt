@@ -1,7 +1,7 @@
 // What sessions and a book come to together. A law's function does nothing: its contract is the law.
 ghost use Rattle.session_laws.specs.Losing.{NothingIsLost, BeginsFree};
 ghost use Rattle.session_laws.specs.Deliveries.{AreVisits, SeesPublished, StartsDeliver};
-ghost use Rattle.session_laws.specs.Deliveries.{CompleteStarts, TimelyStarts};
+ghost use Rattle.session_laws.specs.Deliveries.{CompleteStarts, TimelyStarts, DueIsOffered};
 ghost use Rattle.session_laws.specs.Starts.{StartsBegin, BegunStands};
 
 use assoc_core::laws as association;
@@ -53,6 +53,14 @@ pub fn what_a_session_sees_is_published()
 pub fn a_start_begins_a_delivery()
     ensures begins { StartsBegin }
     ensures stands { BegunStands }
+{
+    session::a_service_leaves_its_session();
+}
+
+/// In a round in which a session serves and no block waits, neither of an earlier round nor of its
+/// own, the buffer that is due after the round's step is offered, and nothing else.
+pub fn a_due_buffer_is_offered()
+    ensures { DueIsOffered }
 {
     session::a_service_leaves_its_session();
 }
