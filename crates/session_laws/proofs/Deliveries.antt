@@ -9,7 +9,7 @@ use Rattle.octet_core.specs.declared.offer.Offer.{Offer}
 use Rattle.octet_core.specs.declared.offer.Offer.TheVariants.{Whole, Stalled, Failed as Refused}
 use Rattle.archive_terms.specs.Archive.{Entry}
 use Rattle.archive_terms.specs.Glimpse.{Glimpse, Want, glimpse, wants_nothing}
-use Rattle.archive_terms.specs.Placed.{ToldItem, placed_step, placed_answered, items_of}
+use Rattle.archive_terms.specs.Placed.{ToldItem}
 use Rattle.archive_terms.specs.Delivery.{Terms}
 use Rattle.archive_terms.specs.Rounds.{whole, stall, nothing, Round as DeliveryRound, last_front}
 use Rattle.frame_select.specs.Glimpse.{as_said}
@@ -30,9 +30,12 @@ use Rattle.return_core.specs.Visits.{discards_told, fate_by, run_fate, answered_
 use Rattle.return_core.specs.Visits.{done_where, front_of, IsLook, AreLooks, round_of, rounds_of}
 use Rattle.return_core.specs.Visits.{VisitsStand}
 use Rattle.return_core.specs.Standing.{goes_on, all_go_on, StandsFor}
-use Rattle.raf_service.specs.Raf.{Raf}
+use Rattle.report_cycle.specs.Schedule.{is_due as is_report_due, with_report as schedule_reported}
+use Rattle.return_service.specs.Serving.{Serving, reported as report_made}
 use Rattle.isp1_auth.specs.Numbers.{next_number}
-use Rattle.return_pdu.specs.declared.service.Service.TheVariants.{Raf as RafBuffer}
+use Rattle.return_pdu.specs.declared.service.Service.{Service as ReturnService}
+use Rattle.return_pdu.specs.declared.service.Service.TheVariants as buffer
+use Rattle.sle_common.specs.declared.gvcid.Gvcid.{Gvcid}
 use Rattle.buffer_message.specs.Signing.{Signing}
 use Rattle.buffer_message.specs.Fitting.{fits_message}
 use Rattle.sle_numbers.specs.declared.peer_abort_diagnostic.PeerAbortDiagnostic.TheVariants.{CommunicationsFailure, OtherReason}
@@ -50,7 +53,7 @@ use Rattle.assoc_core.specs.declared.step.Step.{Step}
 use Rattle.assoc_core.specs.declared.step.Step.TheVariants.{Pass, Denied, Abort}
 use Rattle.cltu_queue.specs.declared.ask.Ask.TheVariants as ask
 use Rattle.cltu_queue.specs.declared.notice.Notice.{Notice}
-use Rattle.session_core.specs.declared.service_state.ServiceState.TheVariants.{Raf as ServesRaf}
+use Rattle.session_core.specs.declared.service_state.ServiceState.TheVariants as serves
 use Rattle.session_core.specs.declared.standing.Standing.{Standing}
 use Rattle.session_core.specs.declared.course.Course.{Course as Going}
 use Rattle.session_core.specs.declared.ended.Ended.TheVariants.{PeerClosed}
@@ -58,15 +61,16 @@ use Rattle.session_core.specs.Course.{is_going, is_live, is_over, is_blocked, ha
 use Rattle.session_core.specs.Inquiry.{Inquiry, only_asks, Replied, reply_in}
 use Rattle.session_core.specs.Message.{UserContent, context, heartbeat, bind, unbind, peer_abort}
 use Rattle.session_core.specs.Message.{invocation, undecoded, out_of_place, judged}
-use Rattle.session_core.specs.Service.{Invocation, invocation_kind, leaves_running}
+use Rattle.session_core.specs.Service.{Invocation, raf_starts, rcf_starts, stops, schedules, gets}
+use Rattle.session_core.specs.Service.{undecoded as no_invocation, invocation_kind, leaves_running}
 use Rattle.session_core.specs.Served.{Served, Message, Fixed, concluded_by, want_served}
 use Rattle.session_core.specs.Served.{served_step, served_settled, dropped_by, fixed_by, reported_by}
 use Rattle.session_core.specs.Served.{told_by_service}
-use Rattle.session_core.specs.RafServed.{buffer_due, buffer_fixed, item_signing}
+use Rattle.session_core.specs.ReturnServed.{buffer_due, buffer_fixed, item_signing}
 use Rattle.session_core.specs.ServiceSteps.{answered_with, after_stall, is_active, has_outgoing}
 use Rattle.session_core.specs.ServiceSteps.{spelled, told_more, reported, noticed, with_report}
-use Rattle.session_core.specs.ServiceSteps.{with_notice, may_tell, may_serve, with_service, fixed}
-use Rattle.session_core.specs.ServiceSteps.{stepped_by, with_fixed, led_to, settled}
+use Rattle.session_core.specs.ServiceSteps.{with_notice, may_tell, may_serve, fixed}
+use Rattle.session_core.specs.ServiceSteps.{stepped_by, with_fixed, led_to, settled, permitted}
 use Rattle.session_core.specs.Returns.{bound_peer}
 use Rattle.session_core.specs.Handling.{is_lost, invoked, concluded, after_passing, said_ask}
 use Rattle.session_core.specs.Handling.{aborted, ended_by}
@@ -88,30 +92,69 @@ use Rattle.session_laws.specs.Deliveries.{is_due_to_offer}
 
 -- ---- what each service makes of its delivery
 
+pub some_is : (own c : Course) → Some own ≡ Some c → own ≡ c
+some_is own c e = cc
+
 wants : (served : Served) (c : Course) → delivery_of served ≡ Some c
     → want_served served ≡ want_of_course c
 unfolding delivery_of want_served
-wants served c e = grind arith
+wants serves.Nothing c e = absurd (cc)
+wants (serves.Raf r) c e = ap want_of_course (some_is r.serving.course c e)
+wants (serves.Rcf r) c e = ap want_of_course (some_is r.serving.course c e)
+
+steps_so : (own c : Course) (g : Glimpse) (now : ℕ) → Some own ≡ Some c
+    → Some (with_step own g now) ≡ Some (with_step c g now)
+steps_so own c g now e = ap (λ (x : Course). Some (with_step x g now)) (some_is own c e)
 
 steps : (served : Served) (c : Course) (g : Glimpse) (now : ℕ) → delivery_of served ≡ Some c
     → delivery_of (served_step g now served) ≡ Some (with_step c g now)
 unfolding delivery_of served_step
-steps served c g now e = grind arith
+steps serves.Nothing c g now e = absurd (cc)
+steps (serves.Raf r) c g now e = steps_so r.serving.course c g now e
+steps (serves.Rcf r) c g now e = steps_so r.serving.course c g now e
+
+settles_so : (own c : Course) (said : Offer) → Some own ≡ Some c
+    → Some (with_answer own (answer_of said)) ≡ Some (with_answer c (answer_of said))
+settles_so own c said e =
+    ap (λ (x : Course). Some (with_answer x (answer_of said))) (some_is own c e)
 
 settles : (served : Served) (c : Course) (said : Offer) → delivery_of served ≡ Some c
     → delivery_of (served_settled said served) ≡ Some (with_answer c (answer_of said))
 unfolding delivery_of served_settled
-settles served c said e = grind arith
+settles serves.Nothing c said e = absurd (cc)
+settles (serves.Raf r) c said e = settles_so r.serving.course c said e
+settles (serves.Rcf r) c said e = settles_so r.serving.course c said e
+
+drops_so : (own c : Course) → Some own ≡ Some c
+    → discard_told (fate_by own stall) ≡ discard_told (fate_by c stall)
+drops_so own c e = ap (λ (x : Course). discard_told (fate_by x stall)) (some_is own c e)
 
 drops : (served : Served) (c : Course) → delivery_of served ≡ Some c
     → dropped_by served ≡ discard_told (fate_by c stall)
 unfolding delivery_of dropped_by
-drops served c e = grind arith
+drops serves.Nothing c e = absurd (cc)
+drops (serves.Raf r) c e = drops_so r.serving.course c e
+drops (serves.Rcf r) c e = drops_so r.serving.course c e
+
+report_leaves : (now : ℕ) (s : Serving) → (report_made now s).course ≡ s.course
+report_leaves now s = by (is_report_due s.schedule now)
+  where
+    by : (due : Bool)
+        → (if due then record s { schedule = schedule_reported now s.schedule } else s).course
+        ≡ s.course
+    by true = refl
+    by false = refl
+
+reports_so : (now : ℕ) (s : Serving) (c : Course) → Some s.course ≡ Some c
+    → Some (report_made now s).course ≡ Some c
+reports_so now s c e = ap (λ (x : Course). Some x) (report_leaves now s) ∙ e
 
 reports : (served : Served) (c : Course) (r : Replied) (now : ℕ) → delivery_of served ≡ Some c
     → delivery_of (reported_by served r now).served ≡ Some c
 unfolding delivery_of reported_by
-reports served c r now e = grind arith
+reports serves.Nothing c r now e = absurd (cc)
+reports (serves.Raf raf) c r now e = reports_so now raf.serving c e
+reports (serves.Rcf rcf) c r now e = reports_so now rcf.serving c e
 
 -- the message that is due is that of the buffer that is to be offered
 abbrev is_spelled : Fixed → Bool
@@ -131,63 +174,84 @@ and_first a b e = grind arith
 and_second : (a b : Bool) → (a && b) ≡ true → b ≡ true
 and_second a b e = grind arith
 
-due_fixes : (c : Course) (due : Bool) (by : Option Signing) (numbers : ℕ)
+due_fixes : (service : ReturnService) (c : Course) (due : Bool) (by : Option Signing) (numbers : ℕ)
     → (is_offering c && fits_message (held_of c)) ≡ due
     → Fixes c
-    (if due then buffer_fixed by numbers (held_of c)
+    (if due then buffer_fixed service by numbers (held_of c)
     else record { message = None; numbers = numbers })
-due_fixes c true None numbers e = record {
+due_fixes service c true None numbers e = record {
   offers = λ h. and_first (is_offering c) (fits_message (held_of c)) e;
   message = λ h. record {
-    service = RafBuffer;
+    service = service;
     by = None;
     first = 0;
     octets_are = refl;
     fits = and_second (is_offering c) (fits_message (held_of c)) e;
   };
-  due = some_octets (canonical (buffer_tree RafBuffer None 0 (held_of c))) ∙ sym e;
+  due = some_octets (canonical (buffer_tree service None 0 (held_of c))) ∙ sym e;
 }
-due_fixes c true (Some by) numbers e = record {
+due_fixes service c true (Some by) numbers e = record {
   offers = λ h. and_first (is_offering c) (fits_message (held_of c)) e;
   message = λ h. record {
-    service = RafBuffer;
+    service = service;
     by = Some by;
     first = next_number numbers;
     octets_are = refl;
     fits = and_second (is_offering c) (fits_message (held_of c)) e;
   };
   due =
-      some_octets (canonical (buffer_tree RafBuffer (Some by) (next_number numbers) (held_of c)))
+      some_octets (canonical (buffer_tree service (Some by) (next_number numbers) (held_of c)))
       ∙ sym e;
 }
-due_fixes c false by numbers e =
+due_fixes service c false by numbers e =
     record { offers = λ h. absurd (cc); message = λ h. absurd (cc); due = sym e }
+
+fixes_so : (service : ReturnService) (own c : Course) (site : Site) (peer : Option Peer)
+    (numbers now : ℕ) → Some own ≡ Some c → Fixes c (buffer_due service own site peer numbers now)
+fixes_so service own c site peer numbers now e =
+    subst (λ (x : Course). Fixes x (buffer_due service own site peer numbers now))
+    (some_is own c e)
+    (due_fixes service own (is_offering own && fits_message (held_of own))
+    (item_signing site peer now) numbers refl)
 
 fixes : (served : Served) (c : Course) (site : Site) (peer : Option Peer) (numbers now : ℕ)
     → delivery_of served ≡ Some c → Fixes c (fixed_by served site peer numbers now)
 unfolding delivery_of fixed_by
-fixes (ServesRaf r) c site peer numbers now e =
-    subst (λ (x : Course). Fixes x (buffer_due r (item_signing site peer now) numbers)) (cc)
-    (due_fixes r.serving.course
-    (is_offering r.serving.course && fits_message (held_of r.serving.course))
-    (item_signing site peer now) numbers refl)
-fixes _ c site peer numbers now e = absurd (cc)
+fixes serves.Nothing c site peer numbers now e = absurd (cc)
+fixes (serves.Raf r) c site peer numbers now e =
+    fixes_so buffer.Raf r.serving.course c site peer numbers now e
+fixes (serves.Rcf r) c site peer numbers now e =
+    fixes_so buffer.Rcf r.serving.course c site peer numbers now e
 
 -- an invocation that leaves a session serving leaves its delivery
-record Invokes (served : Served) (i : Invocation) (r : Replied) (now : ℕ) (c : Course) : Type 0 where
+record Invokes (served : Served) (channels : List Gvcid) (i : Invocation) (r : Replied) (now : ℕ)
+    (c : Course) : Type 0 where
   runs : leaves_running i ≡ true
-  delivery : delivery_of (concluded_by served i r now).served ≡ Some c
+  delivery : delivery_of (concluded_by served channels i r now).served ≡ Some c
 
 pub invoked_same : (a : Association) (i : Invocation) → after_judgement a (invocation_kind i) Pass ≡ a
 invoked_same a i = grind arith
 
-invokes : (served : Served) (c : Course) (site : Site) (b : Binding) (i : Invocation) (r : Replied)
-    (at now : ℕ) → delivery_of served ≡ Some c
+invokes : (served : Served) (c : Course) (channels : List Gvcid) (site : Site) (b : Binding)
+    (i : Invocation) (r : Replied) (at now : ℕ) → delivery_of served ≡ Some c
     → judged site (state.Active b) (invocation i) at ≡ Pass
-    → is_active (moved (state.Active b) (concluded_by served i r now).outcome) ≡ true
-    → Invokes served i r now c
+    → is_active (moved (state.Active b) (concluded_by served channels i r now).outcome) ≡ true
+    → Invokes served channels i r now c
 unfolding delivery_of concluded_by
-invokes served c site b i r at now e pass still = grind arith
+invokes serves.Nothing c channels site b i r at now e pass still = absurd (cc)
+invokes served c channels site b (raf_starts s) r at now e pass still = absurd (cc)
+invokes served c channels site b (rcf_starts s) r at now e pass still = absurd (cc)
+invokes served c channels site b no_invocation r at now e pass still = absurd (cc)
+invokes (serves.Raf raf) c channels site b (stops s) r at now e pass still = absurd (cc)
+invokes (serves.Rcf rcf) c channels site b (stops s) r at now e pass still = absurd (cc)
+invokes (serves.Raf raf) c channels site b (schedules s) r at now e pass still =
+    record { runs = refl; delivery = e }
+invokes (serves.Rcf rcf) c channels site b (schedules s) r at now e pass still =
+    record { runs = refl; delivery = e }
+invokes (serves.Raf raf) c channels site b (gets g) r at now e pass still =
+    record { runs = refl; delivery = e }
+invokes (serves.Rcf rcf) c channels site b (gets g) r at now e pass still =
+    record { runs = refl; delivery = e }
 
 -- ---- a delivery at the steps of a round
 
@@ -423,7 +487,8 @@ module _ (site : Site) (u : Standing) (c : Course) (b : Binding)
   invocation_goes i r pass serving =
       let t = invoked u (invocation i) Pass in
       let k = invocation_kind i in
-      let done = concluded_by u.service i r u.moment in
+      let channels = permitted site u in
+      let done = concluded_by u.service channels i r u.moment in
       let v = answered_with site t k done.answer in
       let now = led_to done.outcome v in
       let same : v.association ≡ state.Active b =
@@ -431,7 +496,8 @@ module _ (site : Site) (u : Standing) (c : Course) (b : Binding)
       let still : is_active (moved v.association done.outcome) ≡ true =
       serving_active (record now { service = done.served }) serving in
       let kept =
-      invokes u.service c site b i r u.moment u.moment delivery (at_active (invocation i) pass)
+      invokes u.service c channels site b i r u.moment u.moment delivery
+      (at_active (invocation i) pass)
       (sym (ap (λ (a : Association). is_active (moved a done.outcome)) same) ∙ still) in
       stay_goes u (record now { service = done.served }) c (leaves_running i)
       (said_ask site u.service (invocation i) Pass) kept.runs

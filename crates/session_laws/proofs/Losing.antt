@@ -1,23 +1,26 @@
 -- Nothing that a session asks is lost.
-use Rattle.std.proofs.Common.{◌≡◌, ℕ, ◌<◌, Bool, true, false, not, ◌&&◌, ◌||◌, if◌then◌else◌, Option}
-use Rattle.std.proofs.Common.{Some, None, is_some, Ok, Err, Result, List, [], ◌∷◌, ◌++◌, length, map}
-use Rattle.std.proofs.Common.{slice_get, slice_set, nat_lt, zero, suc, cond, refl, sym, ap, subst}
+use Rattle.std.proofs.Common.{◌≡◌, ℕ, ◌<◌, Bool, true, false, not, ◌||◌, if◌then◌else◌, Option}
+use Rattle.std.proofs.Common.{Some, None, is_some, Ok, Err, Result, List, [], ◌∷◌, ◌++◌, length}
+use Rattle.std.proofs.Common.{slice_get, slice_set, nat_lt, zero, suc, refl, sym, ap, subst}
 use Rattle.std.proofs.Common.{◌∙◌, arith}
 use Rattle.std.proofs.lemmas.List.{length-replicate}
 use Rattle.std.specs.Prelude.{IsFalse, IsSomeAnd}
 use Rattle.std.specs.List.{position, list_any}
-use Rattle.archive_terms.specs.Glimpse.{Glimpse}
 use Rattle.octet_core.specs.declared.offer.Offer.{Offer}
 use Rattle.octet_core.specs.declared.offer.Offer.TheVariants.{Whole, Stalled, Failed as Refused}
 use Rattle.link_model.specs.declared.call.Heard.{Heard}
 use Rattle.link_model.specs.declared.call.Heard.TheVariants.{Arrived, Nothing as HeardNothing}
 use Rattle.link_model.specs.declared.call.Heard.TheVariants.{Closed, Failed}
-use Rattle.isp1_tml.specs.Message.{Content}
 use Rattle.bind_pdu.specs.Binding.{BindContent}
 use Rattle.bind_pdu.specs.Unbinding.{UnbindContent}
 use Rattle.sle_numbers.specs.declared.bind_diagnostic.BindDiagnostic.{BindDiagnostic}
 use Rattle.sle_numbers.specs.declared.peer_abort_diagnostic.PeerAbortDiagnostic.{PeerAbortDiagnostic}
 use Rattle.sle_numbers.specs.declared.peer_abort_diagnostic.PeerAbortDiagnostic.TheVariants as why
+use Rattle.return_pdu.specs.declared.return_answer.ReturnAnswer.{ReturnAnswer}
+use Rattle.return_pdu.specs.declared.return_answer.ReturnAnswer.TheVariants as given
+use Rattle.sle_common.specs.declared.gvcid.Gvcid.{Gvcid}
+use Rattle.raf_service.specs.Raf.{raf_answer}
+use Rattle.rcf_service.specs.Rcf.{rcf_answer}
 use Rattle.station_config.specs.declared.instance.Instance.{Instance}
 use Rattle.station_config.specs.declared.site.Site.{Site}
 use Rattle.station_config.specs.Drafts.{place_of}
@@ -47,7 +50,6 @@ use Rattle.session_core.specs.declared.course.Course.{Course}
 use Rattle.session_core.specs.declared.course.Course.TheVariants as course
 use Rattle.session_core.specs.declared.ended.Ended.{Ended}
 use Rattle.session_core.specs.declared.ended.Ended.TheVariants as ended
-use Rattle.session_core.specs.declared.spoken.Spoken.{Spoken}
 use Rattle.session_core.specs.declared.spoken.Spoken.TheVariants as spoken
 use Rattle.session_core.specs.declared.standing.Standing.{Standing}
 use Rattle.session_core.specs.Course.{is_going, is_blocked, has_closed}
@@ -56,8 +58,12 @@ use Rattle.session_core.specs.Message.{UserContent, context, heartbeat, bind, un
 use Rattle.session_core.specs.Message.{invocation, undecoded, out_of_place, judged, kind_of}
 use Rattle.session_core.specs.Message.{message_of}
 use Rattle.session_core.specs.Service.{Invocation, invocation_kind}
+use Rattle.session_core.specs.ReturnServed.{outcome_of}
+use Rattle.session_core.specs.RafServed.{raf_asked}
+use Rattle.session_core.specs.RcfServed.{rcf_asked}
+use Rattle.session_core.specs.declared.service_state.ServiceState.TheVariants as serves
 use Rattle.session_core.specs.Served.{Served, Message, prepared, concluded_by, dropped_by}
-use Rattle.session_core.specs.ServiceSteps.{answered_with, after_stall, is_active}
+use Rattle.session_core.specs.ServiceSteps.{answered_with, after_stall, is_active, permitted}
 use Rattle.session_core.specs.Handling.{bind_judged, bind_ask, bind_outcome, said_ask, is_agreed}
 use Rattle.session_core.specs.Handling.{is_lost, invoked, after_judged, after_passing}
 use Rattle.session_core.specs.Steps.{Next, at_moment, is_idle, idle_ask, next_ask, inquiry_entered}
@@ -84,7 +90,9 @@ OthersLeave =
 -- no service asks the book for anything yet, and no answer of one binds or unbinds
 asks_nothing : (served : Served) (i : Invocation) → (prepared served i).ask ≡ ask.Nothing
 unfolding prepared
-asks_nothing served i = grind arith
+asks_nothing serves.Nothing i = refl
+asks_nothing (serves.Raf raf) i = refl
+asks_nothing (serves.Rcf rcf) i = refl
 
 abbrev is_of_service : Outcome → Bool
 is_of_service outcome.Started = true
@@ -92,10 +100,22 @@ is_of_service outcome.Stopped = true
 is_of_service outcome.Kept = true
 is_of_service _ = false
 
-leads_on : (served : Served) (i : Invocation) (r : Replied) (now : ℕ)
-    → is_of_service (concluded_by served i r now).outcome ≡ true
+answer_leads : (a : ReturnAnswer) → is_of_service (outcome_of a) ≡ true
+answer_leads given.Nothing = refl
+answer_leads (given.Start (Ok done)) = refl
+answer_leads (given.Start (Err why)) = refl
+answer_leads given.Stop = refl
+answer_leads (given.Report done) = refl
+answer_leads (given.Get found) = refl
+
+leads_on : (served : Served) (channels : List Gvcid) (i : Invocation) (r : Replied) (now : ℕ)
+    → is_of_service (concluded_by served channels i r now).outcome ≡ true
 unfolding concluded_by
-leads_on served i r now = grind arith
+leads_on serves.Nothing channels i r now = refl
+leads_on (serves.Raf raf) channels i r now =
+    answer_leads (raf_answer (raf_asked i) r.glimpse raf)
+leads_on (serves.Rcf rcf) channels i r now =
+    answer_leads (rcf_answer channels (rcf_asked i) r.glimpse rcf)
 
 -- ---- the association
 
@@ -354,11 +374,12 @@ module _ (binds : BindsItsOwn) (site : Site) (book : Book) (door : ℕ)
       (after_passing site (invoked s (invocation i) Pass) (invocation i) r)
   invocation_fits s i now r h =
       let t = invoked s (invocation i) Pass in
-      let done = concluded_by s.service i r s.moment in
+      let channels = permitted site s in
+      let done = concluded_by s.service channels i r s.moment in
       let k = invocation_kind i in
       let course = answered_course site t k done.answer in
       same_fits book door now s _ h (λ g. sym (ap is_going course) ∙ g)
-      (service_binds_none _ done.outcome (leads_on s.service i r s.moment)
+      (service_binds_none _ done.outcome (leads_on s.service channels i r s.moment)
       ∙ ap is_bound (answered_same site t k done.answer)
       ∙ ap is_bound (invoked_same s.association i))
       (ap is_losing course ∙ h.kept)

@@ -1,16 +1,15 @@
 -- The places of a book: how many there are, and where a door is found.
-use Rattle.std.proofs.Common.{◌≡◌, ℕ, ◌<◌, Bool, true, false, not, if◌then◌else◌, cond, Option, Some, None}
+use Rattle.std.proofs.Common.{◌≡◌, ℕ, ◌<◌, Bool, true, false, if◌then◌else◌, cond, Option, Some, None}
 use Rattle.std.proofs.Common.{is_some, List, [], ◌∷◌, zero, suc, length, slice_get, slice_set}
 use Rattle.std.proofs.Common.{replicate, refl, sym, ap, ◌∙◌, nat_lt, arith}
 use Rattle.std.specs.List.{position, position_or_len}
 use Rattle.std.specs.Option.{option_map_or}
 use Rattle.std.proofs.lemmas.List.{length-set, length-replicate}
-use Rattle.archive_terms.specs.Archive.{Entry}
 use Rattle.cltu_queue.specs.declared.ask.Ask.{Ask}
 use Rattle.cltu_queue.specs.declared.ask.Ask.TheVariants as ask
 use Rattle.station_book.specs.State.{State, Opening, Event, Call, publish, answer, quit, take, done}
-use Rattle.station_book.specs.State.{interrupted, uplink, gone, opened}
-use Rattle.station_book.specs.History.{moment_at, is_of, instance_of, is_taken, freed, is_lost}
+use Rattle.station_book.specs.State.{interrupted, uplink, gone}
+use Rattle.station_book.specs.History.{moment_at, is_of, instance_of, is_taken, is_lost}
 use Rattle.station_book.specs.History.{doors_asked, with_ask, asked, may_publish, after, then_after}
 use Rattle.station_book.specs.History.{replay}
 

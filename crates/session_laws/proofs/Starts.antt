@@ -1,25 +1,27 @@
 -- A START that is answered positively begins a delivery.
-use Rattle.std.proofs.Common.{◌≡◌, ℕ, ◌<◌, ◌≤◌, Bool, true, false, not, ◌&&◌, ◌==◌, if◌then◌else◌}
+use Rattle.std.proofs.Common.{◌≡◌, ℕ, ◌≤◌, Bool, true, false, not, ◌==◌, if◌then◌else◌}
 use Rattle.std.proofs.Common.{Option, Some, None, Ok, Err, Result, List, [], length, refl, sym, ap, subst}
 use Rattle.std.proofs.Common.{◌∙◌, arith}
 use Rattle.std.specs.Prelude.{is_some}
-use Rattle.std.specs.Option.{option_map}
 use Rattle.octet_core.specs.declared.offer.Offer.{Offer}
 use Rattle.sle_numbers.specs.declared.bind_diagnostic.BindDiagnostic.{BindDiagnostic}
 use Rattle.sle_numbers.specs.declared.return_start_diagnostic.ReturnStartDiagnostic.{ReturnStartDiagnostic}
 use Rattle.sle_numbers.specs.declared.peer_abort_diagnostic.PeerAbortDiagnostic.TheVariants.{OtherReason}
-use Rattle.archive_terms.specs.Archive.{Entry, IsArchive}
+use Rattle.archive_terms.specs.Selection.{Filter, by_quality, by_channel}
 use Rattle.archive_terms.specs.Delivery.{Mode, timely, complete, offline, Terms, first_position}
-use Rattle.archive_terms.specs.Glimpse.{Glimpse}
-use Rattle.bind_pdu.specs.Binding.{BindContent}
-use Rattle.return_core.specs.Course.{Course, run_of}
-use Rattle.return_core.specs.Standing.{StandsFor}
-use Rattle.return_pdu.specs.Starting.{RafStartContent}
+use Rattle.archive_terms.specs.Delivery.{selection_of}
+use Rattle.return_core.specs.Course.{Course, run_of, with_start}
+use Rattle.return_pdu.specs.Starting.{RafStartContent, RcfStartContent}
 use Rattle.return_pdu.specs.declared.return_answer.ReturnAnswer.TheVariants as reply
 use Rattle.return_service.specs.Answer.{confirmed}
 use Rattle.sle_numbers.specs.ReturnStartDiagnostic.{number_of as start_number}
 use Rattle.return_service.specs.declared.span.Span.{Span}
-use Rattle.raf_service.specs.Raf.{Raf, with_start, moments_at, terms_of_start}
+use Rattle.return_service.specs.Serving.{terms_at}
+use Rattle.sle_common.specs.declared.gvcid.Gvcid.{Gvcid}
+use Rattle.sle_numbers.specs.RequestedFrameQuality.{number_of as quality_number}
+use Rattle.frame_select.specs.Selection.{id_of}
+use Rattle.raf_service.specs.Raf.{Raf, with_start as raf_with, moments_at as raf_moments}
+use Rattle.rcf_service.specs.Rcf.{Rcf, with_start as rcf_with, moments_at as rcf_moments}
 use Rattle.station_config.specs.declared.site.Site.{Site}
 use Rattle.station_config.specs.Drafts.{place_of}
 use Rattle.assoc_core.specs.State.{moved}
@@ -30,31 +32,33 @@ use Rattle.assoc_core.specs.declared.step.Step.{Step}
 use Rattle.assoc_core.specs.declared.step.Step.TheVariants.{Pass, Denied, Abort}
 use Rattle.cltu_queue.specs.declared.book_reply.BookReply.{BookReply}
 use Rattle.session_core.specs.declared.ended.Ended.TheVariants.{PeerClosed, Range}
-use Rattle.session_core.specs.declared.service_state.ServiceState.TheVariants.{Raf as ServesRaf}
+use Rattle.session_core.specs.declared.service_state.ServiceState.TheVariants as serves
 use Rattle.session_core.specs.declared.standing.Standing.{Standing}
-use Rattle.session_core.specs.Course.{is_going, is_blocked, has_closed}
+use Rattle.session_core.specs.Course.{has_closed}
 use Rattle.session_core.specs.Inquiry.{Replied, reply_in}
 use Rattle.session_core.specs.Message.{UserContent, context, heartbeat, bind, unbind, peer_abort}
 use Rattle.session_core.specs.Message.{invocation, undecoded, out_of_place, judged}
-use Rattle.session_core.specs.Service.{Invocation, raf_starts, stops, undecoded as no_invocation}
+use Rattle.session_core.specs.Service.{Invocation, raf_starts, rcf_starts, stops, schedules, gets}
+use Rattle.session_core.specs.Service.{undecoded as no_invocation}
 use Rattle.session_core.specs.Service.{invocation_kind}
-use Rattle.session_core.specs.RafServed.{outcome_of}
+use Rattle.session_core.specs.ReturnServed.{outcome_of}
 use Rattle.session_core.specs.Served.{Served, concluded_by}
 use Rattle.session_core.specs.ServiceSteps.{answered_with, is_active, has_outgoing, with_service, led_to}
+use Rattle.session_core.specs.ServiceSteps.{permitted}
 use Rattle.session_core.specs.Handling.{bind_judged, bind_outcome, is_lost, invoked, concluded}
 use Rattle.session_core.specs.Handling.{after_passing, aborted, ended_by, is_agreed}
 use Rattle.session_core.specs.Steps.{Next, at_moment, is_idle, with_next, acted, timed, unasked}
-use Rattle.session_core.specs.Steps.{said_to, after_step, may_send, has_block}
-use Rattle.session_core.specs.Session.{State, Round, BookAnswer, next_of, stepped, standing_spoke}
-use Rattle.session_core.specs.Session.{standing_sent, spoken_state, before_step, after_round, IsRound}
+use Rattle.session_core.specs.Steps.{said_to, after_step, may_send}
+use Rattle.session_core.specs.Session.{State, BookAnswer, next_of, stepped, standing_spoke}
+use Rattle.session_core.specs.Session.{standing_sent, spoken_state, before_step}
 use Rattle.session_core.specs.Laws.{ServiceLeaves}
 use Rattle.session_laws.specs.Deliveries.{delivery_of, is_serving, Delivers}
-use Rattle.session_laws.specs.Starts.{BeginsDelivery, StartsBegin, BegunStands}
-use Rattle.session_laws.proofs.Deliveries.{serving_active, serving_going, not_serving, invoked_same}
+use Rattle.session_laws.specs.Starts.{StartsBegin, BegunStands}
+use Rattle.session_laws.proofs.Deliveries.{some_is, serving_active, not_serving, invoked_same}
 use Rattle.session_laws.proofs.Deliveries.{answered_association, answered_outgoing, unasked_tells}
 use Rattle.session_laws.proofs.Deliveries.{untimed, both_serving, same_listened, same_spoke}
 use Rattle.session_laws.proofs.Deliveries.{same_serving, sent_serving, ended_serving, going_back}
-use Rattle.session_laws.proofs.Deliveries.{going_asks, delivers_same, sends_some, ended_delivers}
+use Rattle.session_laws.proofs.Deliveries.{going_asks, sends_some, ended_delivers}
 
 -- ---- what a service makes of a START
 
@@ -73,36 +77,62 @@ first_seen complete (Some start) front = omega arith
 first_seen offline None front = omega arith
 first_seen offline (Some start) front = omega arith
 
-raf_started : (r : Raf) (s : RafStartContent) (span : Span) (front : ℕ)
-    → Started r.serving.course front (ServesRaf (with_start s front (Ok span) r))
-unfolding delivery_of
-raf_started r s span front = record {
-  terms = terms_of_start s span front r;
-  mode = refl;
-  size = refl;
-  latency = refl;
-  first = first_seen r.serving.course.mode span.start front;
-  delivery = refl;
-}
+-- a service whose delivery began with a START of these frames and this span, from what it was
+starts_so : (own c : Course) (filter : Filter) (span : Span) (front : ℕ) (served : Served)
+    → Some own ≡ Some c
+    → delivery_of served
+    ≡ Some (with_start own (selection_of own.mode filter span.start span.stop front))
+    → Started c front served
+starts_so own c filter span front served e is =
+    subst (λ (x : Course). Started x front served) (some_is own c e) (record {
+      terms = terms_at own filter span front;
+      mode = refl;
+      size = refl;
+      latency = refl;
+      first = first_seen own.mode span.start front;
+      delivery = is;
+    })
 
-starts : (served : Served) (c : Course) (i : Invocation) (r : Replied) (now : ℕ)
-    → delivery_of served ≡ Some c → (concluded_by served i r now).outcome ≡ outcome.Started
-    → Started c r.glimpse.front (concluded_by served i r now).served
-unfolding delivery_of concluded_by
-starts (ServesRaf raf) c (raf_starts s) r now e is = by (moments_at s r.glimpse raf) is
-  where
-    by : (j : Result Span ReturnStartDiagnostic)
-        → outcome_of (reply.Start (confirmed start_number j)) ≡ outcome.Started
-        → Started c r.glimpse.front (ServesRaf (with_start s r.glimpse.front j raf))
-    by (Ok span) is =
-        subst
-        (λ (x : Course).
-        Started x r.glimpse.front (ServesRaf (with_start s r.glimpse.front (Ok span) raf)))
-        (cc e) (raf_started raf s span r.glimpse.front)
-    by (Err why) is = absurd (cc)
-starts (ServesRaf raf) c (stops s) r now e is = absurd (cc)
-starts (ServesRaf raf) c no_invocation r now e is = absurd (cc)
-starts _ c i r now e is = absurd (cc)
+raf_starts_it : (raf : Raf) (c : Course) (s : RafStartContent) (front : ℕ)
+    (j : Result Span ReturnStartDiagnostic) → delivery_of (serves.Raf raf) ≡ Some c
+    → outcome_of (reply.Start (confirmed start_number j)) ≡ outcome.Started
+    → Started c front (serves.Raf (raf_with s front j raf))
+unfolding delivery_of
+raf_starts_it raf c s front (Ok span) e is =
+    starts_so raf.serving.course c (by_quality (quality_number s.quality)) span front
+    (serves.Raf (raf_with s front (Ok span) raf)) e refl
+raf_starts_it raf c s front (Err why) e is = absurd (cc)
+
+rcf_starts_it : (rcf : Rcf) (c : Course) (s : RcfStartContent) (front : ℕ)
+    (j : Result Span ReturnStartDiagnostic) → delivery_of (serves.Rcf rcf) ≡ Some c
+    → outcome_of (reply.Start (confirmed start_number j)) ≡ outcome.Started
+    → Started c front (serves.Rcf (rcf_with s front j rcf))
+unfolding delivery_of
+rcf_starts_it rcf c s front (Ok span) e is =
+    starts_so rcf.serving.course c (by_channel (id_of s.channel)) span front
+    (serves.Rcf (rcf_with s front (Ok span) rcf)) e refl
+rcf_starts_it rcf c s front (Err why) e is = absurd (cc)
+
+starts : (served : Served) (c : Course) (channels : List Gvcid) (i : Invocation) (r : Replied)
+    (now : ℕ) → delivery_of served ≡ Some c
+    → (concluded_by served channels i r now).outcome ≡ outcome.Started
+    → Started c r.glimpse.front (concluded_by served channels i r now).served
+unfolding concluded_by
+starts serves.Nothing c channels i r now e is = absurd (cc)
+starts (serves.Raf raf) c channels (raf_starts s) r now e is =
+    raf_starts_it raf c s r.glimpse.front (raf_moments s r.glimpse raf) e is
+starts (serves.Raf raf) c channels (rcf_starts s) r now e is = absurd (cc)
+starts (serves.Raf raf) c channels (stops s) r now e is = absurd (cc)
+starts (serves.Raf raf) c channels (schedules s) r now e is = absurd (cc)
+starts (serves.Raf raf) c channels (gets g) r now e is = absurd (cc)
+starts (serves.Raf raf) c channels no_invocation r now e is = absurd (cc)
+starts (serves.Rcf rcf) c channels (rcf_starts s) r now e is =
+    rcf_starts_it rcf c s r.glimpse.front (rcf_moments channels s r.glimpse rcf) e is
+starts (serves.Rcf rcf) c channels (raf_starts s) r now e is = absurd (cc)
+starts (serves.Rcf rcf) c channels (stops s) r now e is = absurd (cc)
+starts (serves.Rcf rcf) c channels (schedules s) r now e is = absurd (cc)
+starts (serves.Rcf rcf) c channels (gets g) r now e is = absurd (cc)
+starts (serves.Rcf rcf) c channels no_invocation r now e is = absurd (cc)
 
 -- ---- a message that starts the service
 
@@ -182,14 +212,15 @@ module _ (site : Site) (u : Standing) (c : Course) (still : is_active u.associat
   passing_begins (invocation i) r serving =
       let t = invoked u (invocation i) Pass in
       let k = invocation_kind i in
-      let done = concluded_by u.service i r u.moment in
+      let channels = permitted site u in
+      let done = concluded_by u.service channels i r u.moment in
       let v = answered_with site t k done.answer in
       let same = answered_association site t k done.answer ∙ invoked_same u.association i in
       let o : done.outcome ≡ outcome.Started =
       moves_started v.association done.outcome (ap is_active same ∙ still)
       (serving_active (record (led_to done.outcome v) { service = done.served }) serving) in
       record {
-        started = starts u.service c i r u.moment delivery o;
+        started = starts u.service c channels i r u.moment delivery o;
         outgoing =
             if_none (is_active (moved v.association done.outcome)) v.outgoing
             (answered_outgoing site t k done.answer ∙ none);

@@ -27,7 +27,7 @@ use Rattle.link_model.specs.Calls.{blocks_in}
 use Rattle.station_config.specs.declared.site.Site.{Site}
 use Rattle.station_book.specs.State.{State as Book, Event}
 use Rattle.station_book.specs.History.{IsLegal, replay}
-use Rattle.session_core.specs.declared.service_state.ServiceState.TheVariants.{Raf}
+use Rattle.session_core.specs.declared.service_state.ServiceState.TheVariants.{Nothing, Raf, Rcf}
 use Rattle.session_core.specs.declared.standing.Standing.{Standing}
 use Rattle.session_core.specs.Course.{is_going, is_blocked}
 use Rattle.session_core.specs.Served.{Served}
@@ -42,8 +42,9 @@ use Rattle.session_laws.specs.Losing.{own_in}
 
 -- the delivery that a service keeps
 unfoldable pub delivery_of : Served → Option Course
+delivery_of Nothing = None
 delivery_of (Raf r) = Some r.serving.course
-delivery_of _ = None
+delivery_of (Rcf r) = Some r.serving.course
 
 -- the session goes on, and its service is started
 abbrev pub is_serving : Standing → Bool

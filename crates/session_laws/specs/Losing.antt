@@ -1,5 +1,5 @@
 -- No reply of the book to a session is Lost: what a session asks fits what its door has bound.
-use Rattle.std.specs.Prelude.{◌≡◌, ℕ, Bool, true, false, Option, None, is_some, List, [], ◌++◌}
+use Rattle.std.specs.Prelude.{◌≡◌, ℕ, Bool, false, None, List, ◌++◌}
 use Rattle.std.specs.Prelude.{length, IsFalse}
 use Rattle.std.specs.List.{filter, list_any}
 use Rattle.archive_terms.specs.Archive.{Entry}

@@ -1,12 +1,11 @@
 -- The round of a session with a START that is answered positively begins a delivery.
-use Rattle.std.specs.Prelude.{◌≡◌, ℕ, ◌<◌, ◌≤◌, true, false, Option, Some, List, [], length}
+use Rattle.std.specs.Prelude.{◌≡◌, ◌<◌, ◌≤◌, true, false, Some, List, [], length}
 use Rattle.archive_terms.specs.Archive.{Entry, IsArchive}
 use Rattle.archive_terms.specs.Delivery.{Terms}
 use Rattle.return_core.specs.Course.{Course, run_of}
 use Rattle.return_core.specs.Standing.{StandsFor}
 use Rattle.station_config.specs.declared.site.Site.{Site}
 use Rattle.session_core.specs.Session.{State, Round, BookAnswer, IsRound, after_round}
-use Rattle.session_core.specs.Course.{is_going}
 use Rattle.session_core.specs.ServiceSteps.{is_active}
 use Rattle.session_laws.specs.Deliveries.{delivery_of, is_serving, Delivers}
 
