@@ -163,7 +163,7 @@ fn scripts_say_what_they_say(rt: HostRuntime) {
 #[test]
 fn a_message_that_is_not_built_is_refused(rt: HostRuntime) {
     assert_eq!(rt;
-        says(rt.alloc(), "ask 1 report now", ""),
+        says(rt.alloc(), "ask 1 start 1", ""),
         Err(AskFault::NotBuilt)
     );
 }
