@@ -41,7 +41,7 @@ case $1 in
     ci)
         [ -z "$CHANGES" ] || echo >>"$CHANGES"
         sed 's/[ :].*/ proved/; s/^/rt: /; s/cds_time proved/cds_time is kept: so/' crates.txt
-        for main in provider_cli explain_cli; do
+        for main in provider_cli explain_cli capture_cli; do
             mkdir -p crates/$main/out
             printf '#!/bin/sh\necho "proved program: $*"\n' >crates/$main/out/$main
             chmod +x crates/$main/out/$main
@@ -297,6 +297,28 @@ def explaining(copy, check):
         check(f"launcher, refused {line}", copy.run(line), USAGE)
 
 
+def capturing(copy, check):
+    """`explain --pcap` is a program of its own, too."""
+    says = {"SAYS": ENDED, "OUTPUT": "a\nb"}
+    copy.forget()
+    file = copy.top / "a b.pcap"
+    found = copy.run([b"explain", b"--pcap", bytes(file)], b"lines", says)
+    check("unproved capture", (*found[:2], is_told(found[2])), (0, b"", True))
+    check("unproved capture, its file", file.read_bytes(), b"a\nb")
+    check("unproved capture, how", found[2].count(b"`bin/provider prove capture`"), 2)
+    where = f"{copy.top}/crates/capture_cli try --seconds 600 -- capture\n"
+    check("unproved capture, words", copy.noted("words"), where.encode())
+    path = copy.top / PROGRAM.replace("provider_cli", "capture_cli")
+    check("prove capture", copy.run([b"prove", b"capture"])[:2], (0, bytes(path) + b"\n"))
+    status, output, _ = copy.run([b"explain", b"--pcap", bytes(file)])
+    written = output, file.read_bytes()
+    check("proved capture", (status, *written), (0, b"", b"proved program: capture\n"))
+    shutil.rmtree(path.parent)
+    file.unlink()
+    for line in [[b"explain", b"--pcap"], [b"explain", b"--pcap", b"x", b"y"], [b"capture"]]:
+        check(f"launcher, refused {line}", copy.run(line), USAGE)
+
+
 def is_proved(copy):
     given = {"SAYS": ENDED, "OUTPUT": "unproved"}
     output = copy.run([b"drill"], given=given)[1]
@@ -450,7 +472,8 @@ def drive(launcher, run, check, outside):
             first = real.start([b"drill"], stdin=script)
         words(copy, run, check, outside)
         own_words(copy, check)
-        for part in unproved, inputs, explaining, prove, sameness, failing_proofs, gate, signals:
+        for part in (unproved, inputs, explaining, capturing, prove, sameness, failing_proofs, gate,
+                     signals):
             part(copy, check)
         output, errors = first.communicate(timeout=600)
         expected = run([b"drill"], (TOP / "examples/first-pass.script").read_bytes())[1]

@@ -57,6 +57,7 @@ user_lines Tag.number ->|user_lines Told invoke|user_lines Told name
 explain_cli Status.code ->|explain_lines StreamLine tag|explain_words put_name number
 explain_words put_why number|explain_words put_invoker invoke|explain_words put_performer invoke
 user_task Task.put invoke|user_core Event invoke|user_core Awaited invoke
+capture_cli Place connection|capture_cli Status.code ->
 """
 
 PLAIN = ("tests_", "bench_", "sample_", "kill_", "plain_")
