@@ -95,46 +95,50 @@ use Rattle.session_laws.specs.Deliveries.{is_due_to_offer}
 pub some_is : (own c : Course) → Some own ≡ Some c → own ≡ c
 some_is own c e = cc
 
-wants : (served : Served) (c : Course) → delivery_of served ≡ Some c
+wants : (service : ReturnService) (served : Served) (c : Course)
+    → delivery_of service served ≡ Some c
     → want_served served ≡ want_of_course c
 unfolding delivery_of want_served
-wants serves.Nothing c e = absurd (cc)
-wants (serves.Raf r) c e = ap want_of_course (some_is r.serving.course c e)
-wants (serves.Rcf r) c e = ap want_of_course (some_is r.serving.course c e)
+wants buffer.Raf (serves.Raf r) c e = ap want_of_course (some_is r.serving.course c e)
+wants buffer.Rcf (serves.Rcf r) c e = ap want_of_course (some_is r.serving.course c e)
+wants _ _ c e = absurd (cc)
 
 steps_so : (own c : Course) (g : Glimpse) (now : ℕ) → Some own ≡ Some c
     → Some (with_step own g now) ≡ Some (with_step c g now)
 steps_so own c g now e = ap (λ (x : Course). Some (with_step x g now)) (some_is own c e)
 
-steps : (served : Served) (c : Course) (g : Glimpse) (now : ℕ) → delivery_of served ≡ Some c
-    → delivery_of (served_step g now served) ≡ Some (with_step c g now)
+steps : (service : ReturnService) (served : Served) (c : Course) (g : Glimpse) (now : ℕ)
+    → delivery_of service served ≡ Some c
+    → delivery_of service (served_step g now served) ≡ Some (with_step c g now)
 unfolding delivery_of served_step
-steps serves.Nothing c g now e = absurd (cc)
-steps (serves.Raf r) c g now e = steps_so r.serving.course c g now e
-steps (serves.Rcf r) c g now e = steps_so r.serving.course c g now e
+steps buffer.Raf (serves.Raf r) c g now e = steps_so r.serving.course c g now e
+steps buffer.Rcf (serves.Rcf r) c g now e = steps_so r.serving.course c g now e
+steps _ _ c g now e = absurd (cc)
 
 settles_so : (own c : Course) (said : Offer) → Some own ≡ Some c
     → Some (with_answer own (answer_of said)) ≡ Some (with_answer c (answer_of said))
 settles_so own c said e =
     ap (λ (x : Course). Some (with_answer x (answer_of said))) (some_is own c e)
 
-settles : (served : Served) (c : Course) (said : Offer) → delivery_of served ≡ Some c
-    → delivery_of (served_settled said served) ≡ Some (with_answer c (answer_of said))
+settles : (service : ReturnService) (served : Served) (c : Course) (said : Offer)
+    → delivery_of service served ≡ Some c
+    → delivery_of service (served_settled said served) ≡ Some (with_answer c (answer_of said))
 unfolding delivery_of served_settled
-settles serves.Nothing c said e = absurd (cc)
-settles (serves.Raf r) c said e = settles_so r.serving.course c said e
-settles (serves.Rcf r) c said e = settles_so r.serving.course c said e
+settles buffer.Raf (serves.Raf r) c said e = settles_so r.serving.course c said e
+settles buffer.Rcf (serves.Rcf r) c said e = settles_so r.serving.course c said e
+settles _ _ c said e = absurd (cc)
 
 drops_so : (own c : Course) → Some own ≡ Some c
     → discard_told (fate_by own stall) ≡ discard_told (fate_by c stall)
 drops_so own c e = ap (λ (x : Course). discard_told (fate_by x stall)) (some_is own c e)
 
-drops : (served : Served) (c : Course) → delivery_of served ≡ Some c
+drops : (service : ReturnService) (served : Served) (c : Course)
+    → delivery_of service served ≡ Some c
     → dropped_by served ≡ discard_told (fate_by c stall)
 unfolding delivery_of dropped_by
-drops serves.Nothing c e = absurd (cc)
-drops (serves.Raf r) c e = drops_so r.serving.course c e
-drops (serves.Rcf r) c e = drops_so r.serving.course c e
+drops buffer.Raf (serves.Raf r) c e = drops_so r.serving.course c e
+drops buffer.Rcf (serves.Rcf r) c e = drops_so r.serving.course c e
+drops _ _ c e = absurd (cc)
 
 report_leaves : (now : ℕ) (s : Serving) → (report_made now s).course ≡ s.course
 report_leaves now s = by (is_report_due s.schedule now)
@@ -149,20 +153,21 @@ reports_so : (now : ℕ) (s : Serving) (c : Course) → Some s.course ≡ Some c
     → Some (report_made now s).course ≡ Some c
 reports_so now s c e = ap (λ (x : Course). Some x) (report_leaves now s) ∙ e
 
-reports : (served : Served) (c : Course) (r : Replied) (now : ℕ) → delivery_of served ≡ Some c
-    → delivery_of (reported_by served r now).served ≡ Some c
+reports : (service : ReturnService) (served : Served) (c : Course) (r : Replied) (now : ℕ)
+    → delivery_of service served ≡ Some c
+    → delivery_of service (reported_by served r now).served ≡ Some c
 unfolding delivery_of reported_by
-reports serves.Nothing c r now e = absurd (cc)
-reports (serves.Raf raf) c r now e = reports_so now raf.serving c e
-reports (serves.Rcf rcf) c r now e = reports_so now rcf.serving c e
+reports buffer.Raf (serves.Raf raf) c r now e = reports_so now raf.serving c e
+reports buffer.Rcf (serves.Rcf rcf) c r now e = reports_so now rcf.serving c e
+reports _ _ c r now e = absurd (cc)
 
 -- the message that is due is that of the buffer that is to be offered
 abbrev is_spelled : Fixed → Bool
 is_spelled f = not (length (spelled f.message) == 0)
 
-record Fixes (c : Course) (f : Fixed) : Type 0 where
+record Fixes (service : ReturnService) (c : Course) (f : Fixed) : Type 0 where
   offers : is_spelled f ≡ true → IsTrue (is_offering c)
-  message : is_spelled f ≡ true → IsMessageOf (spelled f.message) (held_of c)
+  message : is_spelled f ≡ true → IsMessageOf service (spelled f.message) (held_of c)
   due : is_spelled f ≡ (is_offering c && fits_message (held_of c))
 
 some_octets : (body : List ℕ) → not (length (spelling (pdu body)) == 0) ≡ true
@@ -176,13 +181,12 @@ and_second a b e = grind arith
 
 due_fixes : (service : ReturnService) (c : Course) (due : Bool) (by : Option Signing) (numbers : ℕ)
     → (is_offering c && fits_message (held_of c)) ≡ due
-    → Fixes c
+    → Fixes service c
     (if due then buffer_fixed service by numbers (held_of c)
     else record { message = None; numbers = numbers })
 due_fixes service c true None numbers e = record {
   offers = λ h. and_first (is_offering c) (fits_message (held_of c)) e;
   message = λ h. record {
-    service = service;
     by = None;
     first = 0;
     octets_are = refl;
@@ -193,7 +197,6 @@ due_fixes service c true None numbers e = record {
 due_fixes service c true (Some by) numbers e = record {
   offers = λ h. and_first (is_offering c) (fits_message (held_of c)) e;
   message = λ h. record {
-    service = service;
     by = Some by;
     first = next_number numbers;
     octets_are = refl;
@@ -207,51 +210,56 @@ due_fixes service c false by numbers e =
     record { offers = λ h. absurd (cc); message = λ h. absurd (cc); due = sym e }
 
 fixes_so : (service : ReturnService) (own c : Course) (site : Site) (peer : Option Peer)
-    (numbers now : ℕ) → Some own ≡ Some c → Fixes c (buffer_due service own site peer numbers now)
+    (numbers now : ℕ) → Some own ≡ Some c
+    → Fixes service c (buffer_due service own site peer numbers now)
 fixes_so service own c site peer numbers now e =
-    subst (λ (x : Course). Fixes x (buffer_due service own site peer numbers now))
+    subst (λ (x : Course). Fixes service x (buffer_due service own site peer numbers now))
     (some_is own c e)
     (due_fixes service own (is_offering own && fits_message (held_of own))
     (item_signing site peer now) numbers refl)
 
-fixes : (served : Served) (c : Course) (site : Site) (peer : Option Peer) (numbers now : ℕ)
-    → delivery_of served ≡ Some c → Fixes c (fixed_by served site peer numbers now)
+fixes : (service : ReturnService) (served : Served) (c : Course) (site : Site) (peer : Option Peer)
+    (numbers now : ℕ)
+    → delivery_of service served ≡ Some c → Fixes service c (fixed_by served site peer numbers now)
 unfolding delivery_of fixed_by
-fixes serves.Nothing c site peer numbers now e = absurd (cc)
-fixes (serves.Raf r) c site peer numbers now e =
+fixes buffer.Raf (serves.Raf r) c site peer numbers now e =
     fixes_so buffer.Raf r.serving.course c site peer numbers now e
-fixes (serves.Rcf r) c site peer numbers now e =
+fixes buffer.Rcf (serves.Rcf r) c site peer numbers now e =
     fixes_so buffer.Rcf r.serving.course c site peer numbers now e
+fixes _ _ c site peer numbers now e = absurd (cc)
 
 -- an invocation that leaves a session serving leaves its delivery
-record Invokes (served : Served) (channels : List Gvcid) (i : Invocation) (r : Replied) (now : ℕ)
+record Invokes (service : ReturnService) (served : Served) (channels : List Gvcid) (i : Invocation)
+    (r : Replied) (now : ℕ)
     (c : Course) : Type 0 where
   runs : leaves_running i ≡ true
-  delivery : delivery_of (concluded_by served channels i r now).served ≡ Some c
+  delivery : delivery_of service (concluded_by served channels i r now).served ≡ Some c
 
-pub invoked_same : (a : Association) (i : Invocation) → after_judgement a (invocation_kind i) Pass ≡ a
+pub invoked_same : (a : Association) (i : Invocation)
+    → after_judgement a (invocation_kind i) Pass ≡ a
 invoked_same a i = grind arith
 
-invokes : (served : Served) (c : Course) (channels : List Gvcid) (site : Site) (b : Binding)
-    (i : Invocation) (r : Replied) (at now : ℕ) → delivery_of served ≡ Some c
+invokes : (service : ReturnService) (served : Served) (c : Course) (channels : List Gvcid)
+    (site : Site) (b : Binding)
+    (i : Invocation) (r : Replied) (at now : ℕ) → delivery_of service served ≡ Some c
     → judged site (state.Active b) (invocation i) at ≡ Pass
     → is_active (moved (state.Active b) (concluded_by served channels i r now).outcome) ≡ true
-    → Invokes served channels i r now c
+    → Invokes service served channels i r now c
 unfolding delivery_of concluded_by
-invokes serves.Nothing c channels site b i r at now e pass still = absurd (cc)
-invokes served c channels site b (raf_starts s) r at now e pass still = absurd (cc)
-invokes served c channels site b (rcf_starts s) r at now e pass still = absurd (cc)
-invokes served c channels site b no_invocation r at now e pass still = absurd (cc)
-invokes (serves.Raf raf) c channels site b (stops s) r at now e pass still = absurd (cc)
-invokes (serves.Rcf rcf) c channels site b (stops s) r at now e pass still = absurd (cc)
-invokes (serves.Raf raf) c channels site b (schedules s) r at now e pass still =
+invokes service served c channels site b (raf_starts s) r at now e pass still = absurd (cc)
+invokes service served c channels site b (rcf_starts s) r at now e pass still = absurd (cc)
+invokes service served c channels site b no_invocation r at now e pass still = absurd (cc)
+invokes buffer.Raf (serves.Raf raf) c channels site b (stops s) r at now e pass still = absurd (cc)
+invokes buffer.Rcf (serves.Rcf rcf) c channels site b (stops s) r at now e pass still = absurd (cc)
+invokes buffer.Raf (serves.Raf raf) c channels site b (schedules s) r at now e pass still =
     record { runs = refl; delivery = e }
-invokes (serves.Rcf rcf) c channels site b (schedules s) r at now e pass still =
+invokes buffer.Rcf (serves.Rcf rcf) c channels site b (schedules s) r at now e pass still =
     record { runs = refl; delivery = e }
-invokes (serves.Raf raf) c channels site b (gets g) r at now e pass still =
+invokes buffer.Raf (serves.Raf raf) c channels site b (gets g) r at now e pass still =
     record { runs = refl; delivery = e }
-invokes (serves.Rcf rcf) c channels site b (gets g) r at now e pass still =
+invokes buffer.Rcf (serves.Rcf rcf) c channels site b (gets g) r at now e pass still =
     record { runs = refl; delivery = e }
+invokes _ _ c channels site b i r at now e pass still = absurd (cc)
 
 -- ---- a delivery at the steps of a round
 
@@ -361,12 +369,13 @@ same_listened s waited heard =
     (same_waited t waited))
     (same_heard u heard)
 
-pub delivers_same : (s t : Standing) (c : Course) → Same s t → Delivers s c → Delivers t c
-delivers_same s t c h d = record {
-  delivery = ap delivery_of h.service ∙ d.delivery;
+pub delivers_same : (service : ReturnService) (s t : Standing) (c : Course) → Same s t
+    → Delivers service s c → Delivers service t c
+delivers_same service s t c h d = record {
+  delivery = ap (delivery_of service) h.service ∙ d.delivery;
   offers = λ has. d.offers (has_same s t h.outgoing has);
   message = λ has.
-      subst (λ (x : List ℕ). IsMessageOf x (held_of c)) (sym h.outgoing)
+      subst (λ (x : List ℕ). IsMessageOf service x (held_of c)) (sym h.outgoing)
       (d.message (has_same s t h.outgoing has));
 }
 
@@ -374,8 +383,8 @@ delivers_same s t c h d = record {
 
 -- A message, or none, leaves what a session that serves behind it makes of its delivery; and the
 -- round wanted what the delivery wants, unless the dead timer ran out.
-record Goes (u v : Standing) (c : Course) (want : Want) : Type 0 where
-  delivery : delivery_of v.service ≡ Some c
+record Goes (service : ReturnService) (u v : Standing) (c : Course) (want : Want) : Type 0 where
+  delivery : delivery_of service v.service ≡ Some c
   outgoing : v.outgoing ≡ u.outgoing
   pulse : pulse_of v ≡ pulse_of u
   moment : v.moment ≡ u.moment
@@ -392,12 +401,13 @@ serving_active s e = and_second (is_going s.course) (is_active s.association) e
 pub not_serving : (v : Standing) → is_going v.course ≡ false → is_serving v ≡ true → ⊥
 not_serving v still e = absurd (cc (serving_going v e, still))
 
-stay_goes : (u v : Standing) (c : Course) (stays : Bool) (i : Inquiry) → stays ≡ true
-    → delivery_of v.service ≡ Some c → v.outgoing ≡ u.outgoing → pulse_of v ≡ pulse_of u
+stay_goes : (service : ReturnService) (u v : Standing) (c : Course) (stays : Bool) (i : Inquiry)
+    → stays ≡ true
+    → delivery_of service v.service ≡ Some c → v.outgoing ≡ u.outgoing → pulse_of v ≡ pulse_of u
     → v.moment ≡ u.moment → v.arrival ≡ u.arrival
-    → Goes u v c (with_want stays u u.moment i).want
-stay_goes u v c false i e delivery outgoing pulse moment arrival = absurd (cc)
-stay_goes u v c true i e delivery outgoing pulse moment arrival = record {
+    → Goes service u v c (with_want stays u u.moment i).want
+stay_goes service u v c false i e delivery outgoing pulse moment arrival = absurd (cc)
+stay_goes service u v c true i e delivery outgoing pulse moment arrival = record {
   delivery = delivery;
   outgoing = outgoing;
   pulse = pulse;
@@ -471,8 +481,9 @@ if_active : (b : Bool) (xs ys : List ℕ) → b ≡ true → (if b then xs else 
 if_active true xs ys e = refl
 if_active false xs ys e = absurd (cc)
 
-module _ (site : Site) (u : Standing) (c : Course) (b : Binding)
-    (active : u.association ≡ state.Active b) (delivery : delivery_of u.service ≡ Some c) where
+module _ (service : ReturnService) (site : Site) (u : Standing) (c : Course) (b : Binding)
+    (active : u.association ≡ state.Active b)
+    (delivery : delivery_of service u.service ≡ Some c) where
   abbrev judged_so : UserContent → Step → Type 0
   judged_so said st = judged site u.association said u.moment ≡ st
 
@@ -482,7 +493,7 @@ module _ (site : Site) (u : Standing) (c : Course) (b : Binding)
 
   invocation_goes : (i : Invocation) (r : Replied) → judged_so (invocation i) Pass
       → is_serving (after_passing site (invoked u (invocation i) Pass) (invocation i) r) ≡ true
-      → Goes u (after_passing site (invoked u (invocation i) Pass) (invocation i) r) c
+      → Goes service u (after_passing site (invoked u (invocation i) Pass) (invocation i) r) c
       (with_want (leaves_running i) u u.moment (said_ask site u.service (invocation i) Pass)).want
   invocation_goes i r pass serving =
       let t = invoked u (invocation i) Pass in
@@ -496,10 +507,10 @@ module _ (site : Site) (u : Standing) (c : Course) (b : Binding)
       let still : is_active (moved v.association done.outcome) ≡ true =
       serving_active (record now { service = done.served }) serving in
       let kept =
-      invokes u.service c channels site b i r u.moment u.moment delivery
+      invokes service u.service c channels site b i r u.moment u.moment delivery
       (at_active (invocation i) pass)
       (sym (ap (λ (a : Association). is_active (moved a done.outcome)) same) ∙ still) in
-      stay_goes u (record now { service = done.served }) c (leaves_running i)
+      stay_goes service u (record now { service = done.served }) c (leaves_running i)
       (said_ask site u.service (invocation i) Pass) kept.runs
       kept.delivery
       (if_active (is_active (moved v.association done.outcome)) v.outgoing [] still
@@ -510,12 +521,12 @@ module _ (site : Site) (u : Standing) (c : Course) (b : Binding)
   -- a message that passed
   passing_goes : (said : UserContent) (r : Replied) → judged_so said Pass
       → is_serving (after_passing site (invoked u said Pass) said r) ≡ true
-      → Goes u (after_passing site (invoked u said Pass) said r) c
+      → Goes service u (after_passing site (invoked u said Pass) said r) c
       (with_want (stays_running said Pass) u u.moment (said_ask site u.service said Pass)).want
   passing_goes (context interval factor) r pass serving =
       absurd (context_not site b interval factor u.moment (at_active (context interval factor) pass))
   passing_goes heartbeat r pass serving =
-      stay_goes u (after_passing site (invoked u heartbeat Pass) heartbeat r) c true
+      stay_goes service u (after_passing site (invoked u heartbeat Pass) heartbeat r) c true
       (said_ask site u.service heartbeat Pass) refl delivery refl refl refl refl
   passing_goes (bind x) r pass serving = absurd (bind_not site b x u.moment (at_active (bind x) pass))
   passing_goes (unbind x) r pass serving =
@@ -542,7 +553,7 @@ module _ (site : Site) (u : Standing) (c : Course) (b : Binding)
       (if lost then aborted (invoked u said st) OtherReason
       else concluded site (invoked u said st) said st r)
       ≡ true
-      → Goes u
+      → Goes service u
       (if lost then aborted (invoked u said st) OtherReason
       else concluded site (invoked u said st) said st r) c
       (with_want (stays_running said st) u u.moment (said_ask site u.service said st)).want
@@ -555,17 +566,17 @@ module _ (site : Site) (u : Standing) (c : Course) (b : Binding)
       absurd (not_serving (concluded site (invoked u said (Abort d)) said (Abort d) r) refl serving)
 
   next_goes : (next : Next) (r : Replied) → is_serving (with_next site u next r) ≡ true
-      → Goes u (with_next site u next r) c (next_ask site u next u.moment).want
+      → Goes service u (with_next site u next r) c (next_ask site u next u.moment).want
   next_goes (Err fault) r serving =
       absurd (not_serving (with_next site u (Err fault) r) refl serving)
   next_goes (Ok None) r serving = by (has_closed u.arrival) serving
     where
       by : (closed : Bool)
           → is_serving (if closed then ended_by u PeerClosed else u) ≡ true
-          → Goes u (if closed then ended_by u PeerClosed else u) c
+          → Goes service u (if closed then ended_by u PeerClosed else u) c
           (with_want (not closed) u u.moment (only_asks ask.Nothing)).want
       by true e = absurd (not_serving (ended_by u PeerClosed) refl e)
-      by false e = stay_goes u u c true (only_asks ask.Nothing) refl delivery refl refl refl refl
+      by false e = stay_goes service u u c true (only_asks ask.Nothing) refl delivery refl refl refl refl
   next_goes (Ok (Some message)) r serving =
       let said = said_to site u message in
       let st = judged site u.association said u.moment in
@@ -573,12 +584,12 @@ module _ (site : Site) (u : Standing) (c : Course) (b : Binding)
 
   acted_goes : (next : Next) (r : Replied) → is_serving u ≡ true
       → is_serving (acted site u next r) ≡ true
-      → Goes u (acted site u next r) c (inquiry_entered site u next).want
+      → Goes service u (acted site u next r) c (inquiry_entered site u next).want
   acted_goes next r before serving = by (is_idle u) refl serving
     where
       by : (idle : Bool) → is_idle u ≡ idle
           → is_serving (if idle then u else with_next site u next r) ≡ true
-          → Goes u (if idle then u else with_next site u next r) c
+          → Goes service u (if idle then u else with_next site u next r) c
           (if idle then idle_ask u else next_ask site u next u.moment).want
       by true e serving = record {
         delivery = delivery;
@@ -615,8 +626,8 @@ untimed v serving = by (is_live v.course && is_dead (pulse_of v) v.moment) refl 
 
 -- ---- what is told unasked
 
-pub record Tells (s t : Standing) (c : Course) : Type 0 where
-  pub delivery : delivery_of t.service ≡ Some c
+pub record Tells (service : ReturnService) (s t : Standing) (c : Course) : Type 0 where
+  pub delivery : delivery_of service t.service ≡ Some c
   pub outgoing : t.outgoing ≡ s.outgoing
 
 more_service : (site : Site) (s : Standing) (message : Option Message)
@@ -629,48 +640,55 @@ more_outgoing : (site : Site) (s : Standing) (message : Option Message)
 more_outgoing site s None = refl
 more_outgoing site s (Some message) = refl
 
-if_tells : (b : Bool) (s t : Standing) (c : Course) → delivery_of s.service ≡ Some c → Tells s t c
-    → Tells s (if b then t else s) c
-if_tells true s t c d h = h
-if_tells false s t c d h = record { delivery = d; outgoing = refl }
+if_tells : (service : ReturnService) (b : Bool) (s t : Standing) (c : Course)
+    → delivery_of service s.service ≡ Some c → Tells service s t c
+    → Tells service s (if b then t else s) c
+if_tells service true s t c d h = h
+if_tells service false s t c d h = record { delivery = d; outgoing = refl }
 
-report_tells : (site : Site) (s : Standing) (r : Replied) (c : Course)
-    → delivery_of s.service ≡ Some c → Tells s (with_report site s r) c
-report_tells site s r c d =
+report_tells : (service : ReturnService) (site : Site) (s : Standing) (r : Replied) (c : Course)
+    → delivery_of service s.service ≡ Some c → Tells service s (with_report site s r) c
+report_tells service site s r c d =
     let told = reported_by s.service r s.moment in
     let t : Standing = record s { service = told.served } in
-    if_tells (may_tell s) s (reported site s told) c d (record {
+    if_tells service (may_tell s) s (reported site s told) c d (record {
       delivery =
-          ap delivery_of (more_service site t told.report) ∙ reports s.service c r s.moment d;
+          ap (delivery_of service) (more_service site t told.report)
+          ∙ reports service s.service c r s.moment d;
       outgoing = more_outgoing site t told.report;
     })
 
-noticed_tells : (site : Site) (s : Standing) (notice : Option Notice) (c : Course)
-    → delivery_of s.service ≡ Some c → Tells s (noticed site s notice) c
-noticed_tells site s None c d = record { delivery = d; outgoing = refl }
-noticed_tells site s (Some notice) c d = record {
-  delivery = ap delivery_of (more_service site s (told_by_service s.service notice)) ∙ d;
+noticed_tells : (service : ReturnService) (site : Site) (s : Standing) (notice : Option Notice)
+    (c : Course)
+    → delivery_of service s.service ≡ Some c → Tells service s (noticed site s notice) c
+noticed_tells service site s None c d = record { delivery = d; outgoing = refl }
+noticed_tells service site s (Some notice) c d = record {
+  delivery = ap (delivery_of service) (more_service site s (told_by_service s.service notice)) ∙ d;
   outgoing = more_outgoing site s (told_by_service s.service notice);
 }
 
-notice_tells : (site : Site) (s : Standing) (notice : Option Notice) (c : Course)
-    → delivery_of s.service ≡ Some c → Tells s (with_notice site s notice) c
-notice_tells site s notice c d =
-    if_tells (may_tell s) s (noticed site s notice) c d (noticed_tells site s notice c d)
+notice_tells : (service : ReturnService) (site : Site) (s : Standing) (notice : Option Notice)
+    (c : Course)
+    → delivery_of service s.service ≡ Some c → Tells service s (with_notice site s notice) c
+notice_tells service site s notice c d =
+    if_tells service (may_tell s) s (noticed site s notice) c d
+    (noticed_tells service site s notice c d)
 
-beat_tells : (s : Standing) (c : Course) → delivery_of s.service ≡ Some c
-    → Tells s (with_heartbeat s) c
-beat_tells s c d =
-    if_tells (is_live s.course && not (has_block s) && is_due (pulse_of s) s.moment) s
+beat_tells : (service : ReturnService) (s : Standing) (c : Course)
+    → delivery_of service s.service ≡ Some c
+    → Tells service s (with_heartbeat s) c
+beat_tells service s c d =
+    if_tells service (is_live s.course && not (has_block s) && is_due (pulse_of s) s.moment) s
     (record s { block = spelling beat }) c d (record { delivery = d; outgoing = refl })
 
-pub unasked_tells : (site : Site) (r : Replied) (s : Standing) (c : Course)
-    → delivery_of s.service ≡ Some c → Tells s (unasked site r s) c
-unasked_tells site r s c d =
-    let one = report_tells site s r c d in
+pub unasked_tells : (service : ReturnService) (site : Site) (r : Replied) (s : Standing)
+    (c : Course)
+    → delivery_of service s.service ≡ Some c → Tells service s (unasked site r s) c
+unasked_tells service site r s c d =
+    let one = report_tells service site s r c d in
     let t = with_report site s r in
-    let two = notice_tells site t r.notice c one.delivery in
-    let three = beat_tells (with_notice site t r.notice) c two.delivery in
+    let two = notice_tells service site t r.notice c one.delivery in
+    let three = beat_tells service (with_notice site t r.notice) c two.delivery in
     record {
       delivery = three.delivery;
       outgoing = three.outgoing ∙ two.outgoing ∙ one.outgoing;
@@ -678,28 +696,30 @@ unasked_tells site r s c d =
 
 -- ---- the service's own step
 
-fixed_delivers : (site : Site) (s : Standing) (c : Course) → Delivers s c
-    → Delivers (fixed site s) c
-fixed_delivers site s c d =
+fixed_delivers : (service : ReturnService) (site : Site) (s : Standing) (c : Course)
+    → Delivers service s c
+    → Delivers service (fixed site s) c
+fixed_delivers service site s c d =
     by (has_outgoing s) (fixed_by s.service site (bound_peer site s) s.numbers s.moment)
-    (fixes s.service c site (bound_peer site s) s.numbers s.moment d.delivery)
+    (fixes service s.service c site (bound_peer site s) s.numbers s.moment d.delivery)
   where
-    by : (has : Bool) (f : Fixed) → Fixes c f
-        → Delivers (if has then s else with_fixed s f) c
+    by : (has : Bool) (f : Fixed) → Fixes service c f
+        → Delivers service (if has then s else with_fixed s f) c
     by true f h = d
     by false f h =
         record { delivery = d.delivery; offers = h.offers; message = h.message }
 
-stepped_delivers : (site : Site) (g : Glimpse) (now : ℕ) (s : Standing) (c : Course)
-    → s.moment ≡ now → Delivers s c → Delivers (stepped_by g s) (with_step c g now)
-stepped_delivers site g now s c at d = record {
+stepped_delivers : (service : ReturnService) (site : Site) (g : Glimpse) (now : ℕ) (s : Standing)
+    (c : Course)
+    → s.moment ≡ now → Delivers service s c → Delivers service (stepped_by g s) (with_step c g now)
+stepped_delivers service site g now s c at d = record {
   delivery =
-      steps s.service c g s.moment d.delivery ∙ ap (λ (n : ℕ). Some (with_step c g n)) at;
+      steps service s.service c g s.moment d.delivery ∙ ap (λ (n : ℕ). Some (with_step c g n)) at;
   offers = λ has.
       subst (λ (x : Course). IsTrue (is_offering x)) (sym (stays_fixed c g now (d.offers has)))
       (d.offers has);
   message = λ has.
-      subst (λ (x : Course). IsMessageOf s.outgoing (held_of x))
+      subst (λ (x : Course). IsMessageOf service s.outgoing (held_of x))
       (sym (stays_fixed c g now (d.offers has))) (d.message has);
 }
 
@@ -707,13 +727,14 @@ stepped_delivers site g now s c at d = record {
 both_true : (a b : Bool) → a ≡ true → b ≡ true → true ≡ (a && b)
 both_true a b e f = grind arith
 
-fixed_due : (site : Site) (s : Standing) (c : Course) → Delivers s c
+fixed_due : (service : ReturnService) (site : Site) (s : Standing) (c : Course)
+    → Delivers service s c
     → has_outgoing (fixed site s) ≡ (is_offering c && fits_message (held_of c))
-fixed_due site s c d =
+fixed_due service site s c d =
     by (has_outgoing s) refl (fixed_by s.service site (bound_peer site s) s.numbers s.moment)
-    (fixes s.service c site (bound_peer site s) s.numbers s.moment d.delivery)
+    (fixes service s.service c site (bound_peer site s) s.numbers s.moment d.delivery)
   where
-    by : (has : Bool) → has_outgoing s ≡ has → (f : Fixed) → Fixes c f
+    by : (has : Bool) → has_outgoing s ≡ has → (f : Fixed) → Fixes service c f
         → has_outgoing (if has then s else with_fixed s f)
         ≡ (is_offering c && fits_message (held_of c))
     by true e f h =
@@ -738,11 +759,12 @@ if_no true s t e = absurd (cc)
 if_no false s t e = refl
 
 -- the step of a round, by whether a block of an earlier round waits
-record StepDelivers (blocked : Bool) (site : Site) (s : Standing) (next : Next) (now : ℕ) (r : Replied)
+record StepDelivers (service : ReturnService) (blocked : Bool) (site : Site) (s : Standing)
+    (next : Next) (now : ℕ) (r : Replied)
     (c : Course) : Type 0 where
-  waits : blocked ≡ true → Delivers (after_step site s next now r) c
+  waits : blocked ≡ true → Delivers service (after_step site s next now r) c
   free : blocked ≡ false
-      → Delivers (after_step site s next now r) (with_step c r.glimpse now)
+      → Delivers service (after_step site s next now r) (with_step c r.glimpse now)
   due : blocked ≡ false
       → has_outgoing (after_step site s next now r)
       ≡ (is_offering (with_step c r.glimpse now) && fits_message (held_of (with_step c r.glimpse now)))
@@ -762,11 +784,12 @@ alive_want : (u : Standing) (dead : Bool) (w : Want) → dead ≡ false
 alive_want u true w e = absurd (cc)
 alive_want u false w e = refl
 
-step_delivers : ServiceLeaves → (site : Site) (s : Standing) (next : Next) (now : ℕ) (r : Replied)
-    (c : Course) → is_serving s ≡ true → Delivers s c
+step_delivers : (service : ReturnService) → ServiceLeaves → (site : Site) (s : Standing)
+    (next : Next) (now : ℕ) (r : Replied)
+    (c : Course) → is_serving s ≡ true → Delivers service s c
     → is_serving (after_step site s next now r) ≡ true
-    → StepDelivers (is_blocked s.arrival) site s next now r c
-step_delivers leaves site s next now r c before d serving =
+    → StepDelivers service (is_blocked s.arrival) site s next now r c
+step_delivers service leaves site s next now r c before d serving =
     let u = at_moment s now in
     let v = acted site u next r in
     let w = timed v in
@@ -778,9 +801,10 @@ step_delivers leaves site s next now r c before d serving =
     let alive = untimed v serving_w in
     let serving_v = subst (λ (y : Standing). is_serving y ≡ true) alive.0 serving_w in
     let bound = active_is s.association (serving_active s before) in
-    let goes = acted_goes site u c bound.binding bound.so d.delivery next r before serving_v in
+    let goes = acted_goes service site u c bound.binding bound.so d.delivery next r before serving_v in
     let tells =
-    unasked_tells site r w c (ap (λ (y : Standing). delivery_of y.service) alive.0 ∙ goes.delivery)
+    unasked_tells service site r w c
+    (ap (λ (y : Standing). delivery_of service y.service) alive.0 ∙ goes.delivery)
     in
     let outgoing : x.outgoing ≡ s.outgoing =
     tells.outgoing ∙ ap (λ (y : Standing). y.outgoing) alive.0 ∙ goes.outgoing in
@@ -788,40 +812,40 @@ step_delivers leaves site s next now r c before d serving =
     told.moment ∙ ap (λ (y : Standing). y.moment) alive.0 ∙ goes.moment in
     let arrival : x.arrival ≡ s.arrival =
     told.arrival ∙ ap (λ (y : Standing). y.arrival) alive.0 ∙ goes.arrival in
-    let dx : Delivers x c =
+    let dx : Delivers service x c =
     record {
       delivery = tells.delivery;
       offers = λ has. d.offers (has_same s x outgoing has);
       message = λ has.
-          subst (λ (y : List ℕ). IsMessageOf y (held_of c)) (sym outgoing)
+          subst (λ (y : List ℕ). IsMessageOf service y (held_of c)) (sym outgoing)
           (d.message (has_same s x outgoing has));
     } in
     let serving_x =
     both_serving x (after_step site s next now r) (same.course ∙ sym told.course) (same.association ∙ sym told.association) serving
     in
-    let dz = stepped_delivers site r.glimpse now x c moment dx in
+    let dz = stepped_delivers service site r.glimpse now x c moment dx in
     record {
       waits = λ blocked.
-          subst (λ (y : Standing). Delivers y c)
+          subst (λ (y : Standing). Delivers service y c)
           (sym
           (if_no (may_serve was x) (fixed site (stepped_by r.glimpse x)) x
           (serves_blocked was (is_active x.association) (is_going x.course) (is_blocked x.arrival)
           (ap is_blocked arrival ∙ blocked)))) dx;
       free = λ clear.
-          subst (λ (y : Standing). Delivers y (with_step c r.glimpse now))
+          subst (λ (y : Standing). Delivers service y (with_step c r.glimpse now))
           (sym
           (if_yes (may_serve was x) (fixed site (stepped_by r.glimpse x)) x
           (serves_free was (is_active x.association) (is_going x.course) (is_blocked x.arrival)
           (serving_active s before) (serving_active x serving_x) (serving_going x serving_x)
           (ap is_blocked arrival ∙ clear))))
-          (fixed_delivers site (stepped_by r.glimpse x) (with_step c r.glimpse now) dz);
+          (fixed_delivers service site (stepped_by r.glimpse x) (with_step c r.glimpse now) dz);
       due = λ clear.
           ap has_outgoing
           (if_yes (may_serve was x) (fixed site (stepped_by r.glimpse x)) x
           (serves_free was (is_active x.association) (is_going x.course) (is_blocked x.arrival)
           (serving_active s before) (serving_active x serving_x) (serving_going x serving_x)
           (ap is_blocked arrival ∙ clear)))
-          ∙ fixed_due site (stepped_by r.glimpse x) (with_step c r.glimpse now) dz;
+          ∙ fixed_due service site (stepped_by r.glimpse x) (with_step c r.glimpse now) dz;
       wanted = λ clear.
           goes.wants_it clear
           ∙ alive_want u (is_dead (pulse_of u) now) (want_served u.service)
@@ -829,15 +853,16 @@ step_delivers leaves site s next now r c before d serving =
           (ap (λ (p : Pulse). is_dead p v.moment) goes.pulse
           ∙ ap (λ (n : ℕ). is_dead (pulse_of u) n) goes.moment)
           ∙ alive.1)
-          ∙ wants u.service c d.delivery;
+          ∙ wants service u.service c d.delivery;
       arrival = same.arrival ∙ ap (λ (y : Standing). y.arrival) alive.0 ∙ goes.arrival;
     }
 
 -- ---- the offer of its message
 
-record Sends (s : Standing) (c : Course) (sent : Option Offer) (t : Standing) : Type 0 where
-  now : Delivers t (answered_by (option_map answer_of sent) c)
-  handed : AreMessagesOf (blocks_in (send_calls s sent))
+record Sends (service : ReturnService) (s : Standing) (c : Course) (sent : Option Offer)
+    (t : Standing) : Type 0 where
+  now : Delivers service t (answered_by (option_map answer_of sent) c)
+  handed : AreMessagesOf service (blocks_in (send_calls s sent))
       (handed_where (option_map answer_of sent) c)
   dropped : t.dropped ≡ discard_told (done_where (option_map answer_of sent) c)
 
@@ -851,29 +876,33 @@ none_discarded c = by c.run
     by None = refl
     by (Some r) = whole_discards r
 
-whole_handed : (offers : Bool) (octets : List ℕ) (items : List ToldItem) → offers ≡ true
-    → IsMessageOf octets items
-    → AreMessagesOf (octets ∷ []) (if offers then items ∷ [] else [])
-whole_handed true octets items e message = (message, tt)
-whole_handed false octets items e message = absurd (cc)
+whole_handed : (service : ReturnService) (offers : Bool) (octets : List ℕ) (items : List ToldItem)
+    → offers ≡ true
+    → IsMessageOf service octets items
+    → AreMessagesOf service (octets ∷ []) (if offers then items ∷ [] else [])
+whole_handed service true octets items e message = (message, tt)
+whole_handed service false octets items e message = absurd (cc)
 
-none_handed : (offers : Bool) → AreMessagesOf [] (if offers then [] else [])
-none_handed true = tt
-none_handed false = tt
+none_handed : (service : ReturnService) (offers : Bool)
+    → AreMessagesOf service [] (if offers then [] else [])
+none_handed service true = tt
+none_handed service false = tt
 
-stall_sends : (s : Standing) (c : Course) (items : Option ℕ) → items ≡ discard_told (fate_by c stall)
-    → has_outgoing s ≡ true → Delivers s c
-    → Delivers (settled Stalled (after_stall s items)) (with_answer c stall)
-stall_sends s c None is has d =
+stall_sends : (service : ReturnService) (s : Standing) (c : Course) (items : Option ℕ)
+    → items ≡ discard_told (fate_by c stall)
+    → has_outgoing s ≡ true → Delivers service s c
+    → Delivers service (settled Stalled (after_stall s items)) (with_answer c stall)
+stall_sends service s c None is has d =
     let same : with_answer c stall ≡ c = stays_kept c (d.offers has) (sym is) in
     record {
-      delivery = settles s.service c Stalled d.delivery;
+      delivery = settles service s.service c Stalled d.delivery;
       offers = λ more. subst (λ (x : Course). IsTrue (is_offering x)) (sym same) (d.offers more);
       message = λ more.
-          subst (λ (x : Course). IsMessageOf s.outgoing (held_of x)) (sym same) (d.message more);
+          subst (λ (x : Course). IsMessageOf service s.outgoing (held_of x)) (sym same)
+          (d.message more);
     }
-stall_sends s c (Some items) is has d = record {
-  delivery = settles s.service c Stalled d.delivery;
+stall_sends service s c (Some items) is has d = record {
+  delivery = settles service s.service c Stalled d.delivery;
   offers = λ more. absurd (cc);
   message = λ more. absurd (cc);
 }
@@ -883,33 +912,34 @@ stall_dropped : (s : Standing) (items : Option ℕ)
 stall_dropped s None = refl
 stall_dropped s (Some items) = refl
 
-sends_by : (s : Standing) (c : Course) (sent : Option Offer) → Delivers s c
+sends_by : (service : ReturnService) (s : Standing) (c : Course) (sent : Option Offer)
+    → Delivers service s c
     → (is_some sent ≡ true → has_outgoing s ≡ true) → is_serving (standing_sent s sent) ≡ true
-    → Sends s c sent (standing_sent s sent)
-sends_by s c None d has serving = record {
+    → Sends service s c sent (standing_sent s sent)
+sends_by service s c None d has serving = record {
   now = record { delivery = d.delivery; offers = d.offers; message = d.message };
   handed = tt;
   dropped = refl;
 }
-sends_by s c (Some Whole) d has serving = record {
+sends_by service s c (Some Whole) d has serving = record {
   now = record {
-    delivery = settles s.service c Whole d.delivery;
+    delivery = settles service s.service c Whole d.delivery;
     offers = λ more. absurd (cc);
     message = λ more. absurd (cc);
   };
   handed =
-      whole_handed (is_offering c) s.outgoing (held_of c) (d.offers (has refl))
+      whole_handed service (is_offering c) s.outgoing (held_of c) (d.offers (has refl))
       (d.message (has refl));
   dropped = sym (none_discarded c);
 }
-sends_by s c (Some Stalled) d has serving =
-    let is = drops s.service c d.delivery in
+sends_by service s c (Some Stalled) d has serving =
+    let is = drops service s.service c d.delivery in
     record {
-      now = stall_sends s c (dropped_by s.service) is (has refl) d;
-      handed = none_handed (is_offering c);
+      now = stall_sends service s c (dropped_by s.service) is (has refl) d;
+      handed = none_handed service (is_offering c);
       dropped = stall_dropped s (dropped_by s.service) ∙ is;
     }
-sends_by s c (Some Refused) d has serving = absurd (not_serving (standing_sent s (Some Refused)) refl serving)
+sends_by service s c (Some Refused) d has serving = absurd (not_serving (standing_sent s (Some Refused)) refl serving)
 
 -- ---- a round
 
@@ -976,17 +1006,21 @@ spoke_arrival s (Some Whole) = refl
 spoke_arrival s (Some Stalled) = refl
 spoke_arrival s (Some Refused) = refl
 
-pub ended_delivers : (s : Standing) (c : Course) → Delivers s c → Delivers (round_ended s) c
-ended_delivers s c d = record { delivery = d.delivery; offers = d.offers; message = d.message }
+pub ended_delivers : (service : ReturnService) (s : Standing) (c : Course) → Delivers service s c
+    → Delivers service (round_ended s) c
+ended_delivers service s c d =
+    record { delivery = d.delivery; offers = d.offers; message = d.message }
 
 -- what a round did with a delivery, behind a listen that left it so: a visit
-record Visits (entries : List Entry) (from : ℕ) (site : Site) (t : State) (told : BookAnswer)
+record Visits (service : ReturnService) (entries : List Entry) (from : ℕ) (site : Site) (t : State)
+    (told : BookAnswer)
     (spoke sent : Option Offer) (c : Course) (visit : Visit) : Type 0 where
   look : IsLook entries c visit
   goes : goes_on (round_of visit).link ≡ true
   front : told.answer.glimpse.front ≡ front_of visit
-  now : Delivers (spoken_state (stepped site t (Some told)) spoke sent).standing (visited visit c)
-  handed : AreMessagesOf
+  now : Delivers service (spoken_state (stepped site t (Some told)) spoke sent).standing
+      (visited visit c)
+  handed : AreMessagesOf service
       (blocks_in (send_calls (standing_spoke (stepped site t (Some told)).standing spoke) sent))
       (handed_in visit c)
   dropped : (spoken_state (stepped site t (Some told)) spoke sent).standing.dropped
@@ -1009,263 +1043,264 @@ listened_serving s t h going e =
     both : (a b : Bool) → a ≡ true → b ≡ true → (a && b) ≡ true
     both a b e f = grind arith
 
-module _ (leaves : ServiceLeaves) (entries : List Entry) (site : Site) where
-  step_going : (s : Standing) (next : Next) (now : ℕ) (r : Replied)
-      → is_going (after_step site s next now r).course ≡ true → is_going s.course ≡ true
-  step_going s next now r e =
-      let u = at_moment s now in
-      let v = acted site u next r in
-      let same = leaves site (is_active s.association) r.glimpse r (timed v) in
-      busy_going u (with_next site u next r)
-      (timed_going v (sym (ap is_going same.course) ∙ e))
+module _ (service : ReturnService) (leaves : ServiceLeaves) (entries : List Entry) (site : Site)
+  where
+    step_going : (s : Standing) (next : Next) (now : ℕ) (r : Replied)
+        → is_going (after_step site s next now r).course ≡ true → is_going s.course ≡ true
+    step_going s next now r e =
+        let u = at_moment s now in
+        let v = acted site u next r in
+        let same = leaves site (is_active s.association) r.glimpse r (timed v) in
+        busy_going u (with_next site u next r)
+        (timed_going v (sym (ap is_going same.course) ∙ e))
 
-  told_going : (t : State) (told : Option BookAnswer)
-      → is_going (stepped site t told).standing.course ≡ true → is_going t.standing.course ≡ true
-  told_going t None e = e
-  told_going t (Some told) e =
-      step_going t.standing (next_of t) told.moment (reply_in told.answer) e
+    told_going : (t : State) (told : Option BookAnswer)
+        → is_going (stepped site t told).standing.course ≡ true → is_going t.standing.course ≡ true
+    told_going t None e = e
+    told_going t (Some told) e =
+        step_going t.standing (next_of t) told.moment (reply_in told.answer) e
 
-  pub going_back : (t : State) (r : Round)
-      → is_serving (spoken_state (stepped site t r.told) r.spoke r.sent).standing ≡ true
-      → is_going t.standing.course ≡ true
-  going_back t r serving =
-      let y = (stepped site t r.told).standing in
-      let z = standing_spoke y r.spoke in
-      told_going t r.told
-      (serving_going y
-      (same_serving y z (same_spoke y r.spoke)
-      (sent_serving z r.sent (ended_serving (standing_sent z r.sent) serving))))
+    pub going_back : (t : State) (r : Round)
+        → is_serving (spoken_state (stepped site t r.told) r.spoke r.sent).standing ≡ true
+        → is_going t.standing.course ≡ true
+    going_back t r serving =
+        let y = (stepped site t r.told).standing in
+        let z = standing_spoke y r.spoke in
+        told_going t r.told
+        (serving_going y
+        (same_serving y z (same_spoke y r.spoke)
+        (sent_serving z r.sent (ended_serving (standing_sent z r.sent) serving))))
 
-  module _ (from : ℕ) (t : State) (told : BookAnswer) (spoke sent : Option Offer) (c : Course)
-      (before : is_serving t.standing ≡ true) (d : Delivers t.standing c)
-      (look : IsLookAt entries from site t (Some told))
-      (sends : is_some sent
-      ≡ may_send (standing_spoke (stepped site t (Some told)).standing spoke))
-      (serving : is_serving (spoken_state (stepped site t (Some told)) spoke sent).standing ≡ true)
-    where
-      after : Standing
-      after = (stepped site t (Some told)).standing
+    module _ (from : ℕ) (t : State) (told : BookAnswer) (spoke sent : Option Offer) (c : Course)
+        (before : is_serving t.standing ≡ true) (d : Delivers service t.standing c)
+        (look : IsLookAt entries from site t (Some told))
+        (sends : is_some sent
+        ≡ may_send (standing_spoke (stepped site t (Some told)).standing spoke))
+        (serving : is_serving (spoken_state (stepped site t (Some told)) spoke sent).standing ≡ true)
+      where
+        after : Standing
+        after = (stepped site t (Some told)).standing
 
-      said : Standing
-      said = standing_spoke (stepped site t (Some told)).standing spoke
+        said : Standing
+        said = standing_spoke (stepped site t (Some told)).standing spoke
 
-      serving_sent : is_serving
-          (standing_sent (standing_spoke (stepped site t (Some told)).standing spoke) sent) ≡ true
-      serving_sent =
-          ended_serving
-          (standing_sent (standing_spoke (stepped site t (Some told)).standing spoke) sent) serving
+        serving_sent : is_serving
+            (standing_sent (standing_spoke (stepped site t (Some told)).standing spoke) sent) ≡ true
+        serving_sent =
+            ended_serving
+            (standing_sent (standing_spoke (stepped site t (Some told)).standing spoke) sent) serving
 
-      serving_after : is_serving (stepped site t (Some told)).standing ≡ true
-      serving_after =
-          let y = (stepped site t (Some told)).standing in
-          same_serving y (standing_spoke y spoke) (same_spoke y spoke)
-          (sent_serving (standing_spoke y spoke) sent serving_sent)
+        serving_after : is_serving (stepped site t (Some told)).standing ≡ true
+        serving_after =
+            let y = (stepped site t (Some told)).standing in
+            same_serving y (standing_spoke y spoke) (same_spoke y spoke)
+            (sent_serving (standing_spoke y spoke) sent serving_sent)
 
-      step : StepDelivers (is_blocked t.standing.arrival) site t.standing (next_of t) told.moment
-          (reply_in told.answer) c
-      step =
-          step_delivers leaves site t.standing (next_of t) told.moment (reply_in told.answer) c before d
-          serving_after
+        step : StepDelivers service (is_blocked t.standing.arrival) site t.standing (next_of t) told.moment
+            (reply_in told.answer) c
+        step =
+            step_delivers service leaves site t.standing (next_of t) told.moment (reply_in told.answer) c before d
+            serving_after
 
-      sent_by : (k : Course) → Delivers (stepped site t (Some told)).standing k
-          → Sends (standing_spoke (stepped site t (Some told)).standing spoke) k sent
-          (standing_sent (standing_spoke (stepped site t (Some told)).standing spoke) sent)
-      sent_by k dk =
-          let y = (stepped site t (Some told)).standing in
-          let z = standing_spoke y spoke in
-          sends_by z k sent (delivers_same y z k (same_spoke y spoke) dk)
-          (λ some. sends_some z (sym sends ∙ some))
-          serving_sent
+        sent_by : (k : Course) → Delivers service (stepped site t (Some told)).standing k
+            → Sends service (standing_spoke (stepped site t (Some told)).standing spoke) k sent
+            (standing_sent (standing_spoke (stepped site t (Some told)).standing spoke) sent)
+        sent_by k dk =
+            let y = (stepped site t (Some told)).standing in
+            let z = standing_spoke y spoke in
+            sends_by service z k sent (delivers_same service y z k (same_spoke y spoke) dk)
+            (λ some. sends_some z (sym sends ∙ some))
+            serving_sent
 
-      free_visits : is_blocked t.standing.arrival ≡ false
-          → Visits entries from site t told spoke sent c
-          (visit_stepped told.answer.glimpse told.moment (option_map answer_of sent))
-      free_visits clear =
-          let g = told.answer.glimpse in
-          let done = sent_by (with_step c g told.moment) (step.free clear) in
-          record {
-            look =
-                look.1
-                ∙ ap (λ (w : Want). as_said (glimpse (take g.front entries) w)) (step.wanted clear);
-            goes =
-                sent_goes (standing_spoke (stepped site t (Some told)).standing spoke) sent g
-                told.moment serving_sent;
-            front = refl;
-            now =
-                ended_delivers
-                (standing_sent (standing_spoke (stepped site t (Some told)).standing spoke) sent)
-                (answered_by (option_map answer_of sent) (with_step c g told.moment)) done.now;
-            handed = done.handed;
-            dropped = done.dropped;
-          }
+        free_visits : is_blocked t.standing.arrival ≡ false
+            → Visits service entries from site t told spoke sent c
+            (visit_stepped told.answer.glimpse told.moment (option_map answer_of sent))
+        free_visits clear =
+            let g = told.answer.glimpse in
+            let done = sent_by (with_step c g told.moment) (step.free clear) in
+            record {
+              look =
+                  look.1
+                  ∙ ap (λ (w : Want). as_said (glimpse (take g.front entries) w)) (step.wanted clear);
+              goes =
+                  sent_goes (standing_spoke (stepped site t (Some told)).standing spoke) sent g
+                  told.moment serving_sent;
+              front = refl;
+              now =
+                  ended_delivers service
+                  (standing_sent (standing_spoke (stepped site t (Some told)).standing spoke) sent)
+                  (answered_by (option_map answer_of sent) (with_step c g told.moment)) done.now;
+              handed = done.handed;
+              dropped = done.dropped;
+            }
 
-      none_sent : is_blocked t.standing.arrival ≡ true → sent ≡ None
-      none_sent blocked =
-          let y = (stepped site t (Some told)).standing in
-          let z = standing_spoke y spoke in
-          sends_none sent
-          (sends
-          ∙ sends_not z (ap is_blocked (spoke_arrival y spoke ∙ step.arrival) ∙ blocked))
+        none_sent : is_blocked t.standing.arrival ≡ true → sent ≡ None
+        none_sent blocked =
+            let y = (stepped site t (Some told)).standing in
+            let z = standing_spoke y spoke in
+            sends_none sent
+            (sends
+            ∙ sends_not z (ap is_blocked (spoke_arrival y spoke ∙ step.arrival) ∙ blocked))
 
-      blocked_visits : is_blocked t.standing.arrival ≡ true → sent ≡ None
-          → Visits entries from site t told spoke sent c
-          (passed told.answer.glimpse.front told.moment)
-      blocked_visits blocked none =
-          let done = sent_by c (step.waits blocked) in
-          let z = standing_spoke (stepped site t (Some told)).standing spoke in
-          record {
-            look = tt;
-            goes = refl;
-            front = refl;
-            now =
-                ended_delivers (standing_sent z sent) c
-                (subst (λ (o : Option Offer). Delivers (standing_sent z sent) (answered_by (option_map answer_of o) c))
-                none done.now);
-            handed =
-                subst
-                (λ (o : Option Offer).
-                AreMessagesOf (blocks_in (send_calls z sent)) (handed_where (option_map answer_of o) c))
-                none done.handed;
-            dropped =
-                done.dropped
-                ∙ ap (λ (o : Option Offer). discard_told (done_where (option_map answer_of o) c)) none;
-          }
+        blocked_visits : is_blocked t.standing.arrival ≡ true → sent ≡ None
+            → Visits service entries from site t told spoke sent c
+            (passed told.answer.glimpse.front told.moment)
+        blocked_visits blocked none =
+            let done = sent_by c (step.waits blocked) in
+            let z = standing_spoke (stepped site t (Some told)).standing spoke in
+            record {
+              look = tt;
+              goes = refl;
+              front = refl;
+              now =
+                  ended_delivers service (standing_sent z sent) c
+                  (subst (λ (o : Option Offer). Delivers service (standing_sent z sent) (answered_by (option_map answer_of o) c))
+                  none done.now);
+              handed =
+                  subst
+                  (λ (o : Option Offer).
+                  AreMessagesOf service (blocks_in (send_calls z sent)) (handed_where (option_map answer_of o) c))
+                  none done.handed;
+              dropped =
+                  done.dropped
+                  ∙ ap (λ (o : Option Offer). discard_told (done_where (option_map answer_of o) c)) none;
+            }
 
-      visits : (blocked : Bool) → is_blocked t.standing.arrival ≡ blocked
-          → Visits entries from site t told spoke sent c (visit_by blocked told sent)
-      visits true e = blocked_visits e (none_sent e)
-      visits false e = free_visits e
+        visits : (blocked : Bool) → is_blocked t.standing.arrival ≡ blocked
+            → Visits service entries from site t told spoke sent c (visit_by blocked told sent)
+        visits true e = blocked_visits e (none_sent e)
+        visits false e = free_visits e
 
-  -- ---- rounds
+    -- ---- rounds
 
-  both_go : (a b : Bool) → a ≡ true → b ≡ true → (a && b) ≡ true
-  both_go a b e f = grind arith
+    both_go : (a b : Bool) → a ≡ true → b ≡ true → (a && b) ≡ true
+    both_go a b e f = grind arith
 
-  messages_both : (xs ys : List (List ℕ)) (us vs : List (List ToldItem)) → AreMessagesOf xs us
-      → AreMessagesOf ys vs → AreMessagesOf (xs ++ ys) (us ++ vs)
-  messages_both [] ys [] vs h k = k
-  messages_both (x ∷ xs) ys (u ∷ us) vs h k = (h.0, messages_both xs ys us vs h.1 k)
-  messages_both [] ys (u ∷ us) vs h k = absurd h
-  messages_both (x ∷ xs) ys [] vs h k = absurd h
+    messages_both : (xs ys : List (List ℕ)) (us vs : List (List ToldItem)) → AreMessagesOf service xs us
+        → AreMessagesOf service ys vs → AreMessagesOf service (xs ++ ys) (us ++ vs)
+    messages_both [] ys [] vs h k = k
+    messages_both (x ∷ xs) ys (u ∷ us) vs h k = (h.0, messages_both xs ys us vs h.1 k)
+    messages_both [] ys (u ∷ us) vs h k = absurd h
+    messages_both (x ∷ xs) ys [] vs h k = absurd h
 
-  conses : (o : Option ℕ) (xs : List ℕ) → option_to_list o ++ xs ≡ cons_option o xs
-  conses None xs = refl
-  conses (Some x) xs = refl
+    conses : (o : Option ℕ) (xs : List ℕ) → option_to_list o ++ xs ≡ cons_option o xs
+    conses None xs = refl
+    conses (Some x) xs = refl
 
-  told_both : (o p : Option ℕ) (xs ys : List ℕ) → o ≡ p → xs ≡ ys
-      → option_to_list o ++ xs ≡ cons_option p ys
-  told_both o p xs ys e f =
-      ap (λ (x : Option ℕ). option_to_list x ++ xs) e
-      ∙ ap (λ (zs : List ℕ). option_to_list p ++ zs) f
-      ∙ conses p ys
+    told_both : (o p : Option ℕ) (xs ys : List ℕ) → o ≡ p → xs ≡ ys
+        → option_to_list o ++ xs ≡ cons_option p ys
+    told_both o p xs ys e f =
+        ap (λ (x : Option ℕ). option_to_list x ++ xs) e
+        ∙ ap (λ (zs : List ℕ). option_to_list p ++ zs) f
+        ∙ conses p ys
 
-  serves_now : (s : State) (rounds : List Round) → ServesOn site s rounds
-      → is_serving s.standing ≡ true
-  serves_now s [] h = h
-  serves_now s (r ∷ rounds) h = h.0
+    serves_now : (s : State) (rounds : List Round) → ServesOn site s rounds
+        → is_serving s.standing ≡ true
+    serves_now s [] h = h
+    serves_now s (r ∷ rounds) h = h.0
 
-  abbrev Delivered : List Round → Type 0
-  Delivered rounds =
-      (s : State) (c : Course) (from : ℕ) → Delivers s.standing c → ServesOn site s rounds
-      → AreRounds site s rounds → SeeEntries entries from site s rounds
-      → AreDelivered site s c entries from rounds
+    abbrev Delivered : List Round → Type 0
+    Delivered rounds =
+        (s : State) (c : Course) (from : ℕ) → Delivers service s.standing c → ServesOn site s rounds
+        → AreRounds site s rounds → SeeEntries entries from site s rounds
+        → AreDelivered service site s c entries from rounds
 
-  -- a round and those behind it, by the state behind its listen
-  record Part (t : State) (told : Option BookAnswer) (spoke sent : Option Offer) (c : Course)
-      (from : ℕ) (rounds : List Round) : Type 0 where
-    looks : AreLooks entries from c
-        (option_to_list
-        (option_map (λ x. visit_by (is_blocked t.standing.arrival) x sent) told)
-        ++ visits_of site (spoken_state (stepped site t told) spoke sent) rounds)
-    on : all_go_on
-        (rounds_of
-        (option_to_list
-        (option_map (λ x. visit_by (is_blocked t.standing.arrival) x sent) told)
-        ++ visits_of site (spoken_state (stepped site t told) spoke sent) rounds))
-        ≡ true
-    now : Delivers
-        (after_rounds site (spoken_state (stepped site t told) spoke sent) rounds).standing
-        (after_visits
-        (option_to_list
-        (option_map (λ x. visit_by (is_blocked t.standing.arrival) x sent) told)
-        ++ visits_of site (spoken_state (stepped site t told) spoke sent) rounds) c)
-    handed : AreMessagesOf
-        (blocks_in (send_calls (standing_spoke (stepped site t told).standing spoke) sent)
-        ++ sent_of site (spoken_state (stepped site t told) spoke sent) rounds)
-        (visits_handed
-        (option_to_list
-        (option_map (λ x. visit_by (is_blocked t.standing.arrival) x sent) told)
-        ++ visits_of site (spoken_state (stepped site t told) spoke sent) rounds) c)
-    dropped : option_to_list (spoken_state (stepped site t told) spoke sent).standing.dropped
-        ++ dropped_of site (spoken_state (stepped site t told) spoke sent) rounds
-        ≡ discards_told
-        (visits_done
-        (option_to_list
-        (option_map (λ x. visit_by (is_blocked t.standing.arrival) x sent) told)
-        ++ visits_of site (spoken_state (stepped site t told) spoke sent) rounds) c)
+    -- a round and those behind it, by the state behind its listen
+    record Part (t : State) (told : Option BookAnswer) (spoke sent : Option Offer) (c : Course)
+        (from : ℕ) (rounds : List Round) : Type 0 where
+      looks : AreLooks entries from c
+          (option_to_list
+          (option_map (λ x. visit_by (is_blocked t.standing.arrival) x sent) told)
+          ++ visits_of site (spoken_state (stepped site t told) spoke sent) rounds)
+      on : all_go_on
+          (rounds_of
+          (option_to_list
+          (option_map (λ x. visit_by (is_blocked t.standing.arrival) x sent) told)
+          ++ visits_of site (spoken_state (stepped site t told) spoke sent) rounds))
+          ≡ true
+      now : Delivers service
+          (after_rounds site (spoken_state (stepped site t told) spoke sent) rounds).standing
+          (after_visits
+          (option_to_list
+          (option_map (λ x. visit_by (is_blocked t.standing.arrival) x sent) told)
+          ++ visits_of site (spoken_state (stepped site t told) spoke sent) rounds) c)
+      handed : AreMessagesOf service
+          (blocks_in (send_calls (standing_spoke (stepped site t told).standing spoke) sent)
+          ++ sent_of site (spoken_state (stepped site t told) spoke sent) rounds)
+          (visits_handed
+          (option_to_list
+          (option_map (λ x. visit_by (is_blocked t.standing.arrival) x sent) told)
+          ++ visits_of site (spoken_state (stepped site t told) spoke sent) rounds) c)
+      dropped : option_to_list (spoken_state (stepped site t told) spoke sent).standing.dropped
+          ++ dropped_of site (spoken_state (stepped site t told) spoke sent) rounds
+          ≡ discards_told
+          (visits_done
+          (option_to_list
+          (option_map (λ x. visit_by (is_blocked t.standing.arrival) x sent) told)
+          ++ visits_of site (spoken_state (stepped site t told) spoke sent) rounds) c)
 
-  part : (rounds : List Round) → Delivered rounds → (t : State) (told : Option BookAnswer)
-      (spoke sent : Option Offer) (c : Course) (from : ℕ) → is_serving t.standing ≡ true
-      → Delivers t.standing c → is_some told ≡ true → IsLookAt entries from site t told
-      → is_some sent ≡ may_send (standing_spoke (stepped site t told).standing spoke)
-      → ServesOn site (spoken_state (stepped site t told) spoke sent) rounds
-      → AreRounds site (spoken_state (stepped site t told) spoke sent) rounds
-      → SeeEntries entries (front_behind from told) site
-      (spoken_state (stepped site t told) spoke sent) rounds
-      → Part t told spoke sent c from rounds
-  part rounds more t None spoke sent c from before d some look sends serves are sees = absurd (cc)
-  part rounds more t (Some told) spoke sent c from before d some look sends serves are sees =
-      let now = spoken_state (stepped site t (Some told)) spoke sent in
-      let blocked = is_blocked t.standing.arrival in
-      let v = visit_by blocked told sent in
-      let one =
-      visits from t told spoke sent c before d look sends (serves_now now rounds serves) blocked refl
-      in
-      let rest = more now (visited v c) told.answer.glimpse.front one.now serves are sees in
-      record {
-        looks = (
-          subst (λ (n : ℕ). from ≤ n) one.front look.0,
-          (
-            one.look,
-            subst
-                (λ (n : ℕ). AreLooks entries n (visited v c) (visits_of site now rounds))
-                one.front rest.looks,
-          ),
-        );
-        on = both_go (goes_on (round_of v).link) _ one.goes rest.goes_on;
-        now = rest.now;
-        handed =
-            messages_both
-            (blocks_in
-            (send_calls (standing_spoke (stepped site t (Some told)).standing spoke) sent))
-            (sent_of site now rounds) (handed_in v c) _ one.handed rest.handed;
-        dropped = told_both _ _ _ _ one.dropped rest.dropped;
-      }
+    part : (rounds : List Round) → Delivered rounds → (t : State) (told : Option BookAnswer)
+        (spoke sent : Option Offer) (c : Course) (from : ℕ) → is_serving t.standing ≡ true
+        → Delivers service t.standing c → is_some told ≡ true → IsLookAt entries from site t told
+        → is_some sent ≡ may_send (standing_spoke (stepped site t told).standing spoke)
+        → ServesOn site (spoken_state (stepped site t told) spoke sent) rounds
+        → AreRounds site (spoken_state (stepped site t told) spoke sent) rounds
+        → SeeEntries entries (front_behind from told) site
+        (spoken_state (stepped site t told) spoke sent) rounds
+        → Part t told spoke sent c from rounds
+    part rounds more t None spoke sent c from before d some look sends serves are sees = absurd (cc)
+    part rounds more t (Some told) spoke sent c from before d some look sends serves are sees =
+        let now = spoken_state (stepped site t (Some told)) spoke sent in
+        let blocked = is_blocked t.standing.arrival in
+        let v = visit_by blocked told sent in
+        let one =
+        visits from t told spoke sent c before d look sends (serves_now now rounds serves) blocked refl
+        in
+        let rest = more now (visited v c) told.answer.glimpse.front one.now serves are sees in
+        record {
+          looks = (
+            subst (λ (n : ℕ). from ≤ n) one.front look.0,
+            (
+              one.look,
+              subst
+                  (λ (n : ℕ). AreLooks entries n (visited v c) (visits_of site now rounds))
+                  one.front rest.looks,
+            ),
+          );
+          on = both_go (goes_on (round_of v).link) _ one.goes rest.goes_on;
+          now = rest.now;
+          handed =
+              messages_both
+              (blocks_in
+              (send_calls (standing_spoke (stepped site t (Some told)).standing spoke) sent))
+              (sent_of site now rounds) (handed_in v c) _ one.handed rest.handed;
+          dropped = told_both _ _ _ _ one.dropped rest.dropped;
+        }
 
-  pub delivered : (rounds : List Round) → Delivered rounds
-  delivered [] s c from d serves are sees =
-      record { looks = tt; goes_on = refl; now = d; handed = tt; dropped = refl }
-  delivered (r ∷ rounds) s c from d serves are sees =
-      let t = before_step s r in
-      let same = same_listened s r.waited r.heard in
-      let going = going_back t r (serves_now (after_round site s r) rounds serves.1) in
-      let before = listened_serving s.standing t.standing same going serves.0 in
-      let all =
-      part rounds (delivered rounds) t r.told r.spoke r.sent c from before
-      (delivers_same s.standing t.standing c same d)
-      (going_asks t.standing.course r.told are.0.asks going) sees.0 are.0.speaks.sends serves.1
-      are.1 sees.1 in
-      record {
-        looks = all.looks;
-        goes_on = all.on;
-        now = all.now;
-        handed = all.handed;
-        dropped = all.dropped;
-      }
+    pub delivered : (rounds : List Round) → Delivered rounds
+    delivered [] s c from d serves are sees =
+        record { looks = tt; goes_on = refl; now = d; handed = tt; dropped = refl }
+    delivered (r ∷ rounds) s c from d serves are sees =
+        let t = before_step s r in
+        let same = same_listened s r.waited r.heard in
+        let going = going_back t r (serves_now (after_round site s r) rounds serves.1) in
+        let before = listened_serving s.standing t.standing same going serves.0 in
+        let all =
+        part rounds (delivered rounds) t r.told r.spoke r.sent c from before
+        (delivers_same service s.standing t.standing c same d)
+        (going_asks t.standing.course r.told are.0.asks going) sees.0 are.0.speaks.sends serves.1
+        are.1 sees.1 in
+        record {
+          looks = all.looks;
+          goes_on = all.on;
+          now = all.now;
+          handed = all.handed;
+          dropped = all.dropped;
+        }
 
 pub a_sessions_rounds : ServiceLeaves → AreVisits
-a_sessions_rounds leaves entries site rounds s c from d serves are sees =
-    delivered leaves entries site rounds s c from d serves are sees
+a_sessions_rounds leaves service entries site rounds s c from d serves are sees =
+    delivered service leaves entries site rounds s c from d serves are sees
 
 -- ---- a buffer that is due
 
@@ -1278,23 +1313,24 @@ sent_due : (s : Standing) → is_going s.course ≡ true → is_blocked s.arriva
 sent_due s e f =
     due_sent (is_going s.course) (has_block s) (is_blocked s.arrival) (has_outgoing s) e f
 
-told_due : ServiceLeaves → (site : Site) (t : State) (asks : Option BookAnswer) (told : BookAnswer)
+told_due : (service : ReturnService) → ServiceLeaves → (site : Site) (t : State)
+    (asks : Option BookAnswer) (told : BookAnswer)
     (spoke sent : Option Offer) (c : Course) → asks ≡ Some told → is_serving t.standing ≡ true
-    → Delivers t.standing c
+    → Delivers service t.standing c
     → is_some sent ≡ may_send (standing_spoke (stepped site t asks).standing spoke)
     → is_serving (spoken_state (stepped site t asks) spoke sent).standing ≡ true
     → is_blocked t.standing.arrival ≡ false
     → is_some sent
     ≡ (not (has_block (standing_spoke (stepped site t asks).standing spoke))
     && is_due_to_offer (with_step c told.answer.glimpse told.moment))
-told_due leaves site t None told spoke sent c is before d sends serving clear = absurd (cc)
-told_due leaves site t (Some x) told spoke sent c is before d sends serving clear =
+told_due service leaves site t None told spoke sent c is before d sends serving clear = absurd (cc)
+told_due service leaves site t (Some x) told spoke sent c is before d sends serving clear =
     let y = (stepped site t (Some x)).standing in
     let z = standing_spoke y spoke in
     let serving_z = sent_serving z sent (ended_serving (standing_sent z sent) serving) in
     let serving_y = same_serving y z (same_spoke y spoke) serving_z in
     let step =
-    step_delivers leaves site t.standing (next_of t) x.moment (reply_in x.answer) c before d
+    step_delivers service leaves site t.standing (next_of t) x.moment (reply_in x.answer) c before d
     serving_y in
     let free : is_blocked z.arrival ≡ false =
     ap is_blocked (spoke_arrival y spoke ∙ step.arrival) ∙ clear in
@@ -1308,13 +1344,13 @@ told_due leaves site t (Some x) told spoke sent c is before d sends serving clea
     not (has_block z) && is_due_to_offer (with_step c w.answer.glimpse w.moment)) same
 
 pub due_buffers : ServiceLeaves → DueIsOffered
-due_buffers leaves site s r c told is d before serving asked clear =
+due_buffers leaves service site s r c told is d before serving asked clear =
     let t = before_step s r in
     let same = same_listened s r.waited r.heard in
-    let going = going_back leaves [] site t r serving in
-    told_due leaves site t r.told told r.spoke r.sent c asked
+    let going = going_back service leaves [] site t r serving in
+    told_due service leaves site t r.told told r.spoke r.sent c asked
     (listened_serving s.standing t.standing same going before)
-    (delivers_same s.standing t.standing c same d) is.speaks.sends serving clear
+    (delivers_same service s.standing t.standing c same d) is.speaks.sends serving clear
 
 -- ---- a START
 
@@ -1326,20 +1362,22 @@ VisitStands =
     → IsTrue (all_go_on (rounds_of visits)) → VisitsStand c t entries rounds visits
 
 pub starts_deliver : ServiceLeaves → VisitStands → StartsDeliver
-starts_deliver leaves stands entries site rounds s c t earlier stood d serves are sees =
+starts_deliver leaves stands service entries site rounds s c t earlier stood d serves are sees =
     let all =
-    delivered leaves entries site rounds s c (last_front t.selection.first earlier) d serves are sees in
+    delivered service leaves entries site rounds s c (last_front t.selection.first earlier) d serves
+    are sees in
     record {
       delivered = all;
       stand = stands c t entries earlier (visits_of site s rounds) stood all.looks all.goes_on;
     }
 
 -- what its delivery stands for then
-pub start_stands : ServiceLeaves → VisitStands → (entries : List Entry) (site : Site)
+pub start_stands : ServiceLeaves → VisitStands → (service : ReturnService) (entries : List Entry)
+    (site : Site)
     (rounds : List Round) (s : State) (c : Course) (t : Terms) → StandsFor c t entries []
-    → Delivers s.standing c → ServesOn site s rounds → AreRounds site s rounds
+    → Delivers service s.standing c → ServesOn site s rounds → AreRounds site s rounds
     → SeeEntries entries t.selection.first site s rounds
     → StandsFor (after_visits (visits_of site s rounds) c) t entries
     (rounds_of (visits_of site s rounds))
-start_stands leaves stands entries site rounds s c t stood d serves are sees =
-    (starts_deliver leaves stands entries site rounds s c t [] stood d serves are sees).stand.stands
+start_stands leaves stands service entries site rounds s c t stood d serves are sees =
+    (starts_deliver leaves stands service entries site rounds s c t [] stood d serves are sees).stand.stands

@@ -13,6 +13,8 @@ use Rattle.archive_terms.specs.Delivery.{selection_of}
 use Rattle.return_core.specs.Course.{Course, run_of, with_start}
 use Rattle.return_pdu.specs.Starting.{RafStartContent, RcfStartContent}
 use Rattle.return_pdu.specs.declared.return_answer.ReturnAnswer.TheVariants as reply
+use Rattle.return_pdu.specs.declared.service.Service.{Service as ReturnService}
+use Rattle.return_pdu.specs.declared.service.Service.TheVariants as buffer
 use Rattle.return_service.specs.Answer.{confirmed}
 use Rattle.sle_numbers.specs.ReturnStartDiagnostic.{number_of as start_number}
 use Rattle.return_service.specs.declared.span.Span.{Span}
@@ -62,13 +64,13 @@ use Rattle.session_laws.proofs.Deliveries.{going_asks, sends_some, ended_deliver
 
 -- ---- what a service makes of a START
 
-record Started (c : Course) (front : ℕ) (served : Served) : Type 0 where
+record Started (service : ReturnService) (c : Course) (front : ℕ) (served : Served) : Type 0 where
   terms : Terms
   mode : terms.mode ≡ c.mode
   size : terms.size ≡ c.size
   latency : terms.latency ≡ c.latency
   first : terms.selection.first ≤ front
-  delivery : delivery_of served ≡ Some (record c { run = Some (run_of terms) })
+  delivery : delivery_of service served ≡ Some (record c { run = Some (run_of terms) })
 
 first_seen : (mode : Mode) (start : Option ℕ) (front : ℕ) → first_position mode start front ≤ front
 first_seen timely start front = omega arith
@@ -78,13 +80,14 @@ first_seen offline None front = omega arith
 first_seen offline (Some start) front = omega arith
 
 -- a service whose delivery began with a START of these frames and this span, from what it was
-starts_so : (own c : Course) (filter : Filter) (span : Span) (front : ℕ) (served : Served)
+starts_so : (service : ReturnService) (own c : Course) (filter : Filter) (span : Span) (front : ℕ)
+    (served : Served)
     → Some own ≡ Some c
-    → delivery_of served
+    → delivery_of service served
     ≡ Some (with_start own (selection_of own.mode filter span.start span.stop front))
-    → Started c front served
-starts_so own c filter span front served e is =
-    subst (λ (x : Course). Started x front served) (some_is own c e) (record {
+    → Started service c front served
+starts_so service own c filter span front served e is =
+    subst (λ (x : Course). Started service x front served) (some_is own c e) (record {
       terms = terms_at own filter span front;
       mode = refl;
       size = refl;
@@ -94,45 +97,46 @@ starts_so own c filter span front served e is =
     })
 
 raf_starts_it : (raf : Raf) (c : Course) (s : RafStartContent) (front : ℕ)
-    (j : Result Span ReturnStartDiagnostic) → delivery_of (serves.Raf raf) ≡ Some c
+    (j : Result Span ReturnStartDiagnostic) → delivery_of buffer.Raf (serves.Raf raf) ≡ Some c
     → outcome_of (reply.Start (confirmed start_number j)) ≡ outcome.Started
-    → Started c front (serves.Raf (raf_with s front j raf))
+    → Started buffer.Raf c front (serves.Raf (raf_with s front j raf))
 unfolding delivery_of
 raf_starts_it raf c s front (Ok span) e is =
-    starts_so raf.serving.course c (by_quality (quality_number s.quality)) span front
+    starts_so buffer.Raf raf.serving.course c (by_quality (quality_number s.quality)) span front
     (serves.Raf (raf_with s front (Ok span) raf)) e refl
 raf_starts_it raf c s front (Err why) e is = absurd (cc)
 
 rcf_starts_it : (rcf : Rcf) (c : Course) (s : RcfStartContent) (front : ℕ)
-    (j : Result Span ReturnStartDiagnostic) → delivery_of (serves.Rcf rcf) ≡ Some c
+    (j : Result Span ReturnStartDiagnostic) → delivery_of buffer.Rcf (serves.Rcf rcf) ≡ Some c
     → outcome_of (reply.Start (confirmed start_number j)) ≡ outcome.Started
-    → Started c front (serves.Rcf (rcf_with s front j rcf))
+    → Started buffer.Rcf c front (serves.Rcf (rcf_with s front j rcf))
 unfolding delivery_of
 rcf_starts_it rcf c s front (Ok span) e is =
-    starts_so rcf.serving.course c (by_channel (id_of s.channel)) span front
+    starts_so buffer.Rcf rcf.serving.course c (by_channel (id_of s.channel)) span front
     (serves.Rcf (rcf_with s front (Ok span) rcf)) e refl
 rcf_starts_it rcf c s front (Err why) e is = absurd (cc)
 
-starts : (served : Served) (c : Course) (channels : List Gvcid) (i : Invocation) (r : Replied)
-    (now : ℕ) → delivery_of served ≡ Some c
+starts : (service : ReturnService) (served : Served) (c : Course) (channels : List Gvcid)
+    (i : Invocation) (r : Replied)
+    (now : ℕ) → delivery_of service served ≡ Some c
     → (concluded_by served channels i r now).outcome ≡ outcome.Started
-    → Started c r.glimpse.front (concluded_by served channels i r now).served
-unfolding concluded_by
-starts serves.Nothing c channels i r now e is = absurd (cc)
-starts (serves.Raf raf) c channels (raf_starts s) r now e is =
+    → Started service c r.glimpse.front (concluded_by served channels i r now).served
+unfolding delivery_of concluded_by
+starts buffer.Raf (serves.Raf raf) c channels (raf_starts s) r now e is =
     raf_starts_it raf c s r.glimpse.front (raf_moments s r.glimpse raf) e is
-starts (serves.Raf raf) c channels (rcf_starts s) r now e is = absurd (cc)
-starts (serves.Raf raf) c channels (stops s) r now e is = absurd (cc)
-starts (serves.Raf raf) c channels (schedules s) r now e is = absurd (cc)
-starts (serves.Raf raf) c channels (gets g) r now e is = absurd (cc)
-starts (serves.Raf raf) c channels no_invocation r now e is = absurd (cc)
-starts (serves.Rcf rcf) c channels (rcf_starts s) r now e is =
+starts buffer.Raf (serves.Raf raf) c channels (rcf_starts s) r now e is = absurd (cc)
+starts buffer.Raf (serves.Raf raf) c channels (stops s) r now e is = absurd (cc)
+starts buffer.Raf (serves.Raf raf) c channels (schedules s) r now e is = absurd (cc)
+starts buffer.Raf (serves.Raf raf) c channels (gets g) r now e is = absurd (cc)
+starts buffer.Raf (serves.Raf raf) c channels no_invocation r now e is = absurd (cc)
+starts buffer.Rcf (serves.Rcf rcf) c channels (rcf_starts s) r now e is =
     rcf_starts_it rcf c s r.glimpse.front (rcf_moments channels s r.glimpse rcf) e is
-starts (serves.Rcf rcf) c channels (raf_starts s) r now e is = absurd (cc)
-starts (serves.Rcf rcf) c channels (stops s) r now e is = absurd (cc)
-starts (serves.Rcf rcf) c channels (schedules s) r now e is = absurd (cc)
-starts (serves.Rcf rcf) c channels (gets g) r now e is = absurd (cc)
-starts (serves.Rcf rcf) c channels no_invocation r now e is = absurd (cc)
+starts buffer.Rcf (serves.Rcf rcf) c channels (raf_starts s) r now e is = absurd (cc)
+starts buffer.Rcf (serves.Rcf rcf) c channels (stops s) r now e is = absurd (cc)
+starts buffer.Rcf (serves.Rcf rcf) c channels (schedules s) r now e is = absurd (cc)
+starts buffer.Rcf (serves.Rcf rcf) c channels (gets g) r now e is = absurd (cc)
+starts buffer.Rcf (serves.Rcf rcf) c channels no_invocation r now e is = absurd (cc)
+starts _ _ c channels i r now e is = absurd (cc)
 
 -- ---- a message that starts the service
 
@@ -145,16 +149,17 @@ bind_starts_none : (site : Site) (peer : Option ℕ) (j : Result ℕ BindDiagnos
 bind_starts_none site peer j reply e = grind arith
 
 -- a session that serves behind a message, and didn't before it, was started by it
-record Begun (c : Course) (front : ℕ) (v : Standing) : Type 0 where
-  started : Started c front v.service
+record Begun (service : ReturnService) (c : Course) (front : ℕ) (v : Standing) : Type 0 where
+  started : Started service c front v.service
   outgoing : v.outgoing ≡ []
 
 if_none : (b : Bool) (xs : List ℕ) → xs ≡ [] → (if b then xs else []) ≡ []
 if_none true xs e = e
 if_none false xs e = refl
 
-module _ (site : Site) (u : Standing) (c : Course) (still : is_active u.association ≡ false)
-    (none : u.outgoing ≡ []) (delivery : delivery_of u.service ≡ Some c) where
+module _ (service : ReturnService) (site : Site) (u : Standing) (c : Course)
+    (still : is_active u.association ≡ false)
+    (none : u.outgoing ≡ []) (delivery : delivery_of service u.service ≡ Some c) where
   -- what leaves the association
   same_not : (v : Standing) → v.association ≡ u.association → is_serving v ≡ true → ⊥
   same_not v same serving =
@@ -191,7 +196,7 @@ module _ (site : Site) (u : Standing) (c : Course) (still : is_active u.associat
 
   passing_begins : (said : UserContent) (r : Replied)
       → is_serving (after_passing site (invoked u said Pass) said r) ≡ true
-      → Begun c r.glimpse.front (after_passing site (invoked u said Pass) said r)
+      → Begun service c r.glimpse.front (after_passing site (invoked u said Pass) said r)
   passing_begins (context interval factor) r serving =
       absurd (context_not interval factor r serving)
   passing_begins heartbeat r serving =
@@ -220,7 +225,7 @@ module _ (site : Site) (u : Standing) (c : Course) (still : is_active u.associat
       moves_started v.association done.outcome (ap is_active same ∙ still)
       (serving_active (record (led_to done.outcome v) { service = done.served }) serving) in
       record {
-        started = starts u.service c channels i r u.moment delivery o;
+        started = starts service u.service c channels i r u.moment delivery o;
         outgoing =
             if_none (is_active (moved v.association done.outcome)) v.outgoing
             (answered_outgoing site t k done.answer ∙ none);
@@ -235,7 +240,7 @@ module _ (site : Site) (u : Standing) (c : Course) (still : is_active u.associat
       (if lost then aborted (invoked u said st) OtherReason
       else concluded site (invoked u said st) said st r)
       ≡ true
-      → Begun c r.glimpse.front
+      → Begun service c r.glimpse.front
       (if lost then aborted (invoked u said st) OtherReason
       else concluded site (invoked u said st) said st r)
   judged_begins said st r true serving =
@@ -247,7 +252,7 @@ module _ (site : Site) (u : Standing) (c : Course) (still : is_active u.associat
       absurd (not_serving (concluded site (invoked u said (Abort d)) said (Abort d) r) refl serving)
 
   next_begins : (next : Next) (r : Replied) → is_serving (with_next site u next r) ≡ true
-      → Begun c r.glimpse.front (with_next site u next r)
+      → Begun service c r.glimpse.front (with_next site u next r)
   next_begins (Err fault) r serving =
       absurd (not_serving (with_next site u (Err fault) r) refl serving)
   next_begins (Ok None) r serving = absurd (by (has_closed u.arrival) serving)
@@ -260,23 +265,25 @@ module _ (site : Site) (u : Standing) (c : Course) (still : is_active u.associat
       judged_begins said (judged site u.association said u.moment) r (is_lost r.reply) serving
 
   acted_begins : (next : Next) (r : Replied) → is_serving (acted site u next r) ≡ true
-      → Begun c r.glimpse.front (acted site u next r)
+      → Begun service c r.glimpse.front (acted site u next r)
   acted_begins next r serving = by (is_idle u) serving
     where
       by : (idle : Bool) → is_serving (if idle then u else with_next site u next r) ≡ true
-          → Begun c r.glimpse.front (if idle then u else with_next site u next r)
+          → Begun service c r.glimpse.front (if idle then u else with_next site u next r)
       by true e = absurd (same_not u refl e)
       by false e = next_begins next r e
 
 -- ---- its round
 
-record StepBegins (c : Course) (front : ℕ) (t : Standing) : Type 0 where
-  started : Started c front t.service
+record StepBegins (service : ReturnService) (c : Course) (front : ℕ) (t : Standing) : Type 0 where
+  started : Started service c front t.service
   outgoing : t.outgoing ≡ []
 
-started_on : (c : Course) (front : ℕ) (served later : Served) (h : Started c front served)
-    → delivery_of later ≡ Some (record c { run = Some (run_of h.terms) }) → Started c front later
-started_on c front served later h is = record {
+started_on : (service : ReturnService) (c : Course) (front : ℕ) (served later : Served)
+    (h : Started service c front served)
+    → delivery_of service later ≡ Some (record c { run = Some (run_of h.terms) })
+    → Started service c front later
+started_on service c front served later h is = record {
   terms = h.terms;
   mode = h.mode;
   size = h.size;
@@ -285,11 +292,12 @@ started_on c front served later h is = record {
   delivery = is;
 }
 
-step_begins : ServiceLeaves → (site : Site) (s : Standing) (next : Next) (now : ℕ) (r : Replied)
+step_begins : (service : ReturnService) → ServiceLeaves → (site : Site) (s : Standing)
+    (next : Next) (now : ℕ) (r : Replied)
     (c : Course) → is_active s.association ≡ false → s.outgoing ≡ []
-    → delivery_of s.service ≡ Some c → is_serving (after_step site s next now r) ≡ true
-    → StepBegins c r.glimpse.front (after_step site s next now r)
-step_begins leaves site s next now r c still none delivery serving =
+    → delivery_of service s.service ≡ Some c → is_serving (after_step site s next now r) ≡ true
+    → StepBegins service c r.glimpse.front (after_step site s next now r)
+step_begins service leaves site s next now r c still none delivery serving =
     let u = at_moment s now in
     let v = acted site u next r in
     let w = timed v in
@@ -299,15 +307,15 @@ step_begins leaves site s next now r c still none delivery serving =
     let serving_w = both_serving w (after_step site s next now r) same.course same.association serving in
     let alive = untimed v serving_w in
     let serving_v = subst (λ (y : Standing). is_serving y ≡ true) alive.0 serving_w in
-    let begun = acted_begins site u c still none delivery next r serving_v in
+    let begun = acted_begins service site u c still none delivery next r serving_v in
     let h = begun.started in
     let tells =
-    unasked_tells site r w (record c { run = Some (run_of h.terms) })
-    (ap (λ (y : Standing). delivery_of y.service) alive.0 ∙ h.delivery) in
+    unasked_tells service site r w (record c { run = Some (run_of h.terms) })
+    (ap (λ (y : Standing). delivery_of service y.service) alive.0 ∙ h.delivery) in
     let last : after_step site s next now r ≡ x =
     ap (λ (b : Bool). with_service site b r.glimpse x) still in
-    subst (StepBegins c r.glimpse.front) (sym last) (record {
-      started = started_on c r.glimpse.front v.service x.service h tells.delivery;
+    subst (StepBegins service c r.glimpse.front) (sym last) (record {
+      started = started_on service c r.glimpse.front v.service x.service h tells.delivery;
       outgoing =
           tells.outgoing ∙ ap (λ (y : Standing). y.outgoing) alive.0 ∙ begun.outgoing;
     })
@@ -317,22 +325,24 @@ no_message s e has =
     let no : has_outgoing s ≡ false = ap (λ (x : List ℕ). not (length x == 0)) e in
     absurd (cc (no, has))
 
-empty_delivers : (s : Standing) (c : Course) → s.outgoing ≡ [] → delivery_of s.service ≡ Some c
-    → Delivers s c
-empty_delivers s c e d = record {
+empty_delivers : (service : ReturnService) (s : Standing) (c : Course) → s.outgoing ≡ []
+    → delivery_of service s.service ≡ Some c
+    → Delivers service s c
+empty_delivers service s c e d = record {
   delivery = d;
   offers = λ has. absurd (no_message s e has);
   message = λ has. absurd (no_message s e has);
 }
 
-unsent_delivers : (s : Standing) (c : Course) (sent : Option Offer) → s.outgoing ≡ []
-    → Delivers s c → (is_some sent ≡ true → has_outgoing s ≡ true)
-    → Delivers (standing_sent s sent) c
-unsent_delivers s c None e d has =
+unsent_delivers : (service : ReturnService) (s : Standing) (c : Course) (sent : Option Offer)
+    → s.outgoing ≡ []
+    → Delivers service s c → (is_some sent ≡ true → has_outgoing s ≡ true)
+    → Delivers service (standing_sent s sent) c
+unsent_delivers service s c None e d has =
     record { delivery = d.delivery; offers = d.offers; message = d.message }
-unsent_delivers s c (Some said) e d has = absurd (no_message s e (has refl))
+unsent_delivers service s c (Some said) e d has = absurd (no_message s e (has refl))
 
-record PartBegins (site : Site) (t : State) (asked_so : Option BookAnswer)
+record PartBegins (service : ReturnService) (site : Site) (t : State) (asked_so : Option BookAnswer)
     (spoke sent : Option Offer) (c : Course) : Type 0 where
   told : BookAnswer
   asked : asked_so ≡ Some told
@@ -341,24 +351,26 @@ record PartBegins (site : Site) (t : State) (asked_so : Option BookAnswer)
   size : terms.size ≡ c.size
   latency : terms.latency ≡ c.latency
   first : terms.selection.first ≤ told.answer.glimpse.front
-  delivers : Delivers (spoken_state (stepped site t asked_so) spoke sent).standing
+  delivers : Delivers service (spoken_state (stepped site t asked_so) spoke sent).standing
       (record c { run = Some (run_of terms) })
 
-told_begins : ServiceLeaves → (site : Site) (t : State) (told : Option BookAnswer)
+told_begins : (service : ReturnService) → ServiceLeaves → (site : Site) (t : State)
+    (told : Option BookAnswer)
     (spoke sent : Option Offer) (c : Course) → is_some told ≡ true
     → is_active t.standing.association ≡ false → t.standing.outgoing ≡ []
-    → delivery_of t.standing.service ≡ Some c
+    → delivery_of service t.standing.service ≡ Some c
     → is_some sent ≡ may_send (standing_spoke (stepped site t told).standing spoke)
     → is_serving (spoken_state (stepped site t told) spoke sent).standing ≡ true
-    → PartBegins site t told spoke sent c
-told_begins leaves site t None spoke sent c some still none delivery sends serving = absurd (cc)
-told_begins leaves site t (Some told) spoke sent c some still none delivery sends serving =
+    → PartBegins service site t told spoke sent c
+told_begins service leaves site t None spoke sent c some still none delivery sends serving =
+    absurd (cc)
+told_begins service leaves site t (Some told) spoke sent c some still none delivery sends serving =
     let y = (stepped site t (Some told)).standing in
     let z = standing_spoke y spoke in
     let serving_z = sent_serving z sent (ended_serving (standing_sent z sent) serving) in
     let serving_y = same_serving y z (same_spoke y spoke) serving_z in
     let begun =
-    step_begins leaves site t.standing (next_of t) told.moment (reply_in told.answer) c still none
+    step_begins service leaves site t.standing (next_of t) told.moment (reply_in told.answer) c still none
     delivery serving_y in
     let h = begun.started in
     let k : Course = record c { run = Some (run_of h.terms) } in
@@ -372,21 +384,22 @@ told_begins leaves site t (Some told) spoke sent c some still none delivery send
       latency = h.latency;
       first = h.first;
       delivers =
-          ended_delivers (standing_sent z sent) k
-          (unsent_delivers z k sent out
-          (empty_delivers z k out (ap delivery_of (same_spoke y spoke).service ∙ h.delivery))
+          ended_delivers service (standing_sent z sent) k
+          (unsent_delivers service z k sent out
+          (empty_delivers service z k out
+          (ap (delivery_of service) (same_spoke y spoke).service ∙ h.delivery))
           (λ some. sends_some z (sym sends ∙ some)));
     }
 
 pub starts_begin : ServiceLeaves → StartsBegin
-starts_begin leaves site s r c is still none delivery serving =
+starts_begin leaves service site s r c is still none delivery serving =
     let t = before_step s r in
     let same = same_listened s r.waited r.heard in
-    let going = going_back leaves [] site t r serving in
+    let going = going_back service leaves [] site t r serving in
     let all =
-    told_begins leaves site t r.told r.spoke r.sent c
+    told_begins service leaves site t r.told r.spoke r.sent c
     (going_asks t.standing.course r.told is.asks going) (ap is_active same.association ∙ still)
-    (same.outgoing ∙ none) (ap delivery_of same.service ∙ delivery) is.speaks.sends serving in
+    (same.outgoing ∙ none) (ap (delivery_of service) same.service ∙ delivery) is.speaks.sends serving in
     record {
       told = all.told;
       asked = all.asked;

@@ -20,6 +20,7 @@ use Rattle.return_core.specs.Visits.{Visit, passed, stepped, after_visits, visit
 use Rattle.return_core.specs.Visits.{discards_told, AreLooks, rounds_of, VisitsStand}
 use Rattle.return_core.specs.Standing.{all_go_on, StandsFor}
 use Rattle.return_pdu.specs.declared.service.Service.{Service as ReturnService}
+use Rattle.return_pdu.specs.declared.service.Service.TheVariants as buffer
 use Rattle.buffer_message.specs.Signing.{Signing}
 use Rattle.buffer_message.specs.Fitting.{fits_message}
 use Rattle.buffer_message.specs.Message.{message_octets}
@@ -27,7 +28,7 @@ use Rattle.link_model.specs.Calls.{blocks_in}
 use Rattle.station_config.specs.declared.site.Site.{Site}
 use Rattle.station_book.specs.State.{State as Book, Event}
 use Rattle.station_book.specs.History.{IsLegal, replay}
-use Rattle.session_core.specs.declared.service_state.ServiceState.TheVariants.{Nothing, Raf, Rcf}
+use Rattle.session_core.specs.declared.service_state.ServiceState.TheVariants.{Raf, Rcf}
 use Rattle.session_core.specs.declared.standing.Standing.{Standing}
 use Rattle.session_core.specs.Course.{is_going, is_blocked}
 use Rattle.session_core.specs.Served.{Served}
@@ -40,11 +41,11 @@ use Rattle.session_laws.specs.Losing.{own_in}
 
 -- ---- the delivery of a session
 
--- the delivery that a service keeps
-unfoldable pub delivery_of : Served → Option Course
-delivery_of Nothing = None
-delivery_of (Raf r) = Some r.serving.course
-delivery_of (Rcf r) = Some r.serving.course
+-- the delivery that a bound instance of this service keeps
+unfoldable pub delivery_of : ReturnService → Served → Option Course
+delivery_of buffer.Raf (Raf r) = Some r.serving.course
+delivery_of buffer.Rcf (Rcf r) = Some r.serving.course
+delivery_of _ _ = None
 
 -- the session goes on, and its service is started
 abbrev pub is_serving : Standing → Bool
@@ -58,27 +59,27 @@ ServesOn site s (r ∷ rounds) =
 
 -- ---- what its rounds do
 
--- the octets are the message of these items, which go into one, by somebody who signs them or by
--- nobody
-pub record IsMessageOf (octets : List ℕ) (items : List ToldItem) : Type 0 where
-  pub service : ReturnService
+-- the octets are the message of these items, which go into one, as a buffer of this service, by
+-- somebody who signs them or by nobody
+pub record IsMessageOf (service : ReturnService) (octets : List ℕ) (items : List ToldItem)
+    : Type 0 where
   pub by : Option Signing
   pub first : ℕ
   pub octets_are : octets ≡ message_octets service by first items
   pub fits : IsTrue (fits_message items)
 
 -- each is the message of its buffer
-abbrev pub AreMessagesOf : List (List ℕ) → List (List ToldItem) → Type 0
-AreMessagesOf [] [] = Unit {0}
-AreMessagesOf (octets ∷ more) (items ∷ buffers) =
-    IsMessageOf octets items × AreMessagesOf more buffers
-AreMessagesOf _ _ = ⊥
+abbrev pub AreMessagesOf : ReturnService → List (List ℕ) → List (List ToldItem) → Type 0
+AreMessagesOf service [] [] = Unit {0}
+AreMessagesOf service (octets ∷ more) (items ∷ buffers) =
+    IsMessageOf service octets items × AreMessagesOf service more buffers
+AreMessagesOf _ _ _ = ⊥
 
 -- what is kept to be offered is the message of the buffer that the delivery holds fixed
-pub record Delivers (s : Standing) (c : Course) : Type 0 where
-  pub delivery : delivery_of s.service ≡ Some c
+pub record Delivers (service : ReturnService) (s : Standing) (c : Course) : Type 0 where
+  pub delivery : delivery_of service s.service ≡ Some c
   pub offers : has_outgoing s ≡ true → IsTrue (is_offering c)
-  pub message : has_outgoing s ≡ true → IsMessageOf s.outgoing (held_of c)
+  pub message : has_outgoing s ≡ true → IsMessageOf service s.outgoing (held_of c)
 
 -- a round is a visit: where a block of an earlier round waits it passes, else the delivery takes a
 -- step on the round's look, and is answered where its message was offered
@@ -148,12 +149,13 @@ SeesPublished =
 -- In rounds in which a session serves, it stands for the delivery's visits: their looks are those
 -- that the delivery wants; what the link took whole is, message by message, what they hand over;
 -- what was dropped is what they discard; and what waits is a message of what the delivery holds.
-pub record AreDelivered (site : Site) (s : State) (c : Course) (entries : List Entry) (from : ℕ)
-    (rounds : List Round) : Type 0 where
+pub record AreDelivered (service : ReturnService) (site : Site) (s : State) (c : Course)
+    (entries : List Entry) (from : ℕ) (rounds : List Round) : Type 0 where
   pub looks : AreLooks entries from c (visits_of site s rounds)
   pub goes_on : IsTrue (all_go_on (rounds_of (visits_of site s rounds)))
-  pub now : Delivers (after_rounds site s rounds).standing (after_visits (visits_of site s rounds) c)
-  pub handed : AreMessagesOf (sent_of site s rounds)
+  pub now : Delivers service (after_rounds site s rounds).standing
+      (after_visits (visits_of site s rounds) c)
+  pub handed : AreMessagesOf service (sent_of site s rounds)
       (visits_handed (visits_of site s rounds) c)
   pub dropped : dropped_of site s rounds
       ≡ discards_told (visits_done (visits_of site s rounds) c)
@@ -161,9 +163,10 @@ pub record AreDelivered (site : Site) (s : State) (c : Course) (entries : List E
 -- the law: over any rounds in which a session with a delivery serves, which see these entries
 abbrev pub AreVisits : Type 0
 AreVisits =
-    (entries : List Entry) (site : Site) (rounds : List Round) (s : State) (c : Course) (from : ℕ)
-    → Delivers s.standing c → ServesOn site s rounds → AreRounds site s rounds
-    → SeeEntries entries from site s rounds → AreDelivered site s c entries from rounds
+    (service : ReturnService) (entries : List Entry) (site : Site) (rounds : List Round) (s : State)
+    (c : Course) (from : ℕ) → Delivers service s.standing c → ServesOn site s rounds
+    → AreRounds site s rounds → SeeEntries entries from site s rounds
+    → AreDelivered service site s c entries from rounds
 
 -- ---- a buffer that is due
 
@@ -176,8 +179,8 @@ is_due_to_offer c = is_offering c && fits_message (held_of c)
 -- taken whole is handed over in the round's visit.
 abbrev pub DueIsOffered : Type 0
 DueIsOffered =
-    (site : Site) (s : State) (r : Round) (c : Course) (told : BookAnswer) → IsRound site s r
-    → Delivers s.standing c → is_serving s.standing ≡ true
+    (service : ReturnService) (site : Site) (s : State) (r : Round) (c : Course) (told : BookAnswer)
+    → IsRound site s r → Delivers service s.standing c → is_serving s.standing ≡ true
     → is_serving (after_round site s r).standing ≡ true → r.told ≡ Some told
     → is_blocked (before_step s r).standing.arrival ≡ false
     → is_some r.sent
@@ -188,19 +191,21 @@ DueIsOffered =
 
 -- Where the delivery stood for rounds since its START, it stands for these and those of its visits,
 -- over the same entries; and what the link took whole is what it hands over in them.
-pub record StartDelivers (site : Site) (s : State) (c : Course) (t : Terms) (entries : List Entry)
-    (earlier : List DeliveryRound) (rounds : List Round) : Type 0 where
-  pub delivered : AreDelivered site s c entries (last_front t.selection.first earlier) rounds
+pub record StartDelivers (service : ReturnService) (site : Site) (s : State) (c : Course)
+    (t : Terms) (entries : List Entry) (earlier : List DeliveryRound) (rounds : List Round)
+    : Type 0 where
+  pub delivered : AreDelivered service site s c entries (last_front t.selection.first earlier)
+      rounds
   pub stand : VisitsStand c t entries earlier (visits_of site s rounds)
 
 abbrev pub StartsDeliver : Type 0
 StartsDeliver =
-    (entries : List Entry) (site : Site) (rounds : List Round) (s : State) (c : Course) (t : Terms)
-    (earlier : List DeliveryRound)
-    → StandsFor c t entries earlier → Delivers s.standing c → ServesOn site s rounds
+    (service : ReturnService) (entries : List Entry) (site : Site) (rounds : List Round) (s : State)
+    (c : Course) (t : Terms) (earlier : List DeliveryRound)
+    → StandsFor c t entries earlier → Delivers service s.standing c → ServesOn site s rounds
     → AreRounds site s rounds
     → SeeEntries entries (last_front t.selection.first earlier) site s rounds
-    → StartDelivers site s c t entries earlier rounds
+    → StartDelivers service site s c t entries earlier rounds
 
 -- what a START's delivery did in the session's rounds behind it
 abbrev pub done_in_rounds : Site → State → Terms → List Entry → List Round → List Outcome
@@ -235,9 +240,10 @@ pub record IsTimely (t : Terms) (archive : List Entry) (done : List Outcome) : T
 -- From a START on, over any rounds in which its session serves.
 abbrev pub FromStart : (Terms → List Entry → List Outcome → Type 0) → (Mode → Type 0) → Type 0
 FromStart Is Has =
-    (entries later : List Entry) (site : Site) (rounds : List Round) (s : State) (c : Course)
-    (t : Terms) → StandsFor c t entries [] → Delivers s.standing c → ServesOn site s rounds
-    → AreRounds site s rounds → SeeEntries entries t.selection.first site s rounds → Has t.mode
+    (service : ReturnService) (entries later : List Entry) (site : Site) (rounds : List Round)
+    (s : State) (c : Course) (t : Terms) → StandsFor c t entries [] → Delivers service s.standing c
+    → ServesOn site s rounds → AreRounds site s rounds
+    → SeeEntries entries t.selection.first site s rounds → Has t.mode
     → IsArchive (seen_and_later site s entries rounds later)
     → Is t (seen_and_later site s entries rounds later) (done_in_rounds site s t entries rounds)
 

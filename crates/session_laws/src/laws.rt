@@ -29,8 +29,9 @@ pub fn a_door_begins_free()
 }
 
 /// In rounds in which a session serves, each is a visit of its delivery: the looks are those that
-/// the delivery wants; each message that the link took whole is that of the buffer which the
-/// delivery hands over in that visit; and what the session drops is what it discards.
+/// the delivery wants; each message that the link took whole is that of the buffer, one of the bound
+/// service, which the delivery hands over in that visit; and what the session drops is what it
+/// discards.
 pub fn a_sessions_rounds_are_its_deliverys()
     ensures { AreVisits }
 {

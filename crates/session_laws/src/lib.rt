@@ -8,7 +8,7 @@
 //
 // A session's services are looked into in few places: `delivery_of` says which delivery one keeps,
 // and the first lemmas of `proofs/Deliveries.antt` and `proofs/Starts.antt` what it makes of it, with
-// a clause for each service that has one.
+// a clause for each service that has one: RAF and RCF.
 //
 // The laws run nothing.
 #![tactic(auto)]
