@@ -29,7 +29,6 @@ use Rattle.antenna_turns.specs.declared.stepping.AntennaStep.{AntennaStep}
 use Rattle.antenna_turns.specs.declared.stepping.AntennaStep.TheVariants.{Idle, Waits, Expired}
 use Rattle.antenna_turns.specs.declared.stepping.AntennaStep.TheVariants.{Sent, Failed}
 use Rattle.antenna_turns.specs.declared.radiating.Radiated.{Radiated}
-use Rattle.antenna_turns.specs.declared.radiating.TurnsSpent.{TurnsSpent}
 
 tells_none : {A : Type 0} (told : Option (List A)) → Tells told told []
 tells_none told = grind (arith, append-nil)
@@ -378,14 +377,14 @@ module _ {A C : Type 0} (sent : A → Option (List (List ℕ))) (faults : A → 
         record {
           steps = on.steps;
           works = on.works;
-          ended = (on.sent_are, on.failed_are, once.gone refl);
+          ended = ((on.sent_are, on.failed_are), once.gone refl);
         }
 
-  pub radiates_spent : (counts : Radiated) (spent : TurnsSpent) (p q : AntennaState A C)
-      → (so : Going counts p q) → q.pass.left < 2
-      → Radiates sent faults readings lock (Err spent) p q
-  radiates_spent counts spent p q so few =
-      record { steps = so.steps; works = so.works; ended = few }
+  pub radiates_spent : (counts : Radiated) (p q : AntennaState A C) → (so : Going counts p q)
+      → q.pass.left < 2
+      → Radiates sent faults readings lock (Err (record { radiated = counts })) p q
+  radiates_spent counts p q so few =
+      record { steps = so.steps; works = so.works; ended = ((so.sent_are, so.failed_are), few) }
 
   pub going_none : (w : AntennaState A C) → Gains lock 0 [] w.pass w.pass
       → Reads (readings w.clock) (readings w.clock) []

@@ -52,6 +52,11 @@ Rests found gone (Expired id) = found ≡ taken.Expired id
 Rests found gone (Sent id) = ⊥
 Rests found gone (Failed id) = ⊥
 
+-- so many steps radiated, and so many were broken off
+abbrev pub CountsSteps : Radiated → List Step → Type 0
+CountsSteps counts steps =
+    (counts.sent ≡ count_by is_radiated steps) × (counts.failed ≡ count_by is_broken_off steps)
+
 -- what a step was, by its answer
 abbrev pub IsAnswered : AntennaStep → Step → Type 0
 IsAnswered (Idle gone) (looked m) = IsTake taken.Idle m.event
@@ -87,10 +92,8 @@ module _ {A C : Type 0} (sent : A → Option (List (List ℕ))) (faults : A → 
   -- How the worker ended: all other workers were gone and nothing was left to radiate, or fewer than
   -- two turns were left.
   abbrev pub EndsSo : Result Radiated TurnsSpent → List Step → AntennaState A C → Type 0
-  EndsSo (Ok counts) steps new =
-      (counts.sent ≡ count_by is_radiated steps) × (counts.failed ≡ count_by is_broken_off steps)
-      × FoundAllGone lock new.pass
-  EndsSo (Err spent) steps new = new.pass.left < 2
+  EndsSo (Ok counts) steps new = CountsSteps counts steps × FoundAllGone lock new.pass
+  EndsSo (Err spent) steps new = CountsSteps spent.radiated steps × (new.pass.left < 2)
 
   -- The antenna's worker: steps until an end.
   pub record Radiates (result : Result Radiated TurnsSpent) (old new : AntennaState A C)

@@ -23,7 +23,10 @@ pub struct Radiated {
 
 /// Fewer than two turns are left, so that no CLTU may be taken any more.
 #[derive(Clone, Copy, Debug, PartialEq, Eq)]
-pub struct TurnsSpent;
+pub struct TurnsSpent {
+    /// What was radiated till then.
+    pub radiated: Radiated,
+}
 
 /// Radiates what the book's queue has, until all other workers are gone and nothing is left to
 /// radiate, or until fewer than two turns are left. Where nothing may radiate yet, the worker sleeps
@@ -54,5 +57,5 @@ pub fn radiate<R: Wait + rt::Clock, A: Antenna, C: Clock>(
             AntennaStep::Failed { .. } => counts.failed += 1,
         }
     }
-    Err(TurnsSpent)
+    Err(TurnsSpent { radiated: counts })
 }
