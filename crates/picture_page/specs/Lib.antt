@@ -1,0 +1,4 @@
+pub mod Escape
+pub mod Attributes
+pub mod Content
+pub mod Sheet
