@@ -19,12 +19,11 @@ loop-seat-preserved c =
     let capacity : vec_capacity c.push_reserved.new.self ≡ vec_capacity c.loop-seat.reports =
     search rules in
     let fits : vec_len c.push_reserved.new.self + length left
-    ≤ vec_capacity c.push_reserved.new.self = omega (arith, room, long, count, capacity) in
-    (
+    ≤ vec_capacity c.push_reserved.new.self = omega (arith, room, long, count, capacity) in (
       gathered_more c.args.station.now c.args.seats.items c.args.pass.now
-      c.args.reports.now.items c.loop-seat.yielded (into_iter_items c.loop-seat.seat-iterator) left
-      c.in-Some.seat c.loop-seat.pass c.join.new.pass c.loop-seat.reports.items
-      c.push_reserved.new.self.items c.loop-seat.invariant.0 rest c.join.ensures.both
-      c.push_reserved.ensures.items,
+          c.args.reports.now.items c.loop-seat.yielded (into_iter_items c.loop-seat.seat-iterator) left
+          c.in-Some.seat c.loop-seat.pass c.join.new.pass c.loop-seat.reports.items
+          c.push_reserved.new.self.items c.loop-seat.invariant.0 rest c.join.ensures.both
+          c.push_reserved.ensures.items,
       fits,
     )
