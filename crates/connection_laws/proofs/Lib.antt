@@ -1,0 +1,4 @@
+mod Books
+mod Doors
+mod Ends
+mod Lives
