@@ -9,7 +9,8 @@ use Rattle.station_law.specs.Runs.{after}
 use Rattle.station_law.specs.Standing.{there, is_free}
 use Rattle.station_law.specs.State.{State, start as new_world}
 use Rattle.provider_cli.specs.Connection.{Connection, IsConnectionOf, EachConnection, IsSessionOf}
-use Rattle.provider_cli.specs.Connection.{HasHistory, world_before, world_behind, life_of}
+use Rattle.provider_cli.specs.Connection.{IsLosslessOf, HasHistory, world_before, world_behind}
+use Rattle.provider_cli.specs.Connection.{life_of}
 use Rattle.provider_cli.specs.Laws.{Laws}
 use Rattle.provider_cli.proofs.Pieces.{lines_bring}
 
@@ -56,6 +57,10 @@ module _ (laws : Laws) (script : List ℕ) (o : Connection) (is : IsConnectionOf
       subst (λ site. IsOfSession site o.c (world_before o).clock (life_of o some)) site_is
       (laws.connections.lives (world_behind o) o.c (world_before o).clock (take some o.later)
       just_opened) (lines_bring o.c (take some o.later) (world_behind o))
+
+  pub is_lossless : IsLosslessOf o
+  is_lossless = λ some. laws.lossless o.site o.earlier (take some o.later) o.c is.free
+      (lines_bring o.c (take some o.later) (world_behind o))
 
 pub each_connection : (input : Option (List ℕ)) (IsSo : Connection → Type 0)
     → ((script : List ℕ) (o : Connection) → IsConnectionOf script o → IsSo o)

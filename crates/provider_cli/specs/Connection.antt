@@ -12,6 +12,7 @@ use Rattle.station_law.specs.Lines.{step, step_text}
 use Rattle.station_law.specs.Runs.{after, in_order}
 use Rattle.station_law.specs.Standing.{is_free}
 use Rattle.station_law.specs.State.{State, start as new_world}
+use Rattle.connection_laws.specs.Lossless.{IsLossless}
 use Rattle.provider_cli.specs.Lines.{lines_of}
 use Rattle.provider_cli.specs.Script.{script_of, runs}
 
@@ -58,6 +59,11 @@ IsSessionAt o v =
 -- so is its life over any first few lines
 abbrev pub IsSessionOf : Connection → Type 0
 IsSessionOf o = (some : ℕ) → IsSessionAt o (life_of o some)
+
+-- Over any first few lines the book answers nothing of it Lost, and no line `ended C aborted 127` is
+-- said of it, the end that a lost reply alone leads to.
+abbrev pub IsLosslessOf : Connection → Type 0
+IsLosslessOf o = (some : ℕ) → IsLossless (life_of o some)
 
 -- That book has one legal history: at each line that runs, it goes on where the line before left
 -- it, and a recovery begins a new one.

@@ -7,14 +7,15 @@ use Rattle.provider_cli.specs.Drilled.{ended, HasText, HasReads, HasWrites, HasS
 use Rattle.provider_cli.specs.Start.{EachStart}
 use Rattle.provider_cli.specs.Headline.{HasTranscript, HasWorld, IsDelivered, IsSent, IsStreamed}
 use Rattle.provider_cli.specs.Headline.{IsReadOf}
-use Rattle.provider_cli.specs.Connection.{EachConnection, IsSessionOf, HasHistory}
+use Rattle.provider_cli.specs.Connection.{EachConnection, IsSessionOf, IsLosslessOf, HasHistory}
 
 -- By the status that the exit code is: what was written, which calls failed, what the script is,
 -- and that it ends with its own status. Then where the text of each line stands; that the lines are
 -- events of a world, which has the headline at each moment, so that what each START has handed over
 -- is right behind all later ones; and of each START what delivers its buffers, where its messages
 -- stand in the output, that they are a stream, and what a user reads of them. And of each
--- connection: that what is said of it is *Session*, on the script's one book.
+-- connection: that what is said of it is *Session*, on the script's one book, which loses nothing that
+-- it asks, so that none ends with `aborted 127`.
 pub record IsDrill (before after : Outside) (exit : ℕ) : Type 0 where
   pub status : Status
   pub exit_is : exit ≡ code status
@@ -30,4 +31,5 @@ pub record IsDrill (before after : Outside) (exit : ℕ) : Type 0 where
   pub streamed : EachStart before.left IsStreamed
   pub read : EachStart before.left IsReadOf
   pub sessions : EachConnection before.left IsSessionOf
+  pub lossless : EachConnection before.left IsLosslessOf
   pub history : HasHistory before.left

@@ -13,6 +13,7 @@ use crate::put::put_line;
 use crate::run::run_script;
 use crate::status::Status;
 use archive_terms::laws::offline_rounds;
+use connection_laws::laws::connections_lose_nothing;
 use isp1_tml::laws::spelled_is_read;
 use octet_core::{Sink, Source};
 use script_world::laws::a_script_is_events;
@@ -48,6 +49,7 @@ fn laws()
     transcript_law();
     a_script_is_events();
     connections_are_sessions();
+    connections_lose_nothing();
     a_start_is_read();
     offline_rounds();
     spelled_is_read();

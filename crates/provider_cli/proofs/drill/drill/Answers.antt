@@ -2,7 +2,7 @@ use Rattle.provider_cli.specs.Outside.{Outside, showing}
 use Rattle.provider_cli.proofs.Promises.{delivered, read_of, streamed}
 use Rattle.provider_cli.proofs.Promises.{each_start, each_sent, has_transcript, has_world}
 use Rattle.provider_cli.proofs.Promises.{completes}
-use Rattle.provider_cli.proofs.Sessions.{each_connection, is_session, has_history}
+use Rattle.provider_cli.proofs.Sessions.{each_connection, is_session, is_lossless, has_history}
 use Rattle.provider_cli.proofs.drill.drill.Goals as goal
 
 pub returns : goal.returns
@@ -29,5 +29,6 @@ returns g c =
       streamed = each_start before.left _ (streamed laws);
       read = each_start before.left _ (read_of laws);
       sessions = each_connection before.left _ (is_session laws);
+      lossless = each_connection before.left _ (is_lossless laws);
       history = has_history laws before.left;
     }
