@@ -1,4 +1,6 @@
+pub mod Places
 pub mod Printed
 pub mod Rests
 pub mod Spoken
 pub mod Steps
+pub mod Turns

@@ -17,7 +17,7 @@ use Rattle.user_core.specs.Dialogue.{refused_at, bad_at}
 use Rattle.user_core.specs.Hearing.{heard_all}
 use Rattle.user_core.specs.Laws.{Prints, PrintsInOrder}
 
-if_lines : (d x y : Talk) (b : Bool) → x.lines ≡ d.lines → y.lines ≡ d.lines
+pub if_lines : (d x y : Talk) (b : Bool) → x.lines ≡ d.lines → y.lines ≡ d.lines
     → (if b then x else y).lines ≡ d.lines
 if_lines d x y true g h = g
 if_lines d x y false g h = h
@@ -33,7 +33,7 @@ next_lines task now d None = refl
 next_lines task now d (Some s) =
     if_lines d (said_to task now d s) d (may_say task.work d.course s) (said_lines task now d s) refl
 
-went_lines : (task : Task) (now : ℕ) (d : Talk) → (went_on task now d).lines ≡ d.lines
+pub went_lines : (task : Task) (now : ℕ) (d : Talk) → (went_on task now d).lines ≡ d.lines
 unfolding went_on
 went_lines task now d =
     if_lines d d (next_said task now d (invocation_at task.work d.course.said)) (rests d.course)
@@ -55,7 +55,7 @@ over_refused : (refused : Bool) (place : ℕ) (d : Talk) → is_over d.course �
 over_refused false place d is = refl
 over_refused true place d is = rw is refl
 
-over_all : (task : Task) (now place : ℕ) (refused : Bool) (messages : List Content) (d : Talk)
+pub over_all : (task : Task) (now place : ℕ) (refused : Bool) (messages : List Content) (d : Talk)
     → is_over d.course ≡ true → heard_all task now place refused messages d ≡ d
 over_all task now place refused [] d is = over_refused refused place d is
 over_all task now place refused (m ∷ messages) d is =
@@ -75,6 +75,9 @@ none_printed s d e same is = record {
   all = λ going.
       let over : is_over e.course ≡ true = ap (λ (t : Talk). is_over t.course) same ∙ is in
       absurd cc;
+  good = λ going.
+      let over : is_over e.course ≡ true = ap (λ (t : Talk). is_over t.course) same ∙ is in
+      absurd cc;
 }
 
 last_printed : (task : Task) (place : ℕ) (refused over : Bool) (d : Talk)
@@ -86,6 +89,7 @@ last_printed task place false over d is = record {
   lines = sym (append-nil d.lines);
   whole = refl;
   all = λ going. refl;
+  good = λ going. refl;
 }
 last_printed task place true true d is =
     none_printed (shown (service_of task.work) place true []) d (refused_at true place d)
@@ -96,6 +100,9 @@ last_printed task place true false d is = record {
   lines = rw is refl;
   whole = sym (append-nil (bad_line place));
   all = λ going. refl;
+  good = λ going.
+      let over : is_over (refused_at true place d).course ≡ true = rw is refl in
+      absurd cc;
 }
 
 -- behind a message that isn't bad
@@ -107,6 +114,7 @@ more_printed s d c e text is later = record {
   lines = later.lines ∙ ap (λ x. x ++ later.front) is ∙ append_assoc d.lines text later.front;
   whole = ap (λ x. text ++ x) later.whole ∙ sym (append_assoc text later.front later.rest);
   all = later.all;
+  good = later.good;
 }
 
 going_heard : (task : Task) (now place : ℕ) (d : Talk) (m : Content) → is_over d.course ≡ false
@@ -126,6 +134,10 @@ message_printed task now place d None later after stays prints = record {
   lines = ap (λ (t : Talk). t.lines) (stays (bad_at place d) refl);
   whole = sym (append-nil (bad_line place));
   all = λ going. refl;
+  good = λ going.
+      let over : is_over (after (bad_at place d)).course ≡ true =
+      ap (λ (t : Talk). is_over t.course) (stays (bad_at place d) refl) in
+      absurd cc;
 }
 message_printed task now place d (Some t) later after stays prints =
     let c = went_on task now (told_to task d t) in

@@ -1,15 +1,18 @@
 -- What holds of every user, over every list of turns.
-use Rattle.std.specs.Prelude.{◌≡◌, ◌⊎◌, ℕ, ◌+◌, Bool, true, false, Option, Some, None, List, []}
-use Rattle.std.specs.Prelude.{◌∷◌, ◌++◌}
+use Rattle.std.specs.Prelude.{◌≡◌, ◌⊎◌, ℕ, ◌+◌, ◌<◌, Bool, true, false, not, ◌&&◌, Option, Some}
+use Rattle.std.specs.Prelude.{None, List, [], ◌∷◌, ◌++◌, slice_index}
 use Rattle.isp1_auth.specs.Numbers.{first_number, next_number}
 use Rattle.isp1_tml.specs.Message.{Content, spelling, heartbeat}
+use Rattle.isp1_tml.specs.Unread.{Unread}
+use Rattle.sle_numbers.specs.declared.service_type.ServiceType.{ServiceType}
 use Rattle.user_task.specs.declared.task.Task.{Task}
 use Rattle.user_task.specs.Invocation.{Said, invocation_at}
-use Rattle.user_task.specs.Work.{service_of}
-use Rattle.user_lines.specs.Shown.{Shown, shown}
+use Rattle.user_task.specs.Work.{service_of, is_show}
+use Rattle.user_lines.specs.Lines.{bad_line}
+use Rattle.user_lines.specs.Shown.{Shown, shown, shown_of}
 use Rattle.user_core.specs.Course.{is_over}
 use Rattle.user_core.specs.Dialogue.{Talk, front_of, message_said, heard}
-use Rattle.user_core.specs.Hearing.{Hearing, heard_all}
+use Rattle.user_core.specs.Hearing.{Kept, Hearing, nothing, came, ended, unread_in, heard_all}
 use Rattle.user_core.specs.Turn.{Standing, Answer, new_user, turned, answered}
 
 -- ---- what is said
@@ -108,13 +111,15 @@ pub record StaysOver (s : Standing) (t : Turn) : Type 0 where
 abbrev pub EndsForGood : Type 0
 EndsForGood = (s : Standing) (t : Turn) → is_over s.course ≡ true → StaysOver s t
 
--- These lines begin those of messages, and are all of them where the user goes on.
+-- These lines begin those of messages, and are all of them where the user goes on, and then none of
+-- the messages is bad.
 pub record Prints (s : Shown) (d e : Talk) : Type 0 where
   pub front : List ℕ
   pub rest : List ℕ
   pub lines : e.lines ≡ d.lines ++ front
   pub whole : s.text ≡ front ++ rest
   pub all : is_over e.course ≡ false → rest ≡ []
+  pub good : is_over e.course ≡ false → s.bad ≡ false
 
 -- Each message that comes whole is printed once, in order, up to the one that ends the user.
 abbrev pub PrintsInOrder : Type 0
@@ -122,3 +127,65 @@ PrintsInOrder =
     (task : Task) (now place : ℕ) (refused : Bool) (messages : List Content) (d : Talk)
     → Prints (shown (service_of task.work) place refused messages) d
     (heard_all task now place refused messages d)
+
+-- ---- what is printed over turns
+
+-- the octets that came in turns, until the stream's end
+abbrev pub came_before : Hearing → List ℕ → List ℕ
+came_before nothing later = later
+came_before (came octets) later = octets ++ later
+came_before ended later = []
+
+abbrev pub octets_in : List Turn → List ℕ
+octets_in [] = []
+octets_in (t ∷ turns) = came_before t.hearing (octets_in turns)
+
+-- whether the stream's end was heard
+abbrev pub ends_before : Hearing → Bool → Bool
+ends_before nothing later = later
+ends_before (came octets) later = later
+ends_before ended later = true
+
+abbrev pub ends_in : List Turn → Bool
+ends_in [] = false
+ends_in (t ∷ turns) = ends_before t.hearing (ends_in turns)
+
+-- all that is printed in turns
+abbrev pub printed : Standing → List Turn → List ℕ
+printed s [] = []
+printed s (t ∷ turns) = (answer_in s t).lines ++ printed (after_turn s t) turns
+
+-- octets that are left over at the stream's end
+abbrev pub left_line : Bool → ℕ → List ℕ → List ℕ
+left_line true place (octet ∷ rest) = bad_line place
+left_line _ place rest = []
+
+-- the lines of a stream, and where it is closed and none of its messages is bad, of what is left
+abbrev pub text_by : Bool → Shown → List ℕ → List ℕ
+text_by closed s rest = s.text ++ left_line (closed && not s.bad) s.place rest
+
+abbrev pub stream_text : ServiceType → Bool → Unread → List ℕ
+stream_text service closed u = text_by closed (shown_of service u) u.rest
+
+-- the lines of the stream that came in turns behind what was kept; one who only reads is told of a
+-- message that is cut at the stream's end
+abbrev pub text_from : Task → Kept → List Turn → List ℕ
+text_from task k turns =
+    stream_text (service_of task.work) (is_show task.work && ends_in turns)
+    (unread_in k (octets_in turns))
+
+abbrev pub AreOctets : List ℕ → Type 0
+AreOctets octets = (i : ℕ) → slice_index octets i < 256
+
+-- What was printed in turns begins the lines of the stream that came in them, and is all of them
+-- where the user goes on.
+pub record PrintsStream (s : Standing) (turns : List Turn) : Type 0 where
+  pub rest : List ℕ
+  pub whole : text_from s.task s.stream turns ≡ printed s turns ++ rest
+  pub all : is_over (after_turns s turns).course ≡ false → rest ≡ []
+
+-- Over every list of turns, whatever the pieces in which the stream comes.
+abbrev pub LinesInOrder : Type 0
+LinesInOrder =
+    (task : Task) (turns : List Turn) → AreOctets (octets_in turns)
+    → PrintsStream (new_user task) turns

@@ -1,5 +1,8 @@
 // What holds of every user. A law's function does nothing: its contract is the law.
 ghost use Rattle.user_core.specs.Laws.{OffersInOrder, OneAnswer, EndsForGood, PrintsInOrder};
+ghost use Rattle.user_core.specs.Laws.{LinesInOrder};
+
+use isp1_tml::laws as stream;
 
 /// Over every list of turns, what is offered is BIND behind the context, START, a TRANSFER-DATA for
 /// each CLTU, STOP and UNBIND as far as they were said, in this order, each once, with its invoke
@@ -26,3 +29,15 @@ pub fn ends_for_good()
 pub fn prints_in_order()
     ensures { PrintsInOrder }
 {}
+
+/// Over every list of turns, in whatever pieces the stream comes, what is printed begins the lines of
+/// that one stream, each message's once and in order, and is all of them where the user goes on. One
+/// who only reads is told of a message that is cut at the stream's end.
+pub fn lines_in_order()
+    ensures { LinesInOrder }
+{
+    stream::each_is_read();
+    stream::is_worked_out();
+    stream::goes_on();
+    stream::refused_for_good();
+}
