@@ -1,0 +1,5 @@
+pub mod Split
+pub mod Walked
+pub mod Read
+pub mod Forms
+pub mod Values
