@@ -1,0 +1,89 @@
+-- What came of a station's run. This product's own.
+use Rattle.std.specs.Prelude.{◌≡◌, ℕ, ◌+◌, ◌-◌, List, [], ◌∷◌, All, length, Option}
+use Rattle.archive_terms.specs.Archive.{Entry}
+use Rattle.cds_time.specs.declared.cds.Cds.{Cds}
+use Rattle.disk_model.specs.Images.{Pending}
+use Rattle.disk_model.specs.declared.call.Call.{Call as DiskCall}
+use Rattle.frame_archive.specs.State.{ArchiveState}
+use Rattle.recorder.specs.Feeds.{Answer}
+use Rattle.link_model.specs.declared.call.Call.{Call as LinkCall}
+use Rattle.door_model.specs.Shown.{Shown}
+use Rattle.turn_lock.specs.PassState.{PassState, Lock}
+use Rattle.turn_lock.specs.Own.{MakeUp}
+use Rattle.turn_lock.specs.declared.view.Mark.{Mark}
+use Rattle.station_config.specs.declared.site.Site.{Site}
+use Rattle.station_book.specs.State.{Opening, opened, Event}
+use Rattle.station_book.specs.History.{replay, IsLegal}
+use Rattle.station_book.specs.Origin.{opening_of}
+use Rattle.station_seats.specs.Seats.{IsFresh, owns_of, reports_of}
+use Rattle.station_seats.specs.declared.seat.DoorSeat.{DoorSeat}
+use Rattle.recorder_turns.specs.Steps as recorder
+use Rattle.antenna_turns.specs.Radiating as antenna
+use Rattle.door_turns.specs.Doors.{EachWorks}
+use Rattle.station_run.specs.Workers.{RecordsAt, RadiatesAt}
+use Rattle.station_run.specs.declared.report.RunReport.{RunReport}
+
+-- how many entries were published in a history, beside those of its origin
+abbrev pub published_count : Opening → List Event → ℕ
+published_count origin history =
+    length (replay (opened origin) history).published - length origin.entries
+
+-- A closed history: it is legal from the lock's origin, and made up of the events of these lists,
+-- each once.
+pub record IsHistory (lock : Lock Opening) (history : List Event) (lists : List (List (Mark Event)))
+    : Type 0 where
+  pub legal : IsLegal (opened lock.origin) history
+  pub make_up : MakeUp history lists
+
+-- what the outside of a run is: its source of entries, its antenna with a clock, and its doors with
+-- theirs
+pub record Outside (F A G C : Type 0) : Type 0 where
+  pub frames : F
+  pub antenna : A
+  pub antenna_clock : C
+  pub doors : List G
+  pub clocks : List C
+
+abbrev pub outside : {F A G C : Type 0} → F → A → C → List G → List C → Outside F A G C
+outside frames antenna antenna_clock doors clocks = record {
+  frames = frames;
+  antenna = antenna;
+  antenna_clock = antenna_clock;
+  doors = doors;
+  clocks = clocks;
+}
+
+-- A run over an archive, whose entries at its opening were these. The recorder, the antenna's worker
+-- and each door's began with so many turns and no events, and did what their reports say; the
+-- history is made up of what each has as its own. As many entries were published as the report says.
+pub record Ran {D F A G L C : Type 0} (pending : D → Option Pending) (disk_faults : D → ℕ)
+    (makes fails : D → DiskCall → D → Type 0) (fails_to_read : D → D → Type 0)
+    (answers : F → Option (List Answer)) (source_faults : F → ℕ)
+    (sent : A → Option (List (List ℕ))) (antenna_faults : A → ℕ) (shown : G → Option Shown)
+    (door_faults : G → ℕ) (calls : L → Option (List LinkCall)) (link_faults : L → ℕ)
+    (readings : C → Option (List Cds)) (site : Site) (turns links draw : ℕ)
+    (entries : List Entry) (archive archive_now : ArchiveState D) (old new : Outside F A G C)
+    (report : RunReport) : Type 0 where
+  pub lock : Lock Opening
+  pub origin : lock.origin ≡ opening_of site entries (length old.doors + 1)
+  pub recorder_pass : PassState Event Opening
+  pub recorder_now : PassState Event Opening
+  pub recorder_fresh : IsFresh lock turns recorder_pass
+  pub records : RecordsAt pending disk_faults makes fails fails_to_read answers source_faults lock
+      (length old.doors) report.recording (recorder.worker archive old.frames recorder_pass)
+      (recorder.worker archive_now new.frames recorder_now)
+  pub antenna_pass : PassState Event Opening
+  pub antenna_now : PassState Event Opening
+  pub antenna_fresh : IsFresh lock turns antenna_pass
+  pub radiates : RadiatesAt sent antenna_faults readings lock (length old.doors + 1)
+      report.radiating (antenna.worker old.antenna old.antenna_clock antenna_pass)
+      (antenna.worker new.antenna new.antenna_clock antenna_now)
+  pub seats : List DoorSeat
+  pub seats_now : List DoorSeat
+  pub seats_fresh : All (λ seat. IsFresh lock turns seat.pass) seats
+  pub works : EachWorks shown door_faults calls link_faults readings lock site draw links 0 seats
+      seats_now old.doors new.doors old.clocks new.clocks
+  pub reports : report.doors.items ≡ reports_of seats_now
+  pub history : IsHistory lock report.pass.seen
+      ([] ∷ recorder_now.own ∷ antenna_now.own ∷ [] ∷ owns_of seats_now)
+  pub published : report.published ≡ published_count lock.origin report.pass.seen
