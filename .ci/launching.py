@@ -41,7 +41,7 @@ case $1 in
     ci)
         [ -z "$CHANGES" ] || echo >>"$CHANGES"
         sed 's/[ :].*/ proved/; s/^/rt: /; s/cds_time proved/cds_time is kept: so/' crates.txt
-        for main in provider_cli explain_cli capture_cli; do
+        for main in provider_cli explain_cli capture_cli station_cli; do
             mkdir -p crates/$main/out
             printf '#!/bin/sh\necho "proved program: $*"\n' >crates/$main/out/$main
             chmod +x crates/$main/out/$main
@@ -104,7 +104,7 @@ class Copy:
 # ---- words
 
 OWN = [[b"help"], [b"--help"], [b"-h"], [b"--version"], [b"prove"]]
-COMMANDS = [b"drill", b"rehearse", b"init", b"list", b"explain", b"prove"]
+COMMANDS = [b"drill", b"rehearse", b"init", b"list", b"explain", b"run", b"prove"]
 # words outside the launcher's own grammar, which the program refuses too
 OUTSIDE = [
     *([*words, more] for words in OWN[1:] for more in [b"", b"x", b"drill"]),
@@ -319,6 +319,26 @@ def capturing(copy, check):
         check(f"launcher, refused {line}", copy.run(line), USAGE)
 
 
+def running(copy, check):
+    """`run` is a program of its own, and wants a proof."""
+    words = [b"run", b"10", b"1", b"a b", b"1", b"", b"65535", b"5101"]
+    copy.forget()
+    status, output, errors = copy.run(words)
+    check("unproved run", (status, output, errors.count(b"`bin/provider prove run`")), (1, b"", 1))
+    check("unproved run, rt", copy.noted("words"), None)
+    path = copy.top / PROGRAM.replace("provider_cli", "station_cli")
+    check("prove run", copy.run([b"prove", b"run"])[:2], (0, bytes(path) + b"\n"))
+    said = b"proved program: " + b" ".join(words[1:]) + b"\n"
+    check("proved run", copy.run(words), (0, said, b""))
+    shutil.rmtree(path.parent)
+    for place, word in [(1, b"9"), (1, b"1099511627777"), (2, b"0"), (2, b"65537"), (4, b"0"),
+                        (4, b"65536"), (6, b"01"), (7, b"+1"), (7, b"")]:
+        line = [*words[:place], word, *words[place + 1:]]
+        check(f"launcher, refused {line}", copy.run(line), USAGE)
+    for line in [words[:6], [*words, *[b"1"] * 15], [b"prove", b"run", b"x"]]:
+        check(f"launcher, refused {line}", copy.run(line), USAGE)
+
+
 def is_proved(copy):
     given = {"SAYS": ENDED, "OUTPUT": "unproved"}
     output = copy.run([b"drill"], given=given)[1]
@@ -472,8 +492,8 @@ def drive(launcher, run, check, outside):
             first = real.start([b"drill"], stdin=script)
         words(copy, run, check, outside)
         own_words(copy, check)
-        for part in (unproved, inputs, explaining, capturing, prove, sameness, failing_proofs, gate,
-                     signals):
+        for part in (unproved, inputs, explaining, capturing, running, prove, sameness,
+                     failing_proofs, gate, signals):
             part(copy, check)
         output, errors = first.communicate(timeout=600)
         expected = run([b"drill"], (TOP / "examples/first-pass.script").read_bytes())[1]

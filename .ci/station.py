@@ -1,0 +1,414 @@
+#!/usr/bin/env python3
+"""Drives a station over the loopback, as users, a front end and an operator do.
+
+usage: station.py STATION PROVIDER
+
+Users bind, hear heartbeats, start deliveries, read their transfer buffers back and unbind; sixteen of
+them at once, one octet by octet; one resets its connection. A front end feeds frames meanwhile. What
+a user was handed is compared with what was fed, and so is what `list` of the provider shows afterwards. The octets
+of the users' messages are spelled here by hand, from the standards. The last line says how many
+checks passed.
+"""
+import os
+import socket
+import struct
+import subprocess
+import sys
+import tempfile
+import threading
+import time
+
+STATION, PROVIDER = map(os.path.abspath, sys.argv[1:])
+# How many seconds a user waits for anything.
+PATIENCE = 60
+TURNS = "100000000"
+
+passed = failed = 0
+lock = threading.Lock()
+
+
+def check(name, found, expected):
+    global passed, failed
+    with lock:
+        if found == expected:
+            passed += 1
+        else:
+            failed += 1
+            print(f"station: {name}: found {found!r:.400}, expected {expected!r:.400}")
+
+
+# ---- messages, after CCSDS 913.1-B (transport), CCSDS 911.1-B (RAF) and X.690
+
+def tlv(tag, content):
+    size = len(content)
+    if size < 128:
+        length = bytes([size])
+    else:
+        octets = size.to_bytes((size.bit_length() + 7) // 8, "big")
+        length = bytes([128 + len(octets)]) + octets
+    return bytes.fromhex(tag) + length + content
+
+
+def integer(value):
+    return tlv("02", value.to_bytes(value.bit_length() // 8 + 1, "big", signed=True))
+
+
+UNUSED = bytes.fromhex("8000")
+ATTRIBUTES = {"sagr": 52, "spack": 53, "rsl-fg": 38, "raf": 22}
+
+
+def message(pdu):
+    return struct.pack(">B3xI", 1, len(pdu)) + pdu
+
+
+def context(interval, factor):
+    return struct.pack(">B3xI", 2, 12) + b"ISP1" + struct.pack(">3xBHH", 1, interval, factor)
+
+
+HEARTBEAT = struct.pack(">B3xI", 3, 0)
+
+
+def identifier(text):
+    names = b""
+    for part in text.split("."):
+        name, value = part.split("=")
+        oid = tlv("06", bytes([43, 112, 4, 3, 1, 2, ATTRIBUTES[name]]))
+        names += tlv("31", tlv("30", oid + tlv("1a", value.encode())))
+    return tlv("30", names)
+
+
+def bind(name, instance):
+    return message(tlv("bf64", UNUSED + tlv("1a", name.encode()) + tlv("1a", b"PORT1") + integer(0)
+                       + integer(5) + identifier(instance)))
+
+
+def start(invoke, first=None, last=None):
+    def moment(time):
+        return UNUSED if time is None else tlv("a1", tlv("80", time))
+    return message(tlv("a0", UNUSED + integer(invoke) + moment(first) + moment(last) + integer(2)))
+
+
+def stop(invoke):
+    return message(tlv("a2", UNUSED + integer(invoke)))
+
+
+UNBIND = message(tlv("bf66", UNUSED + integer(0)))
+BOUND = message(tlv("bf65", UNUSED + tlv("1a", b"STATION") + tlv("80", b"\5")))
+UNBOUND = message(tlv("bf67", UNUSED + UNUSED))
+
+
+def started(invoke):
+    return message(tlv("a1", UNUSED + integer(invoke) + UNUSED))
+
+
+def stopped(invoke):
+    return message(tlv("a3", UNUSED + integer(invoke) + UNUSED))
+
+
+def elements(octets):
+    """The tags and contents of the elements that stand one behind the other."""
+    while octets:
+        size, place = octets[1], 2
+        if size >= 128:
+            place += size - 128
+            size = int.from_bytes(octets[2:place], "big")
+        yield octets[0], octets[place:place + size]
+        octets = octets[place + size:]
+
+
+def cds(number):
+    return struct.pack(">HIH", 20000, number, 0)
+
+
+def frame(number):
+    """Frame number `number` of a pass, as a line of a feed."""
+    return f"frame 20000/{number}/0 0 41 0 {(b'pass' + bytes([number % 256]) * 40).hex()}\n"
+
+
+def items(pdu):
+    """The items of a transfer buffer: of a frame its time, continuity and octets."""
+    [(tag, content)] = elements(pdu)
+    if tag != 0xa8:
+        return [pdu]
+    told = []
+    for kind, item in elements(content):
+        if kind == 0xa0:
+            _, (_, time), _, (_, continuity), _, _, (_, octets) = elements(item)
+            told.append((time, int.from_bytes(continuity, "big", signed=True), octets))
+        else:
+            told.append(item)
+    return told
+
+
+def of_frames(numbers):
+    return [(cds(number), 0 if place else -1, b"pass" + bytes([number % 256]) * 40)
+            for place, number in enumerate(numbers)]
+
+
+END_OF_DATA = [bytes.fromhex("80008300")]
+
+
+# ---- a user
+
+class User:
+    def __init__(self, port):
+        began = time.time()
+        while True:
+            try:
+                self.peer = socket.create_connection(("127.0.0.1", port), timeout=PATIENCE)
+                break
+            except ConnectionRefusedError:
+                if time.time() > began + PATIENCE:
+                    raise
+                time.sleep(0.02)
+        self.peer.setsockopt(socket.IPPROTO_TCP, socket.TCP_NODELAY, 1)
+
+    def say(self, *messages, one_by_one=False):
+        octets = b"".join(messages)
+        for piece in [octets[k:k + 1] for k in range(len(octets))] if one_by_one else [octets]:
+            self.peer.sendall(piece)
+
+    def octets(self, count):
+        heard = b""
+        while len(heard) < count:
+            piece = self.peer.recv(count - len(heard))
+            if not piece:
+                raise EOFError
+            heard += piece
+        return heard
+
+    def hear(self):
+        head = self.octets(8)
+        return head + self.octets(int.from_bytes(head[4:], "big"))
+
+    def answer(self):
+        """The next message that is no heartbeat."""
+        while True:
+            heard = self.hear()
+            if heard != HEARTBEAT:
+                return heard
+
+    def frames(self, count):
+        """Items of buffers, until so many have come."""
+        told = []
+        while len(told) < count:
+            told += items(self.answer()[8:])
+        return told
+
+    def end(self):
+        try:
+            return self.hear()
+        except EOFError:
+            return b""
+
+    def bound(self, name, who, instance, interval=30, one_by_one=False):
+        self.say(context(interval, 5), bind(who, instance), one_by_one=one_by_one)
+        check(f"{name}: bound", self.answer(), BOUND)
+
+    def unbind(self, name):
+        self.say(UNBIND)
+        check(f"{name}: unbound", self.answer(), UNBOUND)
+        check(f"{name}: the end of the stream", self.end(), b"")
+        self.peer.close()
+
+
+# ---- a station
+
+def free_ports(count):
+    held = [socket.create_server(("127.0.0.1", 0)) for _ in range(count)]
+    ports = [one.getsockname()[1] for one in held]
+    for one in held:
+        one.close()
+    return ports
+
+
+def instance(kind, number):
+    return f"sagr=1.spack=P.rsl-fg=1.raf={kind}{number}"
+
+
+def site(doors):
+    lines = ["heartbeat 1 3600 2 100", "peer MOC none sha1 60 000000000000"]
+    for number in range(1, doors + 1):
+        lines.append(f"raf {instance('onlc', number)} MOC complete 3 1 60")
+    lines.append(f"raf {instance('offl', 1)} MOC offline 4 0 60")
+    return "\n".join(lines) + "\n"
+
+
+class Station:
+    def __init__(self, folder, doors, links, configuration=None, turns=TURNS, made=True):
+        self.path = os.path.join(folder, "archive")
+        if made and not os.path.exists(self.path):
+            subprocess.run([PROVIDER, "init", self.path], check=True, stdout=subprocess.DEVNULL)
+        self.feed, *self.ports = free_ports(doors + 1)
+        words = [turns, str(links), self.path, str(self.feed), os.path.join(folder, "cltus")]
+        self.process = subprocess.Popen([STATION, *words, *map(str, self.ports)],
+                                        stdin=subprocess.PIPE, stdout=subprocess.PIPE,
+                                        stderr=subprocess.PIPE)
+        try:
+            self.process.stdin.write((configuration or site(doors)).encode())
+            self.process.stdin.close()
+        except BrokenPipeError:
+            # (it ended before it read)
+            pass
+        self.process.stdin = None
+
+    def front_end(self):
+        return User(self.feed).peer
+
+    def ended(self, name, status, lines):
+        told, complaint = self.process.communicate(timeout=PATIENCE)
+        check(name, (self.process.returncode, told.decode().split("\n")[:-1]), (status, lines))
+        return complaint.decode()
+
+    def listed(self):
+        return subprocess.run([PROVIDER, "list", self.path], capture_output=True).stdout.decode()
+
+
+def one_user(folder):
+    station = Station(folder, 1, 1)
+    user = User(station.ports[0])
+    user.bound("one user", "MOC", instance("onlc", 1), interval=1)
+    user.say(HEARTBEAT)
+    check("a heartbeat", user.hear(), HEARTBEAT)
+    front_end = station.front_end()
+    front_end.close()
+    user.unbind("one user")
+    station.ended("one user's run", 0, ["stored 0", "radiated 0", "door 1 links 1"])
+    check("nothing listed", station.listed(), "")
+
+
+def deliveries(folder):
+    station = Station(folder, 1, 3)
+    front_end = station.front_end()
+    user = User(station.ports[0])
+    user.bound("online", "MOC", instance("onlc", 1))
+    user.say(start(7))
+    check("online: started", user.answer(), started(7))
+    front_end.sendall("".join(map(frame, range(10))).encode())
+    check("online: what was fed", user.frames(10), of_frames(range(10)))
+    user.say(stop(8))
+    check("online: stopped", user.answer(), stopped(8))
+    user.unbind("online")
+    # the archive closes the stop with a seal, while a user waits for it
+    user = User(station.ports[0])
+    user.bound("offline", "MOC", instance("offl", 1))
+    user.say(start(9, cds(2), cds(6)))
+    check("offline: started", user.answer(), started(9))
+    check("offline: the frames of the span", user.frames(5), of_frames(range(2, 7)))
+    check("offline: the end", items(user.answer()[8:]), END_OF_DATA)
+    user.say(stop(10))
+    check("offline: stopped", user.answer(), stopped(10))
+    user.unbind("offline")
+    # a user that resets its connection frees its instance, and the door serves the next
+    front_end.sendall(b"mark 20000/9/0\n")
+    front_end.close()
+    user = User(station.ports[0])
+    user.bound("reset", "MOC", instance("onlc", 1))
+    user.peer.setsockopt(socket.SOL_SOCKET, socket.SO_LINGER, struct.pack("ii", 1, 0))
+    user.peer.close()
+    station.ended("the run of deliveries", 0, ["stored 11", "radiated 0", "door 1 links 3"])
+    check("what was fed is listed", station.listed(),
+          "".join(map(frame, range(10))) + "mark 20000/9/0\n")
+
+
+def crowd(folder):
+    """Sixteen users at once, who hear all that is fed meanwhile."""
+    station = Station(folder, 16, 1)
+    ready = threading.Barrier(17, timeout=PATIENCE)
+
+    def user_at(number):
+        name = f"user {number}"
+        try:
+            user = User(station.ports[number - 1])
+            user.bound(name, "MOC", instance("onlc", number), one_by_one=number == 1)
+            user.say(start(number), one_by_one=number == 1)
+            check(f"{name}: started", user.answer(), started(number))
+            ready.wait()
+            check(f"{name}: what was fed", user.frames(30), of_frames(range(30)))
+            user.say(stop(20))
+            check(f"{name}: stopped", user.answer(), stopped(20))
+            user.unbind(name)
+        except Exception as error:
+            check(name, repr(error), None)
+
+    users = [threading.Thread(target=user_at, args=[number]) for number in range(1, 17)]
+    for user in users:
+        user.start()
+    ready.wait()
+    with station.front_end() as front_end:
+        for number in range(30):
+            front_end.sendall(frame(number).encode())
+            time.sleep(0.01)
+    for user in users:
+        user.join()
+    station.ended("the run of a crowd", 0, ["stored 30", "radiated 0"]
+                  + [f"door {number} links 1" for number in range(1, 17)])
+    check("what a crowd heard is listed", station.listed(), "".join(map(frame, range(30))))
+
+
+def again(folder):
+    """A second run over the archive of an earlier one goes on behind its entries."""
+    for numbers in [range(3), range(3, 6)]:
+        station = Station(folder, 1, 1)
+        front_end = station.front_end()
+        front_end.sendall("".join(map(frame, numbers)).encode())
+        front_end.close()
+        user = User(station.ports[0])
+        user.bound("again", "MOC", instance("offl", 1))
+        user.unbind("again")
+        station.ended("a run again", 0, ["stored 3", "radiated 0", "door 1 links 1"])
+    check("both runs are listed", station.listed(), "".join(map(frame, range(6))))
+
+
+def refusals(folder):
+    def at(name):
+        place = os.path.join(folder, name)
+        os.mkdir(place)
+        return place
+
+    station = Station(at("site"), 1, 1, configuration="peer MOC none sha1 60 00\n")
+    station.ended("a refused configuration", 4, ["bad site 1 3"])
+    station = Station(at("none"), 1, 1, made=False)
+    station.ended("no archive", 8, ["disk fault"])
+    place = at("other")
+    with open(os.path.join(place, "archive"), "wb") as file:
+        file.write(b"no journal")
+    station = Station(place, 1, 1)
+    station.ended("a file that is no archive", 5, ["archive refused 0"])
+    # each worker has ten turns, which an idle user spends at its door
+    station = Station(at("spent"), 1, 1, turns="10")
+    front_end = station.front_end()
+    front_end.close()
+    user = User(station.ports[0])
+    station.ended("spent turns", 10, ["stored 0", "radiated 0", "door 1 links 1", "turns spent"])
+    user.peer.close()
+    station = Station(at("fed"), 1, 1)
+    front_end = station.front_end()
+    user = User(station.ports[0])
+    user.bound("a feed at fault", "MOC", instance("onlc", 1))
+    user.say(start(1))
+    check("a feed at fault: started", user.answer(), started(1))
+    front_end.sendall(frame(1).encode())
+    check("a feed at fault: what was fed before", user.frames(1), of_frames([1]))
+    front_end.sendall(b"fly\n")
+    user.say(stop(2))
+    check("a feed at fault: stopped", user.answer(), stopped(2))
+    user.unbind("a feed at fault")
+    report = station.ended("a feed at fault", 6,
+                           ["stored 1", "radiated 0", "door 1 links 1", "read fault"])
+    check("its report", report, f"feed 127.0.0.1:{station.feed}: line 2: invalid data\n")
+    for words in [[], ["10", "1", "a", "1", "b"], ["9", "1", "a", "1", "b", "2"],
+                  ["10", "0", "a", "1", "b", "2"], ["10", "1", "a", "0", "b", "2"],
+                  ["10", "1", "a", "1", "b", "65536"], ["10", "1", "a", "1", "b", *["2"] * 17]]:
+        found = subprocess.run([STATION, *words], capture_output=True, stdin=subprocess.DEVNULL)
+        check(f"words {words}", (found.returncode, found.stdout), (2, b"usage\n"))
+
+
+for part in [one_user, deliveries, crowd, again, refusals]:
+    with tempfile.TemporaryDirectory() as folder:
+        try:
+            part(folder)
+        except Exception as error:
+            check(part.__name__, repr(error), None)
+print(f"station: {passed} checks passed, {failed} failed")
+sys.exit(failed > 0)
