@@ -4,7 +4,7 @@
 // each worker turns of its own, before the first one starts. They run all at once: the recorder of
 // `recorder_turns`, the antenna of `antenna_turns`, and a worker for each door of `door_turns`. Each
 // tells in a turn at its end that it is gone; the antenna's worker ends once all others have. Then
-// the passes are joined and the lock is closed. `Ran` in `specs/Ran.antt` says what came of it.
+// the passes are joined and the lock is closed.
 #![tactic(auto)]
 
 mod crew;

@@ -10,7 +10,7 @@ ghost use Rattle.station_seats.specs.Seats.{IsMain, IsSingle, owns_of, reports_o
 ghost use Rattle.octet_core.specs.Fault.{Rose};
 ghost use Rattle.station_run.specs.declared.report.StartFault.TheVariants as StartFault;
 ghost use Rattle.station_run.specs.Workers.{HasEnded};
-ghost use Rattle.station_run.specs.Ran.{Ran, IsHistory, published_count, outside};
+ghost use Rattle.station_run.specs.Ran.{IsHistory, published_count};
 
 use crate::crew::Crew;
 use crate::report::{RunReport, StartFault};
