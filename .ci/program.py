@@ -213,7 +213,7 @@ def faults():
     os.close(write)
     # no room for a script
     limit = lambda: resource.setrlimit(resource.RLIMIT_AS, (16 << 20, 16 << 20))
-    check("want of memory", run([b"drill"], FRAMES, preexec_fn=limit), (70, b"", b""))
+    check("want of memory", run([b"drill"], b"x" * MOST_OCTETS, preexec_fn=limit), (70, b"", b""))
 
 
 def failing_input():

@@ -3,7 +3,6 @@ pub mod FirstLines
 pub mod Settings
 pub mod Heads
 pub mod Running
-pub mod Read
 pub mod Outcomes
 pub mod Promises
 pub mod Lists
