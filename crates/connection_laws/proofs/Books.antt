@@ -16,6 +16,7 @@ use Rattle.station_book.specs.State.{interrupted, uplink, gone, opened}
 use Rattle.station_book.specs.History.{replay, then_after, instance_of, is_of, after}
 use Rattle.station_book.specs.Doors.{Has, is_by}
 use Rattle.station_book.specs.Origin.{kinds_of, opening_of}
+use Rattle.session_laws.specs.Losing.{RunHasDoor}
 use Rattle.connection_laws.specs.Laws.{Laws}
 
 pub replay-append : (b : State) (h k : List Event) → replay b (h ++ k) ≡ replay (replay b h) k
@@ -59,10 +60,11 @@ none_above (e ∷ h) door le =
 
 -- ---- books of a site
 
--- a book of a site, in which a door has at most one instance
+-- a book of a site, in which a door has at most one instance, and a run a door
 pub record IsOf (site : Site) (b : State) : Type 0 where
   pub services : b.opening.services ≡ kinds_of site.instances
   pub places : length b.doors ≡ length b.opening.services
+  pub runs : RunHasDoor b
   pub single : (door i j : ℕ) → Has b door i → Has b door j → i ≡ j
 
 -- so is each book behind it
@@ -84,6 +86,7 @@ module _ (laws : Laws) (site : Site) (entries : List Entry) where
       record {
         services = free.services;
         places = free.places;
+        runs = free.runs;
         single = laws.single (opening_of site entries 0) h;
       }
 

@@ -12,7 +12,8 @@ use Rattle.sle_numbers.specs.RequestedFrameQuality.{number_of}
 use Rattle.station_config.specs.declared.site.Site.{Site}
 use Rattle.station_book.specs.State.{Event, quit}
 use Rattle.station_book.specs.State as books
-use Rattle.station_book.specs.Doors.{is_by}
+use Rattle.station_book.specs.Doors.{is_by, HasOneForward}
+use Rattle.station_book.specs.Origin.{kinds_of}
 use Rattle.station_book.specs.History.{replay, instance_of, event_at}
 use Rattle.drill_text.specs.declared.end_word.EndWord.{EndWord}
 use Rattle.drill_text.specs.declared.script_line.ScriptLine.{ScriptLine}
@@ -121,14 +122,17 @@ module _ (site : Site) (c reading : ℕ) where
 
 -- ---- lines
 
--- a book of the site, in which a door at which nobody is connected has no instance
+-- a book of a site with one forward service at most, in which a door at which nobody is connected has no instance
 pub record AreFree (d : Doors) : Type 0 where
+  pub one : HasOneForward (kinds_of d.site.instances)
   pub stays : StaysOf d.site d.book
   pub free : (c : ℕ) → there (slice_get d.connections c) ≡ None → instance_of d.book c ≡ None
 
 module _ (laws : Laws) where
-  pub new_are : (site : Site) (entries : List Entry) → AreFree (anew site entries)
-  new_are site entries = record {
+  pub new_are : (site : Site) (entries : List Entry) → HasOneForward (kinds_of site.instances)
+      → AreFree (anew site entries)
+  new_are site entries one = record {
+    one = one;
     stays = new_of laws site entries;
     free = λ c none. new_free laws site entries c;
   }
@@ -142,11 +146,13 @@ module _ (laws : Laws) where
 
     published_are : (recovers : Bool) (given found : List Entry)
         → AreFree (doors_behind recovers d given found)
-    published_are true given found = new_are d.site found
-    published_are false [] found = record { stays = are.stays; free = are.free }
+    published_are true given found = new_are d.site found are.one
+    published_are false [] found =
+        record { one = are.one; stays = are.stays; free = are.free }
     published_are false (entry ∷ given) found =
         let events = event_at d.book (books.publish (entry ∷ given)) ∷ [] in
         record {
+          one = are.one;
           stays = later_of d.site d.book events are.stays;
           free = λ c none. laws.others d.book events c refl ∙ are.free c none;
         }
@@ -159,6 +165,7 @@ module _ (laws : Laws) where
     opens_are k None = are
     opens_are k (Some (Some l)) = are
     opens_are k (Some None) = record {
+      one = are.one;
       stays = are.stays;
       free = λ c none.
           are.free c (put_some d.connections k c (opened k state.clock) none);
@@ -174,6 +181,7 @@ module _ (laws : Laws) where
         let here : there (slice_get (set d.connections a.c ran.left) a.c) ≡ ran.left =
         ap there (set_there d.connections a.c (Some l) ran.left slot) in
         record {
+          one = are.one;
           stays = later_of d.site d.book ran.events are.stays;
           free = λ c none. ⊎_elim
               (λ same. subst

@@ -5,7 +5,8 @@ use Rattle.std.proofs.lemmas.List.Elements.{filter-append}
 use Rattle.std.specs.List.{AllByRecursion, list_any}
 use Rattle.station_book.specs.State.{Event}
 use Rattle.station_book.specs.State as books
-use Rattle.station_book.specs.Doors.{is_by}
+use Rattle.station_book.specs.Doors.{is_by, HasOneForward}
+use Rattle.station_book.specs.Origin.{kinds_of}
 use Rattle.station_book.specs.History.{replay, then_after, IsLegal, instance_of}
 use Rattle.drill_text.specs.declared.end_word.EndWord.{EndWord}
 use Rattle.drill_text.specs.declared.script_line.ScriptLine.{ScriptLine}
@@ -113,6 +114,7 @@ module _ {L : Type 0} (reads : L → Option ScriptLine) (sessions : AreSessions 
   -- ---- a connection that has just been opened
 
   record IsOpened (c moment : ℕ) (state : State) : Type 0 where
+    one : HasOneForward (kinds_of state.doors.site.instances)
     at : at_door state c ≡ Some (opened c moment)
     stays : StaysOf state.doors.site state.doors.book
     free : instance_of state.doors.book c ≡ None
@@ -129,8 +131,13 @@ module _ {L : Type 0} (reads : L → Option ScriptLine) (sessions : AreSessions 
         let is = sessions.lives state c moment lines open_so.at brings in
         let fits = open_so.stays [] in
         let none = laws.lost (began site c moment) state.doors.book (history c state lines) is.last
-        rounds
-        (record { services = fits.services; places = fits.places; free = open_so.free })
+        rounds open_so.one
+        (record {
+          services = fits.services;
+          places = fits.places;
+          runs = fits.runs;
+          free = open_so.free;
+        })
         (legal c lines state) is.right (own_is c lines state ∙ is.events_are) in
         let end = session_end site s rounds in
         record {
@@ -156,13 +163,14 @@ module _ {L : Type 0} (reads : L → Option ScriptLine) (sessions : AreSessions 
     just_opened c before are (Some (Some l)) slot free = absurd cc
     just_opened c before are (Some None) slot free = record {
       at = ap there (set_there before.doors.connections c None (Some (opened c before.clock)) slot);
+      one = are.one;
       stays = are.stays;
       free = are.free c (ap there slot);
     }
 
     pub are_lossless : AreLossless reads
-    are_lossless site earlier later c free =
+    are_lossless site earlier later c one free =
         let before = world_behind reads site earlier in
-        let are = are_behind earlier (start site) (new_are laws site []) in
+        let are = are_behind earlier (start site) (new_are laws site [] one) in
         loses_nothing c before.clock _ later
         (just_opened c before are (slice_get before.doors.connections c) refl free)

@@ -3,6 +3,8 @@
 -- product's own.
 use Rattle.std.specs.Prelude.{IsTrue, IsFalse, ℕ, Option, List, slice_get, Contains}
 use Rattle.std.specs.List.{list_any, AllByRecursion}
+use Rattle.station_book.specs.Doors.{HasOneForward}
+use Rattle.station_book.specs.Origin.{kinds_of}
 use Rattle.station_config.specs.declared.site.Site.{Site}
 use Rattle.drill_text.specs.declared.end_word.EndWord.TheVariants.{Aborted}
 use Rattle.drill_text.specs.declared.script_line.ScriptLine.{ScriptLine}
@@ -32,10 +34,11 @@ module _ {L : Type 0} (reads : L → Option ScriptLine) where
   world_behind site lines = after (λ state line. step_read state (reads line)) (start site) lines
 
   -- Of every connection that a line opens at a free door behind any lines, over any lines behind it
-  -- whose pieces are octets.
+  -- whose pieces are octets, where at most one instance of the site is the forward service's.
   abbrev pub AreLossless : Type 0
   AreLossless =
       (site : Site) (earlier later : List L) (c : ℕ)
+      → HasOneForward (kinds_of site.instances)
       → let before = world_behind site earlier in
       let v = life reads c (step before (Open c)).next later in
       IsTrue (is_free (slice_get before.doors.connections c))

@@ -10,7 +10,7 @@ use station_book::laws::{a_door_has_one_instance, other_doors_leave_a_door};
 use station_law::laws::connections_are_sessions;
 
 /// A connection that is opened at a free door behind any lines of a script, in order or not, is
-/// never answered Lost by the book, over any lines behind it, and so doesn't end with
+/// never answered Lost by the book, where at most one instance of the site is the forward service's, over any lines behind it, and so doesn't end with
 /// `aborted 127`.
 pub fn connections_lose_nothing()
     ensures lines { AreLossless (λ (line : ScriptLine). Some line) }

@@ -13,5 +13,6 @@ pub mod Blocks
 pub mod Rehearsals
 pub mod PiecesSpelled
 pub mod Pieces
+pub mod OneForward
 pub mod Sessions
 pub mod Unprovided

@@ -12,6 +12,7 @@ use Rattle.provider_cli.specs.Connection.{Connection, IsConnectionOf, EachConnec
 use Rattle.provider_cli.specs.Connection.{IsLosslessOf, HasHistory, world_before, world_behind}
 use Rattle.provider_cli.specs.Connection.{life_of}
 use Rattle.provider_cli.specs.Laws.{Laws}
+use Rattle.provider_cli.proofs.OneForward.{one_forward}
 use Rattle.provider_cli.proofs.Pieces.{lines_bring}
 
 set_there : {A : Type 0} → (xs : List A) (c : ℕ) (x y : A) → slice_get xs c ≡ Some x
@@ -59,7 +60,8 @@ module _ (laws : Laws) (script : List ℕ) (o : Connection) (is : IsConnectionOf
       just_opened) (lines_bring o.c (take some o.later) (world_behind o))
 
   pub is_lossless : IsLosslessOf o
-  is_lossless = λ some. laws.lossless o.site o.earlier (take some o.later) o.c is.free
+  is_lossless = λ some. laws.lossless o.site o.earlier (take some o.later) o.c
+      (one_forward script o.site _ is.stands) is.free
       (lines_bring o.c (take some o.later) (world_behind o))
 
 pub each_connection : (input : Option (List ℕ)) (IsSo : Connection → Type 0)

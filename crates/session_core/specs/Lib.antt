@@ -8,6 +8,7 @@ pub mod Returns
 pub mod ReturnServed
 pub mod RafServed
 pub mod RcfServed
+pub mod FcltuServed
 pub mod Served
 pub mod Message
 pub mod Seen

@@ -3,9 +3,9 @@
 -- or laws looks into one, and each method of `ServiceState` or of a session's that stands on one
 -- opens its own.
 --
--- RAF and RCF are built (`specs/RafServed.antt`, `RcfServed.antt`, and what they have alike in
--- `ReturnServed.antt`). FCLTU keeps nothing, wants nothing and has nothing to tell.
-use Rattle.std.specs.Prelude.{ℕ, Option, None, List}
+-- They are RAF and RCF (`specs/RafServed.antt`, `RcfServed.antt`, and what they have alike in
+-- `ReturnServed.antt`), and FCLTU (`FcltuServed.antt`).
+use Rattle.std.specs.Prelude.{ℕ, Option, Some, None, option_map, List}
 use Rattle.octet_core.specs.declared.offer.Offer.{Offer}
 use Rattle.archive_terms.specs.Glimpse.{Want, wants_nothing, Glimpse}
 use Rattle.isp1_tml.specs.Message.{Content}
@@ -26,13 +26,19 @@ use Rattle.raf_service.specs.Raf.{raf_answer, concluded as raf_concluded}
 use Rattle.raf_service.specs.Raf.{raf_reported, raf_stepped, raf_answered}
 use Rattle.rcf_service.specs.Rcf.{rcf_answer, concluded as rcf_concluded}
 use Rattle.rcf_service.specs.Rcf.{rcf_reported, rcf_stepped, rcf_answered}
+use Rattle.fcltu_service.specs.Service.{new_service, answer_of as fcltu_answer}
+use Rattle.fcltu_service.specs.Service.{after as fcltu_concluded, after_report as fcltu_reported}
+use Rattle.fcltu_service.specs.declared.answer.CltuAnswer.{CltuAnswer}
 use Rattle.session_core.specs.declared.service_state.ServiceState.{ServiceState}
 use Rattle.session_core.specs.declared.service_state.ServiceState.TheVariants.{Nothing, Raf, Rcf}
+use Rattle.session_core.specs.declared.service_state.ServiceState.TheVariants.{Fcltu}
 use Rattle.session_core.specs.Inquiry.{Inquiry, only_asks, Replied}
 use Rattle.session_core.specs.Service.{Invocation, invoke_of}
 use Rattle.session_core.specs.ReturnServed.{outcome_of, returned, buffer_due, dropped_of}
 use Rattle.session_core.specs.RafServed.{raf_made, raf_asked, raf_prepared, raf_told_at}
 use Rattle.session_core.specs.RcfServed.{rcf_made, rcf_asked, rcf_prepared, rcf_told_at}
+use Rattle.session_core.specs.FcltuServed.{fcltu_asked, fcltu_prepared, fcltu_outcome}
+use Rattle.session_core.specs.FcltuServed.{fcltu_returned, view_due, fcltu_told, fcltu_notified}
 pub use Rattle.session_core.specs.Telling.{Message, Fixed}
 
 abbrev pub Served : Type 0
@@ -47,19 +53,21 @@ unfoldable pub served_at : Service → ℕ → Served
 served_at (service.Raf mode size latency) timeout = Raf (raf_made mode size latency timeout)
 served_at (service.Rcf mode size latency channels) timeout =
     Rcf (rcf_made mode size latency timeout)
-served_at (service.Cltu room longest) timeout = Nothing
+served_at (service.Cltu room longest) timeout = Fcltu (new_service timeout)
 
 -- what a round with an invocation that passes asks of the book and wants of a look
 unfoldable pub prepared : Served → Invocation → Inquiry
 prepared Nothing i = only_asks ask.Nothing
 prepared (Raf r) i = raf_prepared i r
 prepared (Rcf r) i = rcf_prepared i r
+prepared (Fcltu f) i = fcltu_prepared i
 
 -- what a round without one wants of a look
 unfoldable pub want_served : Served → Want
 want_served Nothing = wants_nothing
 want_served (Raf r) = want_of_course r.serving.course
 want_served (Rcf r) = want_of_course r.serving.course
+want_served (Fcltu f) = wants_nothing
 
 -- what an invocation that passed led to, by the channels that are permitted, the book's reply and
 -- the look at a moment: what the service keeps then, what that makes of the association, and what is
@@ -77,6 +85,14 @@ answered_so served answer i = record {
   answer = returned answer (invoke_of i);
 }
 
+-- what the forward service answers
+abbrev pub answered_as : Served → CltuAnswer → Invocation → Concluded
+answered_as served answer i = record {
+  served = served;
+  outcome = fcltu_outcome answer;
+  answer = fcltu_returned answer (invoke_of i);
+}
+
 unfoldable pub concluded_by : Served → List Gvcid → Invocation → Replied → ℕ → Concluded
 concluded_by Nothing channels i r now =
     record { served = Nothing; outcome = Kept; answer = None }
@@ -86,6 +102,9 @@ concluded_by (Raf raf) channels i r now =
 concluded_by (Rcf rcf) channels i r now =
     answered_so (Rcf (rcf_concluded channels (rcf_asked i) r.glimpse now rcf))
     (rcf_answer channels (rcf_asked i) r.glimpse rcf) i
+concluded_by (Fcltu f) channels i r now =
+    answered_as (Fcltu (fcltu_concluded f (fcltu_asked i) now))
+    (fcltu_answer f (fcltu_asked i) r.reply now) i
 
 -- the status report that is due in a round, if one is, and what the service keeps behind it
 pub record Reported : Type 0 where
@@ -98,16 +117,22 @@ reported_by (Raf raf) r now =
     record { served = Raf (raf_reported now raf); report = raf_told_at r.glimpse now raf }
 reported_by (Rcf rcf) r now =
     record { served = Rcf (rcf_reported now rcf); report = rcf_told_at r.glimpse now rcf }
+reported_by (Fcltu f) r now = record {
+  served = Fcltu (fcltu_reported f now);
+  report = option_map fcltu_told (view_due f now r.view);
+}
 
--- how a notice of the book is told; no service tells any yet
+-- how a notice of the book is told: it comes to the forward service alone
 unfoldable pub told_by_service : Served → Notice → Option Message
-told_by_service served notice = None
+told_by_service (Fcltu f) notice = Some (fcltu_notified notice)
+told_by_service _ notice = None
 
 -- the step of a round, with the look that it wanted, at a moment
 unfoldable pub served_step : Glimpse → ℕ → Served → Served
 served_step g now Nothing = Nothing
 served_step g now (Raf r) = Raf (raf_stepped g now r)
 served_step g now (Rcf r) = Rcf (rcf_stepped g now r)
+served_step g now (Fcltu f) = Fcltu f
 
 -- what is to be offered of what the service holds then, to a peer, with the session's latest number,
 -- at a moment
@@ -117,15 +142,18 @@ fixed_by (Raf r) site peer numbers now =
     buffer_due pdu.Raf r.serving.course site peer numbers now
 fixed_by (Rcf r) site peer numbers now =
     buffer_due pdu.Rcf r.serving.course site peer numbers now
+fixed_by (Fcltu f) site peer numbers now = record { message = None; numbers = numbers }
 
 -- how many items are dropped where that message stalls; none where it is kept, to be offered again
 unfoldable pub dropped_by : Served → Option ℕ
 dropped_by Nothing = None
 dropped_by (Raf r) = dropped_of r.serving.course
 dropped_by (Rcf r) = dropped_of r.serving.course
+dropped_by (Fcltu f) = None
 
 -- the link's answer to that message
 unfoldable pub served_settled : Offer → Served → Served
 served_settled answer Nothing = Nothing
 served_settled answer (Raf r) = Raf (raf_answered (answer_of answer) r)
 served_settled answer (Rcf r) = Rcf (rcf_answered (answer_of answer) r)
+served_settled answer (Fcltu f) = Fcltu f

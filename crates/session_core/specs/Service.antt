@@ -1,5 +1,5 @@
--- What a bound user says to its service: a function each. The PDUs of RAF and RCF are built; none of
--- FCLTU decodes. What is asked and answered is the service's (`specs/Served.antt`).
+-- What a bound user says to its service: a function each. What is asked and answered is the service's
+-- (`specs/Served.antt`).
 use Rattle.std.specs.Prelude.{ℕ, Bool, true, false, List, Option, None, Result, Ok, Err}
 use Rattle.ber_core.specs.declared.fault.BerFault.{BerFault}
 use Rattle.ber_shape.specs.Exact.{whole}
@@ -8,6 +8,9 @@ use Rattle.return_pdu.specs.Stopping.{StopContent, stop}
 use Rattle.return_pdu.specs.Scheduling.{ScheduleContent, schedule}
 use Rattle.return_pdu.specs.Getting.{GetParameterContent, get_parameter}
 use Rattle.return_pdu.specs.Seen.{raf_start_of, stop_of, schedule_of, get_parameter_of}
+use Rattle.fcltu_pdu.specs.Start.{Start, start_pdu, start_of}
+use Rattle.fcltu_pdu.specs.Transfer.{Transfer, transfer_pdu, transfer_of}
+use Rattle.fcltu_pdu.specs.Throw.{Event, throw_pdu, event_of}
 use Rattle.station_config.specs.declared.service.Service.{Service}
 use Rattle.station_config.specs.declared.service.Service.TheVariants.{Raf, Rcf, Cltu}
 use Rattle.assoc_core.specs.Kind.{Kind}
@@ -15,11 +18,14 @@ use Rattle.assoc_core.specs.Kind as kind
 use Rattle.session_core.specs.declared.service.Invocation.{Invocation as InvocationRead}
 use Rattle.session_core.specs.declared.service.Invocation.TheVariants as variant
 
--- a START of RAF or of RCF, a STOP, a SCHEDULE-STATUS-REPORT, a GET-PARAMETER, or octets that the
--- service doesn't decode
+-- a START of RAF, of RCF or of FCLTU, a TRANSFER-DATA, a THROW-EVENT, a STOP, a
+-- SCHEDULE-STATUS-REPORT, a GET-PARAMETER, or octets that the service doesn't decode
 pub data Invocation : Type 0 where
   raf_starts : RafStartContent → Invocation
   rcf_starts : RcfStartContent → Invocation
+  cltu_starts : Start → Invocation
+  transfers : Transfer → Invocation
+  throws : Event → Invocation
   stops : StopContent → Invocation
   schedules : ScheduleContent → Invocation
   gets : GetParameterContent → Invocation
@@ -35,7 +41,7 @@ abbrev pub schedule_read : Result ScheduleContent BerFault → List ℕ → Invo
 schedule_read (Ok s) octets = schedules s
 schedule_read (Err _) octets = get_read (whole get_parameter.read octets)
 
--- what both return services decode, behind their own START
+-- what every service decodes, behind what is its own
 abbrev pub stop_read : Result StopContent BerFault → List ℕ → Invocation
 stop_read (Ok s) octets = stops s
 stop_read (Err _) octets = schedule_read (whole schedule.read octets) octets
@@ -48,18 +54,33 @@ abbrev pub rcf_read : Result RcfStartContent BerFault → List ℕ → Invocatio
 rcf_read (Ok s) octets = rcf_starts s
 rcf_read (Err _) octets = stop_read (whole stop.read octets) octets
 
+abbrev pub throw_read : Result Event BerFault → List ℕ → Invocation
+throw_read (Ok t) octets = throws t
+throw_read (Err _) octets = stop_read (whole stop.read octets) octets
+
+abbrev pub transfer_read : Result Transfer BerFault → List ℕ → Invocation
+transfer_read (Ok t) octets = transfers t
+transfer_read (Err _) octets = throw_read (whole throw_pdu.read octets) octets
+
+abbrev pub cltu_read : Result Start BerFault → List ℕ → Invocation
+cltu_read (Ok s) octets = cltu_starts s
+cltu_read (Err _) octets = transfer_read (whole transfer_pdu.read octets) octets
+
 -- what a PDU says to a service
 abbrev pub invocation_in : Service → List ℕ → Invocation
 invocation_in (Raf mode size latency) octets = raf_read (whole raf_start.read octets) octets
 invocation_in (Rcf mode size latency channels) octets =
     rcf_read (whole rcf_start.read octets) octets
-invocation_in (Cltu room longest) octets = undecoded
+invocation_in (Cltu room longest) octets = cltu_read (whole start_pdu.read octets) octets
 
 -- ---- what every service has of it
 
 abbrev pub invocation_kind : Invocation → Kind
 invocation_kind (raf_starts _) = kind.start
 invocation_kind (rcf_starts _) = kind.start
+invocation_kind (cltu_starts _) = kind.start
+invocation_kind (transfers _) = kind.transfer
+invocation_kind (throws _) = kind.throw
 invocation_kind (stops _) = kind.stop
 invocation_kind (schedules _) = kind.report
 invocation_kind (gets _) = kind.parameter
@@ -68,6 +89,9 @@ invocation_kind undecoded = kind.undecoded
 abbrev pub invocation_credentials : Invocation → Option (List ℕ)
 invocation_credentials (raf_starts s) = s.credentials
 invocation_credentials (rcf_starts s) = s.credentials
+invocation_credentials (cltu_starts s) = s.credentials
+invocation_credentials (transfers t) = t.credentials
+invocation_credentials (throws t) = t.credentials
 invocation_credentials (stops s) = s.credentials
 invocation_credentials (schedules s) = s.credentials
 invocation_credentials (gets g) = g.credentials
@@ -77,6 +101,9 @@ invocation_credentials undecoded = None
 abbrev pub invoke_of : Invocation → ℕ
 invoke_of (raf_starts s) = s.invoke
 invoke_of (rcf_starts s) = s.invoke
+invoke_of (cltu_starts s) = s.invoke
+invoke_of (transfers t) = t.invoke
+invoke_of (throws t) = t.invoke
 invoke_of (stops s) = s.invoke
 invoke_of (schedules s) = s.invoke
 invoke_of (gets g) = g.invoke
@@ -84,6 +111,8 @@ invoke_of undecoded = 0
 
 -- whether a started service goes on behind it, where it passes: then the round wants its look
 abbrev pub leaves_running : Invocation → Bool
+leaves_running (transfers _) = true
+leaves_running (throws _) = true
 leaves_running (schedules _) = true
 leaves_running (gets _) = true
 leaves_running _ = false
@@ -92,6 +121,9 @@ leaves_running _ = false
 abbrev pub invocation_of : InvocationRead → Invocation
 invocation_of (variant.RafStart s) = raf_starts (raf_start_of s)
 invocation_of (variant.RcfStart s) = rcf_starts s
+invocation_of (variant.CltuStart s) = cltu_starts (start_of s)
+invocation_of (variant.Transfer t) = transfers (transfer_of t)
+invocation_of (variant.Throw t) = throws (event_of t)
 invocation_of (variant.Stop s) = stops (stop_of s)
 invocation_of (variant.Schedule s) = schedules (schedule_of s)
 invocation_of (variant.Get g) = gets (get_parameter_of g)

@@ -36,6 +36,7 @@ use std::alloc::Global;
 
 // What a message that was judged so asks the book, and wants of a look, of what the service keeps.
 pub(crate) fn said_ask(
+    alloc: Global,
     service: &ServiceState,
     message: &UserMessage<'_>,
     step: Step,
@@ -50,7 +51,7 @@ pub(crate) fn said_ask(
     match (message, places.instance) {
         (UserMessage::Bind(_), Ok(instance)) => Ok(Inquiry::of(Ask::Bind { instance })),
         (UserMessage::Unbind(_), _) => Ok(Inquiry::of(Ask::Unbind)),
-        (UserMessage::Service(invocation), _) => service.prepare(invocation),
+        (UserMessage::Service(invocation), _) => service.prepare(alloc, invocation),
         _ => Ok(Inquiry::of(Ask::Nothing)),
     }
 }

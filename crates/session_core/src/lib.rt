@@ -20,6 +20,7 @@ mod block;
 mod channel_start;
 mod course;
 mod ended;
+mod fcltu_served;
 mod handling;
 mod inquiry;
 pub mod laws;

@@ -50,7 +50,7 @@ pub(crate) fn raf_asked<'a>(invocation: &Invocation<'a>) -> RafInvocation<'a>
         Invocation::Stop(_) => RafInvocation::Stop,
         Invocation::Schedule(schedule) => RafInvocation::Report(schedule.report),
         Invocation::Get(get) => RafInvocation::Get(get.name),
-        Invocation::RcfStart(_) | Invocation::Undecoded(_) => RafInvocation::Nothing,
+        _ => RafInvocation::Nothing,
     }
 }
 

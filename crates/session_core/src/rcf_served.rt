@@ -52,7 +52,7 @@ pub(crate) fn rcf_asked<'a>(invocation: &Invocation<'a>) -> RcfInvocation<'a>
         Invocation::Stop(_) => RcfInvocation::Stop,
         Invocation::Schedule(schedule) => RcfInvocation::Report(schedule.report),
         Invocation::Get(get) => RcfInvocation::Get(get.name),
-        Invocation::RafStart(_) | Invocation::Undecoded(_) => RcfInvocation::Nothing,
+        _ => RcfInvocation::Nothing,
     }
 }
 

@@ -1,25 +1,30 @@
 // What a bound user says to its service.
 //
 // What their PDUs say, what kind of message that is, whose credentials it has, and whether a started
-// service goes on behind it. A service that is built has its variants of `Invocation` and its arms
-// in the functions of this file, the same in `specs/Service.antt`. What is asked and answered is the
-// service's (`service_state.rt`, `service_steps.rt`). The PDUs of RAF and RCF are built.
+// service goes on behind it. A service has its variants of `Invocation` and its arms in the functions
+// of this file, the same in `specs/Service.antt`. What is asked and answered is the
+// service's (`service_state.rt`, `service_steps.rt`).
 ghost use Rattle.std.specs.Prelude.{◌≡◌, []};
 ghost use Rattle.ber_shape.specs.Exact.{whole};
 ghost use Rattle.return_pdu.specs.Starting.{raf_start, rcf_start};
 ghost use Rattle.return_pdu.specs.Stopping.{stop};
 ghost use Rattle.return_pdu.specs.Scheduling.{schedule};
 ghost use Rattle.return_pdu.specs.Getting.{get_parameter};
+ghost use Rattle.fcltu_pdu.specs.Start.{start_pdu};
+ghost use Rattle.fcltu_pdu.specs.Transfer.{transfer_pdu};
+ghost use Rattle.fcltu_pdu.specs.Throw.{throw_pdu};
 ghost use Rattle.sle_common.specs.Credentials.{credentials_of as octets_of};
 ghost use Rattle.assoc_core.specs.Kind.{kind_of, initiator_of};
 ghost use Rattle.session_core.specs.Service.{get_read, schedule_read, stop_read, raf_read};
-ghost use Rattle.session_core.specs.Service.{rcf_read, invocation_in, invocation_kind};
+ghost use Rattle.session_core.specs.Service.{rcf_read, throw_read, transfer_read, cltu_read};
+ghost use Rattle.session_core.specs.Service.{invocation_in, invocation_kind};
 ghost use Rattle.session_core.specs.Service.{invocation_credentials, invoke_of, leaves_running};
 ghost use Rattle.session_core.specs.Service.{invocation_of};
 
 use crate::channel_start::ChannelStart;
 use assoc_core::PduKind;
 use ber_shape::Pdu;
+use fcltu_pdu::{CltuStart, CltuTransfer, Throw};
 use return_pdu::{GetParameter, RafStart, RcfStart, Schedule, Stop};
 use sle_common::Credentials;
 use station_config::Service;
@@ -31,6 +36,12 @@ pub(crate) enum Invocation<'a> {
     RafStart(RafStart<'a>),
     // A START of RCF.
     RcfStart(ChannelStart<'a>),
+    // A START of FCLTU.
+    CltuStart(CltuStart<'a>),
+    // A TRANSFER-DATA of FCLTU.
+    Transfer(CltuTransfer<'a>),
+    // A THROW-EVENT of FCLTU.
+    Throw(Throw<'a>),
     // A STOP.
     Stop(Stop<'a>),
     // A SCHEDULE-STATUS-REPORT.
@@ -41,7 +52,7 @@ pub(crate) enum Invocation<'a> {
     Undecoded(&'a [u8]),
 }
 
-// What a PDU says to RAF: a START, or else what both return services decode.
+// What a PDU says to RAF: a START, or else what every service decodes.
 fn raf_read(octets: &[u8]) -> Invocation<'_>
     ensures { invocation_of result ≡ raf_read (whole raf_start.read octets.now) octets.now }
 {
@@ -57,6 +68,36 @@ fn rcf_read(octets: &[u8]) -> Invocation<'_>
 {
     match RcfStart::decode(octets) {
         Ok(start) => Invocation::RcfStart(ChannelStart::new(start)),
+        Err(_) => stop_read(octets),
+    }
+}
+
+// What a PDU says to FCLTU: a START, a TRANSFER-DATA, a THROW-EVENT, or else what every service
+// decodes.
+fn cltu_read(octets: &[u8]) -> Invocation<'_>
+    ensures { invocation_of result ≡ cltu_read (whole start_pdu.read octets.now) octets.now }
+{
+    match CltuStart::decode(octets) {
+        Ok(start) => Invocation::CltuStart(start),
+        Err(_) => transfer_read(octets),
+    }
+}
+
+fn transfer_read(octets: &[u8]) -> Invocation<'_>
+    ensures { invocation_of result
+        ≡ transfer_read (whole transfer_pdu.read octets.now) octets.now }
+{
+    match CltuTransfer::decode(octets) {
+        Ok(transfer) => Invocation::Transfer(transfer),
+        Err(_) => throw_read(octets),
+    }
+}
+
+fn throw_read(octets: &[u8]) -> Invocation<'_>
+    ensures { invocation_of result ≡ throw_read (whole throw_pdu.read octets.now) octets.now }
+{
+    match Throw::decode(octets) {
+        Ok(throw) => Invocation::Throw(throw),
         Err(_) => stop_read(octets),
     }
 }
@@ -96,7 +137,7 @@ impl<'a> Invocation<'a> {
         match service {
             Service::Raf { .. } => raf_read(octets),
             Service::Rcf { .. } => rcf_read(octets),
-            Service::Cltu { .. } => Invocation::Undecoded(octets),
+            Service::Cltu { .. } => cltu_read(octets),
         }
     }
 
@@ -106,7 +147,11 @@ impl<'a> Invocation<'a> {
         ensures initiator { initiator_of result ≡ [] }
     {
         match self {
-            Invocation::RafStart(_) | Invocation::RcfStart(_) => PduKind::Start,
+            Invocation::RafStart(_) | Invocation::RcfStart(_) | Invocation::CltuStart(_) => {
+                PduKind::Start
+            }
+            Invocation::Transfer(_) => PduKind::Transfer,
+            Invocation::Throw(_) => PduKind::Throw,
             Invocation::Stop(_) => PduKind::Stop,
             Invocation::Schedule(_) => PduKind::Report,
             Invocation::Get(_) => PduKind::Parameter,
@@ -121,6 +166,9 @@ impl<'a> Invocation<'a> {
         match self {
             Invocation::RafStart(start) => start.credentials,
             Invocation::RcfStart(start) => start.start().credentials,
+            Invocation::CltuStart(start) => start.credentials,
+            Invocation::Transfer(transfer) => transfer.credentials,
+            Invocation::Throw(throw) => throw.credentials,
             Invocation::Stop(stop) => stop.credentials,
             Invocation::Schedule(schedule) => schedule.credentials,
             Invocation::Get(get) => get.credentials,
@@ -135,6 +183,9 @@ impl<'a> Invocation<'a> {
         match self {
             Invocation::RafStart(start) => start.invoke,
             Invocation::RcfStart(start) => start.start().invoke,
+            Invocation::CltuStart(start) => start.invoke,
+            Invocation::Transfer(transfer) => transfer.invoke,
+            Invocation::Throw(throw) => throw.invoke,
             Invocation::Stop(stop) => stop.invoke,
             Invocation::Schedule(schedule) => schedule.invoke,
             Invocation::Get(get) => get.invoke,
@@ -146,6 +197,16 @@ impl<'a> Invocation<'a> {
     pub(crate) fn leaves_running(&self) -> bool
         ensures { result ≡ leaves_running (invocation_of self.now) }
     {
-        matches!(self, Invocation::Schedule(_) | Invocation::Get(_))
+        match self {
+            Invocation::Transfer(_)
+            | Invocation::Throw(_)
+            | Invocation::Schedule(_)
+            | Invocation::Get(_) => true,
+            Invocation::RafStart(_)
+            | Invocation::RcfStart(_)
+            | Invocation::CltuStart(_)
+            | Invocation::Stop(_)
+            | Invocation::Undecoded(_) => false,
+        }
     }
 }

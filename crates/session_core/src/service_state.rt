@@ -1,10 +1,11 @@
 // What a bound service keeps.
 //
 // This is where the services meet a session. Each call that a session makes of one is a function
-// here, exact by a function of `specs/Served.antt`, with an arm for each service that is built; those
-// that need the session's site and numbers stand in `service_steps.rt`. RAF and RCF are built
-// (`raf_served.rt`, `rcf_served.rt`, and what they have alike in `return_served.rt`).
-ghost use Rattle.std.specs.Prelude.{◌≡◌, IfOk, IsTrue};
+// here, exact by a function of `specs/Served.antt`, with an arm for each service; those that need the
+// session's site and numbers stand in `service_steps.rt`. They are RAF and RCF (`raf_served.rt`,
+// `rcf_served.rt`, and what they have alike in `return_served.rt`), and FCLTU (`fcltu_served.rt`).
+ghost use Rattle.std.specs.Prelude.{◌≡◌, IfOk, IsTrue, IsFalse};
+ghost use Rattle.archive_terms.specs.Glimpse.{wants_nothing};
 ghost use Rattle.frame_select.specs.Want.{want_of};
 ghost use Rattle.frame_select.specs.Glimpse.{glimpse_of};
 ghost use Rattle.return_core.specs.Item.{are_of_archive};
@@ -14,10 +15,12 @@ ghost use Rattle.session_core.specs.Service.{invocation_of};
 ghost use Rattle.session_core.specs.Served.{served_at, prepared, want_served, served_step};
 ghost use Rattle.session_core.specs.Served.{dropped_by, served_settled};
 
+use crate::fcltu_served::fcltu_asked;
 use crate::inquiry::Inquiry;
 use crate::raf_served::{raf_asked, raf_made};
 use crate::rcf_served::{rcf_asked, rcf_made};
 use crate::service::Invocation;
+use fcltu_service::Fcltu;
 use frame_select::{Glimpse, Want};
 use octet_core::{Memory, Offer};
 use raf_service::{Raf, RafInvocation};
@@ -29,12 +32,14 @@ use std::alloc::Global;
 /// What a bound service keeps.
 #[derive(Drop)]
 pub enum ServiceState {
-    /// Nothing: none is bound, or one that isn't built.
+    /// Nothing: none is bound.
     Nothing,
     /// An instance of return all frames.
     Raf(Raf),
     /// An instance of return channel frames.
     Rcf(Rcf),
+    /// An instance of the forward service.
+    Fcltu(Fcltu),
 }
 
 impl ServiceState {
@@ -67,14 +72,18 @@ impl ServiceState {
                 let rcf = rcf_made(alloc, *mode, *size, *latency, timeout)?;
                 Ok(ServiceState::Rcf(rcf))
             }
-            Service::Cltu { .. } => Ok(ServiceState::Nothing),
+            Service::Cltu { .. } => Ok(ServiceState::Fcltu(Fcltu::new(timeout))),
         }
     }
 
     // What a round with an invocation that passes asks of the book and wants of a look. The octets
     // of a CLTU are copied, so it may want memory.
     #[tactic(auto, unfolding(crate::specs::Served::prepared))]
-    pub(crate) fn prepare(&self, invocation: &Invocation<'_>) -> Result<Inquiry, Memory>
+    pub(crate) fn prepare(
+        &self,
+        alloc: Global,
+        invocation: &Invocation<'_>,
+    ) -> Result<Inquiry, Memory>
         ensures { IfOk result (λ inquiry.
             inquiry_of inquiry ≡ prepared self.now (invocation_of invocation.now)) }
     {
@@ -88,7 +97,19 @@ impl ServiceState {
                 ask: Ask::Nothing,
                 want: rcf.prepare(&rcf_asked(invocation)),
             }),
+            ServiceState::Fcltu(fcltu) => {
+                let ask = fcltu.prepare(alloc, &fcltu_asked(invocation))?;
+                Ok(Inquiry::of(ask))
+            }
         }
+    }
+
+    // Whether a round without one may want something of a look.
+    #[tactic(auto, unfolding(crate::specs::Served::want_served))]
+    pub(crate) fn may_want(&self) -> bool
+        ensures { IsFalse result → want_served self.now ≡ wants_nothing }
+    {
+        matches!(self, ServiceState::Raf(_) | ServiceState::Rcf(_))
     }
 
     // What a round without one wants of a look.
@@ -97,7 +118,7 @@ impl ServiceState {
         ensures { want_of result ≡ want_served self.now }
     {
         match self {
-            ServiceState::Nothing => Want::Nothing,
+            ServiceState::Nothing | ServiceState::Fcltu(_) => Want::Nothing,
             ServiceState::Raf(raf) => raf.prepare(&RafInvocation::Nothing),
             ServiceState::Rcf(rcf) => rcf.prepare(&RcfInvocation::Nothing),
         }
@@ -110,7 +131,7 @@ impl ServiceState {
         ensures { self.new ≡ served_step (glimpse_of glimpse) now self.old }
     {
         match self {
-            ServiceState::Nothing => {}
+            ServiceState::Nothing | ServiceState::Fcltu(_) => {}
             ServiceState::Raf(raf) => {
                 let _is_offering = raf.step(glimpse, now);
             }
@@ -127,7 +148,7 @@ impl ServiceState {
         ensures { result ≡ dropped_by self.now }
     {
         match self {
-            ServiceState::Nothing => None,
+            ServiceState::Nothing | ServiceState::Fcltu(_) => None,
             ServiceState::Raf(raf) => raf.discards(Offer::Stalled),
             ServiceState::Rcf(rcf) => rcf.discards(Offer::Stalled),
         }
@@ -139,7 +160,7 @@ impl ServiceState {
         ensures { self.new ≡ served_settled answer self.old }
     {
         match self {
-            ServiceState::Nothing => {}
+            ServiceState::Nothing | ServiceState::Fcltu(_) => {}
             ServiceState::Raf(raf) => raf.settle(answer),
             ServiceState::Rcf(rcf) => rcf.settle(answer),
         }

@@ -1,6 +1,6 @@
 // The steps of a round in which a bound service has a part.
 //
-// Those that sign what they tell have an arm for each service that is built: what it answers an
+// Those that sign what they tell have an arm for each service: what it answers an
 // invocation, the status report that is due, how a notice is told, and its message behind the block.
 // Its returns are signed by `Standing::sign_bound`, become the block by `Block::put`, and are added
 // to it by `Block::add`.
@@ -21,6 +21,7 @@ ghost use Rattle.session_core.specs.Returns.{bound_peer};
 ghost use Rattle.session_core.specs.Steps.{running_want, with_want, may_send, unasked};
 
 use crate::course::Course;
+use crate::fcltu_served::{fcltu_asked, view_due};
 use crate::handling::peer_at;
 use crate::inquiry::Inquiry;
 use crate::outgoing::Outgoing;
@@ -41,11 +42,11 @@ use station_config::{Peer, Site};
 
 // What it wants, and what it answers.
 impl Standing {
-    // What a started service wants of the look: none where the dead timer ends the session.
+    // What a started service wants of the look: nothing where the dead timer ends the session.
     fn running_want(&self) -> Want
         ensures { want_of result ≡ running_want self.now self.now.moment }
     {
-        if self.is_dead() {
+        if !self.service.may_want() || self.is_dead() {
             Want::Nothing
         } else {
             self.service.want()
@@ -90,6 +91,11 @@ impl Standing {
                 let told = rcf.conclude(&asked, channels, &answer.glimpse, self.moment);
                 self.put_answer(site, invocation, told);
             }
+            ServiceState::Fcltu(fcltu) => {
+                let asked = fcltu_asked(invocation);
+                let told = fcltu.conclude(&asked, &answer.reply, self.moment);
+                self.put_fcltu_answer(site, invocation, told);
+            }
         }
     }
 
@@ -131,17 +137,26 @@ impl Standing {
                 let due = rcf.report(&answer.glimpse, self.moment);
                 self.put_rcf_report(site, due);
             }
+            ServiceState::Fcltu(fcltu) => {
+                let due = view_due(fcltu, &answer.view, self.moment);
+                self.put_fcltu_report(site, due);
+            }
         }
     }
 
     // A notice of the book.
     #[tactic(auto, unfolding(crate::specs::Served::told_by_service))]
     fn tell(&mut self, site: &Site, notice: Option<Notice>)
-        requires { self.old.moment < MOMENT_END }
+        requires moment { self.old.moment < MOMENT_END }
+        requires room { length self.old.block ≤ 3064 }
         ensures { self.new ≡ noticed site.now self.old notice }
     {
+        let Some(notice) = notice else {
+            return;
+        };
         match self.service {
             ServiceState::Nothing | ServiceState::Raf(_) | ServiceState::Rcf(_) => {}
+            ServiceState::Fcltu(_) => self.put_fcltu_notice(site, notice),
         }
     }
 
@@ -300,7 +315,7 @@ fn put_message(
         numbers.old now).numbers }
 {
     match service {
-        ServiceState::Nothing => outgoing.clear(),
+        ServiceState::Nothing | ServiceState::Fcltu(_) => outgoing.clear(),
         ServiceState::Raf(raf) => {
             let signer = signer_to(site, peer, now);
             let offers = raf.is_offering();

@@ -91,7 +91,7 @@ fn handle(
     let step = standing.judge(site, &said);
     let places = places_of(site, &said, step);
     let made = service_made(alloc, site, places.instance)?;
-    let asked = said_ask(&standing.service, &said, step, places)?;
+    let asked = said_ask(alloc, &standing.service, &said, step, places)?;
     let ask = standing.with_want(stays_running(&said, step), asked);
     let reply = ask_book(book, door, reading, &ask)?;
     standing.conclude(site, &said, step, places, made, &reply);

@@ -61,7 +61,8 @@ use Rattle.session_core.specs.Course.{is_going, is_live, is_over, is_blocked, ha
 use Rattle.session_core.specs.Inquiry.{Inquiry, only_asks, Replied, reply_in}
 use Rattle.session_core.specs.Message.{UserContent, context, heartbeat, bind, unbind, peer_abort}
 use Rattle.session_core.specs.Message.{invocation, undecoded, out_of_place, judged}
-use Rattle.session_core.specs.Service.{Invocation, raf_starts, rcf_starts, stops, schedules, gets}
+use Rattle.session_core.specs.Service.{Invocation, raf_starts, rcf_starts, cltu_starts, transfers}
+use Rattle.session_core.specs.Service.{throws, stops, schedules, gets}
 use Rattle.session_core.specs.Service.{undecoded as no_invocation, invocation_kind, leaves_running}
 use Rattle.session_core.specs.Served.{Served, Message, Fixed, concluded_by, want_served}
 use Rattle.session_core.specs.Served.{served_step, served_settled, dropped_by, fixed_by, reported_by}
@@ -248,9 +249,18 @@ invokes : (service : ReturnService) (served : Served) (c : Course) (channels : L
 unfolding delivery_of concluded_by
 invokes service served c channels site b (raf_starts s) r at now e pass still = absurd (cc)
 invokes service served c channels site b (rcf_starts s) r at now e pass still = absurd (cc)
+invokes service served c channels site b (cltu_starts s) r at now e pass still = absurd (cc)
 invokes service served c channels site b no_invocation r at now e pass still = absurd (cc)
 invokes buffer.Raf (serves.Raf raf) c channels site b (stops s) r at now e pass still = absurd (cc)
 invokes buffer.Rcf (serves.Rcf rcf) c channels site b (stops s) r at now e pass still = absurd (cc)
+invokes buffer.Raf (serves.Raf raf) c channels site b (transfers t) r at now e pass still =
+    record { runs = refl; delivery = e }
+invokes buffer.Rcf (serves.Rcf rcf) c channels site b (transfers t) r at now e pass still =
+    record { runs = refl; delivery = e }
+invokes buffer.Raf (serves.Raf raf) c channels site b (throws t) r at now e pass still =
+    record { runs = refl; delivery = e }
+invokes buffer.Rcf (serves.Rcf rcf) c channels site b (throws t) r at now e pass still =
+    record { runs = refl; delivery = e }
 invokes buffer.Raf (serves.Raf raf) c channels site b (schedules s) r at now e pass still =
     record { runs = refl; delivery = e }
 invokes buffer.Rcf (serves.Rcf rcf) c channels site b (schedules s) r at now e pass still =

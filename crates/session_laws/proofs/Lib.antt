@@ -1,5 +1,7 @@
 mod Places
 mod Histories
+mod Runs
+mod Forwarding
 mod Losing
 mod Seeing
 mod Deliveries

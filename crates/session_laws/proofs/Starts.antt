@@ -40,7 +40,8 @@ use Rattle.session_core.specs.Course.{has_closed}
 use Rattle.session_core.specs.Inquiry.{Replied, reply_in}
 use Rattle.session_core.specs.Message.{UserContent, context, heartbeat, bind, unbind, peer_abort}
 use Rattle.session_core.specs.Message.{invocation, undecoded, out_of_place, judged}
-use Rattle.session_core.specs.Service.{Invocation, raf_starts, rcf_starts, stops, schedules, gets}
+use Rattle.session_core.specs.Service.{Invocation, raf_starts, rcf_starts, cltu_starts, transfers}
+use Rattle.session_core.specs.Service.{throws, stops, schedules, gets}
 use Rattle.session_core.specs.Service.{undecoded as no_invocation}
 use Rattle.session_core.specs.Service.{invocation_kind}
 use Rattle.session_core.specs.ReturnServed.{outcome_of}
@@ -125,6 +126,9 @@ unfolding delivery_of concluded_by
 starts buffer.Raf (serves.Raf raf) c channels (raf_starts s) r now e is =
     raf_starts_it raf c s r.glimpse.front (raf_moments s r.glimpse raf) e is
 starts buffer.Raf (serves.Raf raf) c channels (rcf_starts s) r now e is = absurd (cc)
+starts buffer.Raf (serves.Raf raf) c channels (cltu_starts s) r now e is = absurd (cc)
+starts buffer.Raf (serves.Raf raf) c channels (transfers t) r now e is = absurd (cc)
+starts buffer.Raf (serves.Raf raf) c channels (throws t) r now e is = absurd (cc)
 starts buffer.Raf (serves.Raf raf) c channels (stops s) r now e is = absurd (cc)
 starts buffer.Raf (serves.Raf raf) c channels (schedules s) r now e is = absurd (cc)
 starts buffer.Raf (serves.Raf raf) c channels (gets g) r now e is = absurd (cc)
@@ -132,6 +136,9 @@ starts buffer.Raf (serves.Raf raf) c channels no_invocation r now e is = absurd 
 starts buffer.Rcf (serves.Rcf rcf) c channels (rcf_starts s) r now e is =
     rcf_starts_it rcf c s r.glimpse.front (rcf_moments channels s r.glimpse rcf) e is
 starts buffer.Rcf (serves.Rcf rcf) c channels (raf_starts s) r now e is = absurd (cc)
+starts buffer.Rcf (serves.Rcf rcf) c channels (cltu_starts s) r now e is = absurd (cc)
+starts buffer.Rcf (serves.Rcf rcf) c channels (transfers t) r now e is = absurd (cc)
+starts buffer.Rcf (serves.Rcf rcf) c channels (throws t) r now e is = absurd (cc)
 starts buffer.Rcf (serves.Rcf rcf) c channels (stops s) r now e is = absurd (cc)
 starts buffer.Rcf (serves.Rcf rcf) c channels (schedules s) r now e is = absurd (cc)
 starts buffer.Rcf (serves.Rcf rcf) c channels (gets g) r now e is = absurd (cc)

@@ -21,7 +21,8 @@ pub fn nothing_is_lost()
     session::a_service_leaves_its_session();
 }
 
-/// In a new book of a site no door has an instance, and none has one that has asked nothing yet.
+/// In a new book of a site no door has an instance, and none has one that has asked nothing yet. A run
+/// of the forward service is started only where some door has its instance.
 pub fn a_door_begins_free()
     ensures { BeginsFree }
 {
