@@ -12,6 +12,7 @@ use std::process::Abort;
 use step::step_of;
 
 mod channels;
+mod forward;
 mod named;
 mod raf;
 mod rows;
@@ -135,6 +136,13 @@ fn sessions_lead_to_what_their_scripts_say(rt: HostRuntime) {
 #[test]
 fn channels_reports_and_parameters_lead_to_what_their_scripts_say(rt: HostRuntime) {
     for scripts in [channels::SELECTED, channels::ASKED, channels::CYCLED] {
+        assert_eq!(rt; wrong_line_at(rt.alloc(), SITE, scripts), Ok(None));
+    }
+}
+
+#[test]
+fn cltus_lead_to_what_their_scripts_say(rt: HostRuntime) {
+    for scripts in [forward::QUEUED, forward::TOLD, forward::BESIDES] {
         assert_eq!(rt; wrong_line_at(rt.alloc(), SITE, scripts), Ok(None));
     }
 }

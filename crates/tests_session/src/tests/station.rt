@@ -6,6 +6,7 @@ ghost use Rattle.station_config.specs.Validity.{IsSite};
 use super::step::{Step, What, number, octets_of};
 use super::telling::{calls_told, dropped_told, spoken_told};
 use cds_time::{Cds, Rest};
+use cltu_queue::Taken;
 use fcltu_numbers::{CltuProductionStatus, UplinkStatus};
 use frame_select::Want;
 use link_model::MemoryLink;
@@ -34,6 +35,8 @@ pub struct Station {
     book: Book,
     doors: Vec<Door>,
     clock: u32,
+    // The run and the identification of the CLTU that was taken last.
+    air: (u64, u32),
 }
 
 // Picoseconds.
@@ -142,6 +145,7 @@ impl Station {
             book: Book::new(alloc, site, Entries::new(alloc), 0)?,
             doors: Vec::new(alloc),
             clock: 0,
+            air: (0, 0),
         })
     }
 
@@ -195,6 +199,26 @@ impl Station {
             .uplink(production, UplinkStatus::UplinkStatusNotAvailable, 0);
     }
 
+    // Takes the next CLTU, and tells what became of it.
+    fn take(&mut self, told: &mut String) -> Result<(), AllocError> {
+        match self.book.take(reading_of(self.clock)) {
+            Taken::Idle => told.push_str("idle "),
+            Taken::Waits { .. } => told.push_str("waits "),
+            Taken::Expired { id } => write!(told, "expired {id} "),
+            Taken::Radiate { run, id, octets } => {
+                self.air = (run, id);
+                let digits = hex::encode(self.alloc, octets.as_slice())?;
+                write!(told, "radiated {id} {digits} ")
+            }
+        }
+    }
+
+    // The radiation of what was taken last ends.
+    fn done(&mut self) {
+        let (run, id) = self.air;
+        self.book.done(run, id, reading_of(self.clock));
+    }
+
     // Publishes a frame of 20,000 days and so many milliseconds, received whole at the antenna A.
     fn publish(&mut self, step: &Step<'_>) -> Result<(), AllocError> {
         let frame = Entry::Frame {
@@ -230,6 +254,8 @@ impl Station {
             What::Open => self.open(step)?,
             What::Quit => self.book.quit(step.door),
             What::Uplink => self.uplink(step),
+            What::Take => self.take(told)?,
+            What::Done => self.done(),
             What::Frame => self.publish(step)?,
             What::Moment => write!(told, "{} ", self.book.peek(0) / 1_000_000)?,
             What::Bind | What::Start | What::Told => self.ask(step, told)?,

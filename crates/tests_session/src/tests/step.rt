@@ -32,6 +32,9 @@ pub enum What {
     Quit,
     // Production has this status.
     Uplink,
+    // The antenna takes the next CLTU, and the radiation of what it took last ends.
+    Take,
+    Done,
     // A frame is published, with this time in milliseconds and these octets.
     Frame,
     // The book's latest moment is told.
@@ -47,7 +50,7 @@ pub struct Step<'a> {
 }
 
 // Each step by its word.
-const WORDS: [(&str, What); 18] = [
+const WORDS: [(&str, What); 20] = [
     ("clock", What::Clock),
     ("open", What::Open),
     ("piece", What::Piece),
@@ -64,6 +67,8 @@ const WORDS: [(&str, What); 18] = [
     ("told", What::Told),
     ("quit", What::Quit),
     ("uplink", What::Uplink),
+    ("take", What::Take),
+    ("done", What::Done),
     ("frame", What::Frame),
     ("moment", What::Moment),
 ];
