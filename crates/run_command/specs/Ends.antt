@@ -3,8 +3,13 @@
 use Rattle.std.specs.Prelude.{◌≡◌, ◌⊎◌, ℕ, Option, List}
 use Rattle.octet_core.specs.Fault.{count_up}
 use Rattle.octet_core.specs.Written.{Gains, GainsFront}
+use Rattle.disk_model.specs.Images.{Pending}
+use Rattle.station_config.specs.declared.site.Site.{Site}
+use Rattle.station_run.specs.Ran.{RefusesStart}
 use Rattle.station_run.specs.declared.report.RunReport.{RunReport}
-use Rattle.run_command.specs.Statuses.{code_of, run_status}
+use Rattle.station_run.specs.declared.report.StartFault.{StartFault}
+use Rattle.run_command.specs.Configured.{NoSite, Configures}
+use Rattle.run_command.specs.Statuses.{code_of, run_status, started_with}
 use Rattle.run_command.specs.Texts.{radiated_count, run_text, status_text}
 use Rattle.run_command.specs.declared.status.RunStatus.{RunStatus}
 use Rattle.run_command.specs.declared.status.RunStatus.TheVariants as status
@@ -38,3 +43,14 @@ EndsBehind before after faults_before faults_after report exit =
     Writes before after faults_before faults_after
     (run_text report.published (radiated_count report.radiating) report.doors.items
     (status_by report)) (status_by report) exit
+
+-- Why the workers of a run weren't started: its input, with so much left and these counts of faults
+-- before and after, configures no site, and the disk is as it was; or the station of its site
+-- doesn't start over the disk.
+abbrev pub NotStarted : {D : Type 0} → (D → Option Pending) → (D → ℕ) → Option (List ℕ) → ℕ → ℕ
+    → D → D → RunStatus → Type 0
+NotStarted pending faults left before after disk disk_now own =
+    (NoSite own left before after × (disk_now ≡ disk))
+    ⊎ ((site : Site) × (fault : StartFault) × Configures left site × (after ≡ before)
+    × (own ≡ started_with fault)
+    × RefusesStart fault (pending disk) (faults disk) (faults disk_now))

@@ -2,7 +2,12 @@
 ghost use Rattle.std.specs.Prelude.{◌≡◌, ◌^◌, ◌≤◌, IfSome, IfNone, length};
 ghost use Rattle.station_config.specs.Validity.{IsSite};
 ghost use Rattle.station_run.specs.declared.report.RunReport.{RunReport};
-ghost use Rattle.run_command.specs.Ends.{EndsBefore, EndsBehind};
+ghost use Rattle.station_run.specs.declared.report.StartFault.{StartFault};
+ghost use Rattle.station_run.specs.Ran.{RanOver, RefusesStart, outside};
+ghost use Rattle.station_config.specs.declared.site.Site.{Site};
+ghost use Rattle.run_command.specs.Configured.{Configures};
+ghost use Rattle.run_command.specs.Ends.{EndsBefore, EndsBehind, NotStarted};
+ghost use Rattle.run_command.specs.Statuses.{started_with};
 ghost use Rattle.run_command.specs.declared.status.RunStatus.{RunStatus};
 
 use crate::ending::start_status;
@@ -53,9 +58,16 @@ fn run_site<
     requires site { IsSite site.now }
     ensures started { IfSome result.2 (λ pass. (report : RunReport) × (report.pass ≡ pass)
         × EndsBehind (O.written output.old) (O.written output.new) (O.faults output.old)
-        (O.faults output.new) report result.0) }
-    ensures not_started { IfNone result.2 ((own : RunStatus) × EndsBefore (O.written output.old)
-        (O.written output.new) (O.faults output.old) (O.faults output.new) own result.0) }
+        (O.faults output.new) report result.0
+        × RanOver D.pending D.faults D.moment D.images_since D.makes D.fails D.fails_to_read
+        F.answers F.faults A.sent A.faults G.shown G.faults G.Link.calls G.Link.faults C.readings
+        site.now turns links draw disk result.1
+        (outside frames.old antenna.old antenna_clock.old doors.old clocks.old)
+        (outside frames.new antenna.new antenna_clock.new doors.new clocks.new) report) }
+    ensures not_started { IfNone result.2 ((fault : StartFault)
+        × EndsBefore (O.written output.old) (O.written output.new) (O.faults output.old)
+        (O.faults output.new) (started_with fault) result.0
+        × RefusesStart fault (D.pending disk) (D.faults disk) (D.faults result.1)) }
 {
     let (ran, disk) = run_station(
         rt,
@@ -112,11 +124,19 @@ pub fn run<
     requires turns { (1 ≤ turns) × (turns ≤ 2 ^ 40) }
     requires doors { (1 ≤ length doors.old) × (length doors.old ≤ 16)
         × (length clocks.old ≡ length doors.old) }
-    ensures started { IfSome result.2 (λ pass. (report : RunReport) × (report.pass ≡ pass)
+    ensures started { IfSome result.2 (λ pass. (site : Site) × (report : RunReport)
+        × (report.pass ≡ pass) × Configures (I.left input.old) site
         × EndsBehind (O.written output.old) (O.written output.new) (O.faults output.old)
-        (O.faults output.new) report result.0) }
+        (O.faults output.new) report result.0
+        × RanOver D.pending D.faults D.moment D.images_since D.makes D.fails D.fails_to_read
+        F.answers F.faults A.sent A.faults G.shown G.faults G.Link.calls G.Link.faults C.readings
+        site turns links draw disk result.1
+        (outside frames.old antenna.old antenna_clock.old doors.old clocks.old)
+        (outside frames.new antenna.new antenna_clock.new doors.new clocks.new) report) }
     ensures not_started { IfNone result.2 ((own : RunStatus) × EndsBefore (O.written output.old)
-        (O.written output.new) (O.faults output.old) (O.faults output.new) own result.0) }
+        (O.written output.new) (O.faults output.old) (O.faults output.new) own result.0
+        × NotStarted D.pending D.faults (I.left input.old) (I.faults input.old)
+        (I.faults input.new) disk result.1 own) }
 {
     match read_site(alloc, input) {
         Ok(site) => run_site(

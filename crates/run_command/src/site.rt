@@ -1,9 +1,7 @@
 // The configuration of a run.
-ghost use Rattle.std.specs.Prelude.{◌≡◌, ◌⊎◌, IfOk, IsErrOf, Some};
-ghost use Rattle.octet_core.specs.Fault.{count_up};
+ghost use Rattle.std.specs.Prelude.{◌≡◌, ℕ, IfOk, IfErr, Some};
 ghost use Rattle.station_config.specs.Validity.{IsSite};
-ghost use Rattle.run_command.specs.Configured.{Configures};
-ghost use Rattle.run_command.specs.declared.status.RunStatus.TheVariants as RunStatus;
+ghost use Rattle.run_command.specs.Configured.{Configures, NoSite};
 
 use crate::status::RunStatus;
 use octet_core::Source;
@@ -14,8 +12,8 @@ use whole_input::{InputFault, read_input};
 // The site that a text configures, or the status of a run that has none.
 fn site_of(alloc: Global, text: &[u8]) -> Result<Site, RunStatus>
     ensures valid { IfOk result IsSite }
-    ensures exact { Configures (Some text.now) result }
-    ensures read { ¬ IsErrOf result RunStatus.ReadFault }
+    ensures exact { IfOk result (Configures (Some text.now)) }
+    ensures refused { (faults : ℕ) → IfErr result (λ own. NoSite own (Some text.now) faults faults) }
 {
     match Site::parse(alloc, text) {
         Ok(site) => Ok(site),
@@ -27,11 +25,10 @@ fn site_of(alloc: Global, text: &[u8]) -> Result<Site, RunStatus>
 // The site that the input configures, or the status of a run that has none.
 pub(crate) fn read_site<I: Source>(alloc: Global, input: &mut I) -> Result<Site, RunStatus>
     ensures valid { IfOk result IsSite }
-    ensures exact { Configures (I.left input.old) result }
-    ensures raised { IsErrOf result RunStatus.ReadFault →
-        I.faults input.new ≡ count_up (I.faults input.old) }
-    ensures kept { IsErrOf result RunStatus.ReadFault
-        ⊎ (I.faults input.new ≡ I.faults input.old) }
+    ensures exact { IfOk result (λ site. Configures (I.left input.old) site
+        × (I.faults input.new ≡ I.faults input.old)) }
+    ensures refused { IfErr result (λ own. NoSite own (I.left input.old) (I.faults input.old)
+        (I.faults input.new)) }
 {
     match read_input(alloc, input) {
         Ok(text) => site_of(alloc, text.as_slice()),

@@ -1,10 +1,16 @@
 -- What came of a station's run. This product's own.
-use Rattle.std.specs.Prelude.{◌≡◌, ℕ, ◌+◌, ◌-◌, List, [], ◌∷◌, All, length, Option}
+use Rattle.std.specs.Prelude.{◌≡◌, ℕ, ◌+◌, ◌-◌, List, [], ◌∷◌, All, length, Option, IfSome}
 use Rattle.archive_terms.specs.Archive.{Entry}
 use Rattle.cds_time.specs.declared.cds.Cds.{Cds}
 use Rattle.disk_model.specs.Images.{Pending}
+use Rattle.disk_model.specs.Moments.{IsImageOf, HoldsThroughout}
+use Rattle.disk_model.specs.Calls.{AllMade}
 use Rattle.disk_model.specs.declared.call.Call.{Call as DiskCall}
-use Rattle.frame_archive.specs.State.{ArchiveState}
+use Rattle.gate_journal.specs.JournalState.{recovering}
+use Rattle.frame_archive.specs.Acknowledges.{Acknowledges, Uses}
+use Rattle.frame_archive.specs.Faults.{RefusesDisk}
+use Rattle.frame_archive.specs.State.{ArchiveState, at_rest}
+use Rattle.frame_archive.specs.declared.fault.ArchiveFault.TheVariants as archives
 use Rattle.recorder.specs.Feeds.{Answer}
 use Rattle.link_model.specs.declared.call.Call.{Call as LinkCall}
 use Rattle.door_model.specs.Shown.{Shown}
@@ -22,6 +28,8 @@ use Rattle.antenna_turns.specs.Radiating as antenna
 use Rattle.door_turns.specs.Doors.{EachWorks}
 use Rattle.station_run.specs.Workers.{RecordsAt, RadiatesAt}
 use Rattle.station_run.specs.declared.report.RunReport.{RunReport}
+use Rattle.station_run.specs.declared.report.StartFault.{StartFault}
+use Rattle.station_run.specs.declared.report.StartFault.TheVariants.{NotJournal, Damaged, DiskFault, Memory}
 
 -- how many entries were published in a history, beside those of its origin
 abbrev pub published_count : Opening → List Event → ℕ
@@ -87,3 +95,36 @@ pub record Ran {D F A G L C : Type 0} (pending : D → Option Pending) (disk_fau
   pub history : IsHistory lock report.pass.seen
       ([] ∷ recorder_now.own ∷ antenna_now.own ∷ [] ∷ owns_of seats_now)
   pub published : report.published ≡ published_count lock.origin report.pass.seen
+
+-- A run over a disk: its archive was opened over what the disk had, and it ran over that archive,
+-- whose disk is handed back.
+pub record RanOver {D F A G L C : Type 0} (pending : D → Option Pending) (disk_faults moment : D → ℕ)
+    (images_since : D → ℕ → List ℕ → Type 0) (makes fails : D → DiskCall → D → Type 0)
+    (fails_to_read : D → D → Type 0) (answers : F → Option (List Answer)) (source_faults : F → ℕ)
+    (sent : A → Option (List (List ℕ))) (antenna_faults : A → ℕ) (shown : G → Option Shown)
+    (door_faults : G → ℕ) (calls : L → Option (List LinkCall)) (link_faults : L → ℕ)
+    (readings : C → Option (List Cds)) (site : Site) (turns links draw : ℕ) (disk disk_now : D)
+    (old new : Outside F A G C) (report : RunReport) : Type 0 where
+  pub entries : List Entry
+  pub used : ℕ
+  pub archive : ArchiveState D
+  pub archive_now : ArchiveState D
+  pub opened : archive ≡ at_rest archive.disk site.capacity used entries
+  pub stands : IfSome (pending disk) (λ told. Uses entries used told.content)
+  pub acknowledged : IfSome (pending disk) (λ _. Acknowledges pending archive entries)
+  pub any_moment : HoldsThroughout moment images_since disk archive.disk (IsImageOf (pending disk))
+  pub opening : AllMade makes disk recovering archive.disk
+  pub ran : Ran pending disk_faults makes fails fails_to_read answers source_faults sent
+      antenna_faults shown door_faults calls link_faults readings site turns links draw entries
+      archive archive_now old new report
+  pub disk_is : disk_now ≡ archive_now.disk
+
+-- why a station doesn't start, by what its disk had and how often that had failed before and after
+abbrev pub RefusesStart : StartFault → Option Pending → ℕ → ℕ → Type 0
+RefusesStart (NotJournal place) pending before after =
+    RefusesDisk (archives.NotJournal place) pending before after
+RefusesStart (Damaged place) pending before after =
+    RefusesDisk (archives.Damaged place) pending before after
+RefusesStart DiskFault pending before after =
+    RefusesDisk archives.DiskFault pending before after
+RefusesStart Memory pending before after = Unit {0}

@@ -1,16 +1,16 @@
 // A station, from the opening of its archive to the closing of its lock.
-ghost use Rattle.std.specs.Prelude.{◌≡◌, ℕ, ◌+◌, ◌*◌, ◌^◌, ◌≤◌, [], ◌∷◌, false, List, All};
+ghost use Rattle.std.specs.Prelude.{◌≡◌, ℕ, ◌+◌, ◌*◌, ◌^◌, ◌≤◌, ◌⊎◌, [], ◌∷◌, false, Option, All};
 ghost use Rattle.std.specs.Prelude.{IfOk, IfErr, IsErrOf, length, vec_len, vec_capacity};
-ghost use Rattle.archive_terms.specs.Archive.{Entry};
-ghost use Rattle.frame_archive.specs.State.{ArchiveState, at_rest};
+ghost use Rattle.disk_model.specs.Images.{Pending};
+ghost use Rattle.frame_archive.specs.Faults.{RefusesDisk};
 ghost use Rattle.station_config.specs.Validity.{IsSite};
 ghost use Rattle.station_book.specs.State.{opened};
 ghost use Rattle.station_book.specs.Origin.{opening_of};
 ghost use Rattle.station_seats.specs.Seats.{IsMain, IsSingle, owns_of, reports_of, turns_of};
-ghost use Rattle.octet_core.specs.Fault.{Rose};
 ghost use Rattle.station_run.specs.declared.report.StartFault.TheVariants as StartFault;
 ghost use Rattle.station_run.specs.Workers.{HasEnded};
-ghost use Rattle.station_run.specs.Ran.{IsHistory, published_count};
+ghost use Rattle.station_run.specs.Ran.{Ran, RanOver, RefusesStart, IsHistory, published_count};
+ghost use Rattle.station_run.specs.Ran.{outside};
 
 use crate::crew::Crew;
 use crate::report::{RunReport, StartFault};
@@ -62,6 +62,16 @@ pub fn run_station<
     requires doors { (1 ≤ length doors.old) × (length doors.old ≤ 16)
         × (length clocks.old ≡ length doors.old) }
     requires site { IsSite site.now }
+    ensures ran { IfOk result.0 (λ report. RanOver D.pending D.faults D.moment D.images_since D.makes
+        D.fails D.fails_to_read F.answers F.faults A.sent A.faults G.shown G.faults G.Link.calls
+        G.Link.faults C.readings site.now turns links draw disk result.1
+        (outside frames.old antenna.old antenna_clock.old doors.old clocks.old)
+        (outside frames.new antenna.new antenna_clock.new doors.new clocks.new) report) }
+    ensures refused { IfErr result.0 (λ fault. RefusesStart fault (D.pending disk) (D.faults disk)
+        (D.faults result.1)) }
+    ensures untouched { IfErr result.0 (λ fault. (fault ≡ StartFault.Memory)
+        ⊎ (outside frames.new antenna.new antenna_clock.new doors.new clocks.new
+        ≡ outside frames.old antenna.old antenna_clock.old doors.old clocks.old)) }
 {
     match open_archive(alloc, disk, site.capacity) {
         Ok((mut archive, entries)) => {
@@ -87,7 +97,10 @@ pub fn run_station<
 }
 
 // Why a station doesn't start whose archive was refused.
-fn start_fault(fault: ArchiveFault) -> StartFault {
+fn start_fault(fault: ArchiveFault) -> StartFault
+    ensures { (pending : Option Pending) → (before after : ℕ)
+        → RefusesDisk fault pending before after → RefusesStart result pending before after }
+{
     match fault {
         ArchiveFault::NotJournal { place } => StartFault::NotJournal { place },
         ArchiveFault::Damaged { place } => StartFault::Damaged { place },
@@ -141,6 +154,11 @@ fn run_opened<
     requires doors { (1 ≤ length doors.old) × (length doors.old ≤ 16)
         × (length clocks.old ≡ length doors.old) }
     requires site { IsSite site.now }
+    ensures ran { IfOk result (λ report. Ran D.pending D.faults D.makes D.fails D.fails_to_read
+        F.answers F.faults A.sent A.faults G.shown G.faults G.Link.calls G.Link.faults C.readings
+        site.now turns links draw entries archive.old archive.new
+        (outside frames.old antenna.old antenna_clock.old doors.old clocks.old)
+        (outside frames.new antenna.new antenna_clock.new doors.new clocks.new) report) }
     ensures fault { IfErr result (λ fault. fault ≡ StartFault.Memory) }
 {
     let count = doors.len();
@@ -168,7 +186,8 @@ fn run_opened<
         draw,
         turns,
     );
-    Ok(finish(station, pass, crew, opening, turns)?)
+    let report = finish(station, pass, crew, opening, turns)?;
+    Ok(report)
 }
 
 // A book under the station's lock, and the pass that has all its turns.

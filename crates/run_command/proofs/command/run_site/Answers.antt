@@ -1,0 +1,10 @@
+use Rattle.std.proofs.Common.{refl}
+use Rattle.run_command.proofs.command.run_site.Goals as goal
+
+pub returns-in-Ok-clause-started : goal.returns-in-Ok-clause-started
+returns-in-Ok-clause-started g c = (
+  c.in-Ok.report,
+  refl,
+  c.tell_run-exit.ensures,
+  rw c.in-Ok.is at c.run_station-ran.ensures.ran,
+)
