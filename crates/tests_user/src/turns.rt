@@ -1,0 +1,78 @@
+// Scripts of turns. A line is the seconds of a turn's moment, with `waits` where a block waits, `:`,
+// the messages that come, `=` and what is told of the turn. With `shut` the provider closes.
+use crate::centre::Centre;
+use crate::messages::octets_of;
+use crate::scripts;
+use crate::texts::text_of;
+use std::alloc::Global;
+use std::test::Fail;
+
+// The seconds of a turn, and whether a block waits.
+fn when_of(words: &str) -> (u32, bool) {
+    let (seconds, waits) = words.split_once(' ').unwrap_or((words, ""));
+    (seconds.parse().unwrap_or(0), waits == "waits")
+}
+
+// What is told of a turn to which messages came.
+fn told(alloc: Global, centre: &mut Centre, when: &str, messages: &str) -> Result<String, Fail> {
+    let (seconds, waits) = when_of(when);
+    match messages.trim() {
+        "shut" => centre.shut(),
+        _ => centre.arrive(alloc, octets_of(alloc, messages)?.as_slice())?,
+    }
+    centre.turn(seconds, waits)?;
+    centre.tell(alloc)
+}
+
+// Whether a turn is as its line says.
+fn is_so(alloc: Global, centre: &mut Centre, line: &str) -> Result<bool, Fail> {
+    let (turn, words) = line.split_once('=').unwrap_or((line, ""));
+    let (when, messages) = turn.split_once(':').unwrap_or((turn, ""));
+    let text = text_of(alloc, words)?;
+    Ok(told(alloc, centre, when, messages)?.as_str() == text.as_str())
+}
+
+// The first line of a script that isn't so.
+fn wrong_line<'a>(alloc: Global, task: &str, script: &'a str) -> Result<Option<&'a str>, Fail> {
+    let Some(mut centre) = Centre::new(alloc, task)? else {
+        return Ok(Some(script));
+    };
+    for line in script.lines() {
+        if !is_so(alloc, &mut centre, line)? {
+            return Ok(Some(line));
+        }
+    }
+    Ok(None)
+}
+
+// The same of scripts with a line `new` between them.
+fn wrong_line_of<'a>(alloc: Global, task: &str, scripts: &'a str) -> Result<Option<&'a str>, Fail> {
+    for script in scripts.split("new\n") {
+        let wrong = wrong_line(alloc, task, script)?;
+        if wrong.is_some() {
+            return Ok(wrong);
+        }
+    }
+    Ok(None)
+}
+
+// A task and its scripts.
+const SCRIPTS: [(&str, &str); 9] = [
+    ("show-raf", scripts::SHOWN),
+    ("raf", scripts::RAF),
+    ("raf", scripts::BEATING),
+    ("raf-some", scripts::SOME),
+    ("cltu-0", scripts::NO_CLTU),
+    ("cltu-1", scripts::ONE_CLTU),
+    ("cltu-2", scripts::TWO_CLTUS),
+    ("raf sha1", scripts::SIGNED_RAF),
+    ("cltu-1 sha256", scripts::SIGNED_CLTU),
+];
+
+#[test]
+fn turns_lead_to_what_their_scripts_say(rt: HostRuntime) -> Result<(), Fail> {
+    for (task, scripts) in SCRIPTS {
+        assert_eq!(rt; wrong_line_of(rt.alloc(), task, scripts)?, None, "{task}");
+    }
+    Ok(())
+}
