@@ -1,0 +1,13 @@
+use Rattle.std.proofs.Common.{arith}
+use Rattle.user_talk.specs.Running.{world}
+use Rattle.user_talk.proofs.Polled.{ends_more}
+use Rattle.user_talk.proofs.rounds.rounds.Goals as goal
+
+pub returns-in-Some : goal.returns-in-Some
+returns-in-Some g c =
+    ends_more g.L.Link.calls g.L.Link.faults g.C.Clock.readings g.O.Sink.written
+    g.O.Sink.faults c.loop.counter c.args.turns c.in-Some.end c.args.talk.now c.loop.talk
+    (world c.args.link.now c.args.clock.now c.args.output.now)
+    (world c.loop.link c.loop.clock c.loop.output)
+    (world c.round.new.link c.round.new.clock c.round.new.output) c.loop.invariant.goes
+    (omega (arith, c.loop-test.true)) c.in-Some.ensures.polls
