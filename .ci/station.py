@@ -4,10 +4,10 @@
 usage: station.py STATION PROVIDER
 
 Users bind, hear heartbeats, start deliveries, read their transfer buffers back and unbind; sixteen of
-them at once, one octet by octet; one resets its connection. A front end feeds frames meanwhile. What
-a user was handed is compared with what was fed, and so is what `list` of the provider shows afterwards. The octets
-of the users' messages are spelled here by hand, from the standards. The last line says how many
-checks passed.
+them at once, one octet by octet; one resets its connection; one has telecommands radiated. A front
+end feeds frames meanwhile. What a user was handed is compared with what was fed, and so is what
+`list` of the provider shows afterwards. The octets of the users' messages are spelled here by hand,
+from the standards. The last line says how many checks passed.
 """
 import os
 import socket
@@ -37,7 +37,7 @@ def check(name, found, expected):
             print(f"station: {name}: found {found!r:.400}, expected {expected!r:.400}")
 
 
-# ---- messages, after CCSDS 913.1-B (transport), CCSDS 911.1-B (RAF) and X.690
+# ---- messages, after CCSDS 913.1-B (transport), 911.1-B (RAF), 912.1-B (FCLTU) and X.690
 
 def tlv(tag, content):
     size = len(content)
@@ -54,7 +54,7 @@ def integer(value):
 
 
 UNUSED = bytes.fromhex("8000")
-ATTRIBUTES = {"sagr": 52, "spack": 53, "rsl-fg": 38, "raf": 22}
+ATTRIBUTES = {"sagr": 52, "spack": 53, "rsl-fg": 38, "raf": 22, "fsl-fg": 14, "cltu": 7}
 
 
 def message(pdu):
@@ -77,9 +77,9 @@ def identifier(text):
     return tlv("30", names)
 
 
-def bind(name, instance):
-    return message(tlv("bf64", UNUSED + tlv("1a", name.encode()) + tlv("1a", b"PORT1") + integer(0)
-                       + integer(5) + identifier(instance)))
+def bind(name, instance, service=0):
+    return message(tlv("bf64", UNUSED + tlv("1a", name.encode()) + tlv("1a", b"PORT1")
+                       + integer(service) + integer(5) + identifier(instance)))
 
 
 def start(invoke, first=None, last=None):
@@ -90,6 +90,16 @@ def start(invoke, first=None, last=None):
 
 def stop(invoke):
     return message(tlv("a2", UNUSED + integer(invoke)))
+
+
+def cltu_start(first):
+    return message(tlv("a0", UNUSED + integer(0) + integer(first)))
+
+
+def transfer(number, octets):
+    """A CLTU without a window, of whose radiation its user wants to be told."""
+    return message(tlv("aa", UNUSED + integer(0) + integer(number) + UNUSED + UNUSED + integer(0)
+                       + integer(0) + tlv("04", octets)))
 
 
 UNBIND = message(tlv("bf66", UNUSED + integer(0)))
@@ -201,8 +211,8 @@ class User:
         except EOFError:
             return b""
 
-    def bound(self, name, who, instance, interval=30, one_by_one=False):
-        self.say(context(interval, 5), bind(who, instance), one_by_one=one_by_one)
+    def bound(self, name, who, instance, interval=30, one_by_one=False, service=0):
+        self.say(context(interval, 5), bind(who, instance, service), one_by_one=one_by_one)
         check(f"{name}: bound", self.answer(), BOUND)
 
     def unbind(self, name):
@@ -346,6 +356,54 @@ def crowd(folder):
     check("what a crowd heard is listed", station.listed(), "".join(map(frame, range(30))))
 
 
+COMMANDS = "sagr=1.spack=P.fsl-fg=1.cltu=cltu1"
+
+
+def told_at(pdu, place):
+    """The tag and content of an element of a PDU."""
+    [(_, content)] = elements(pdu)
+    return list(elements(content))[place]
+
+
+def commands(folder):
+    """A user queues telecommands, and hears of each that it is radiated; the antenna has each once."""
+    sent = {number: bytes([0xaa, number]) * 40 for number in range(7, 27)}
+    station = Station(folder, 1, 2, configuration=site(1) + f"cltu {COMMANDS} MOC 100000 100 60\n")
+    user = User(station.ports[0])
+    user.bound("commands", "MOC", COMMANDS, service=16)
+    user.say(cltu_start(7))
+    answer = user.answer()[8:]
+    check("commands: started", (answer[0], told_at(answer, 2)[0]), (0xa1, 0xa0))
+    user.say(transfer(8, b"out of order"))
+    answer = user.answer()[8:]
+    check("commands: out of order", (told_at(answer, 2), told_at(answer, 4)),
+          ((0x02, b"\7"), (0xa1, bytes.fromhex("810102"))))
+    user.say(*(transfer(number, octets) for number, octets in sent.items()))
+    queued, radiated, last = [], [], None
+    while len(radiated) < len(sent):
+        answer = user.answer()[8:]
+        if answer[0] == 0xab:
+            queued.append((told_at(answer, 2)[1][-1], told_at(answer, 4)[0]))
+        elif told_at(answer, 1)[0] == 0x80:
+            [(_, number), *_] = elements(told_at(answer, 3)[1])
+            radiated.append(number[-1])
+    check("commands: queued in order", queued, [(number + 1, 0x80) for number in sent])
+    check("commands: radiated in order", radiated, list(sent))
+    check("commands: none waits", told_at(user.answer()[8:], 1), (0x85, b""))
+    user.say(stop(9))
+    check("commands: stopped", user.answer(), stopped(9))
+    user.unbind("commands")
+    # the instance is free again
+    user = User(station.ports[0])
+    user.bound("commands again", "MOC", COMMANDS, service=16)
+    user.unbind("commands again")
+    station.front_end().close()
+    station.ended("the run of commands", 0,
+                  ["stored 0", f"radiated {len(sent)}", "door 1 links 2"])
+    with open(os.path.join(folder, "cltus"), "rb") as file:
+        check("the antenna's octets", file.read(), b"".join(sent.values()))
+
+
 def again(folder):
     """A second run over the archive of an earlier one goes on behind its entries."""
     for numbers in [range(3), range(3, 6)]:
@@ -404,7 +462,7 @@ def refusals(folder):
         check(f"words {words}", (found.returncode, found.stdout), (2, b"usage\n"))
 
 
-for part in [one_user, deliveries, crowd, again, refusals]:
+for part in [one_user, deliveries, crowd, commands, again, refusals]:
     with tempfile.TemporaryDirectory() as folder:
         try:
             part(folder)
