@@ -1,0 +1,121 @@
+// A user of a provider: it shows a recorded stream, and receives frames over TCP.
+//
+// The words are those of `user_words`; other words are `usage`. Where PASS is `file`, the word is the
+// first line of the file that the environment's USER_PASS_FILE names, so that no password stands
+// among the words of a process. `user_service` says what is done and how it ends; here the connection
+// is made, at the loopback, where the words ask for one.
+#![tactic(auto)]
+
+use cds_time::{MachineTime, SystemClock};
+use octet_core::{ReaderSource, WriterSink};
+use std::alloc::{AllocError, Global};
+use std::env::Args;
+use std::net::{Ipv4Addr, SocketAddr, TcpStream};
+use std::process::ExitCode;
+use std::random::RandomSource;
+use std::time::Duration;
+use std::{env, fs, io};
+use tcp_link::TcpLink;
+use user_service::{UserKit, use_service};
+use user_words::{Asked, Plan};
+
+const MEMORY: u8 = 70;
+
+// Where PASS stands among the words, counted from 0.
+const PASS_PLACE: usize = 3;
+
+// How many milliseconds a call of the link waits at most.
+const WAIT_MILLIS: u64 = 50;
+
+fn main(rt: HostRuntime) -> ExitCode {
+    let exit = match words_of(&rt, rt.alloc(), env::args(&rt)) {
+        Ok(words) => run(&rt, rt.alloc(), words.as_slice()).unwrap_or(MEMORY),
+        Err(_) => MEMORY,
+    };
+    ExitCode::from(exit)
+}
+
+// The words behind the program's name. Words that aren't all texts are as good as none.
+fn words_of(
+    rt: &HostRuntime,
+    alloc: Global,
+    arguments: io::Result<Args>,
+) -> Result<Vec<String>, AllocError> {
+    let mut words = Vec::new(alloc);
+    let Ok(arguments) = arguments else {
+        return Ok(words);
+    };
+    for word in arguments.skip(1) {
+        words.push(word)?;
+    }
+    if let Some(word) = words.get_mut(PASS_PLACE) {
+        fill_pass(rt, alloc, word);
+    }
+    Ok(words)
+}
+
+// Puts the word of a file in place of `file`.
+fn fill_pass(rt: &HostRuntime, alloc: Global, word: &mut String) {
+    if word.as_str() != "file" {
+        return;
+    }
+    if let Some(pass) = kept_pass(rt, alloc) {
+        *word = pass;
+    }
+}
+
+// The word of the file that is named for it; none where it can't be read.
+fn kept_pass(rt: &HostRuntime, alloc: Global) -> Option<String> {
+    let path = env::var(rt, "USER_PASS_FILE").ok()?;
+    let text = fs::read_to_string(rt, path.as_str()).ok()?;
+    let line = text.as_str().lines().next()?;
+    String::from_str(alloc, line).ok()
+}
+
+// Does what the words ask for, over what the machine has.
+fn run(rt: &HostRuntime, alloc: Global, words: &[String]) -> Result<u8, AllocError> {
+    let mut texts = Vec::new(alloc);
+    for word in words {
+        texts.push(word.as_str())?;
+    }
+    let link = link_of(rt, alloc, texts.as_slice())?;
+    let mut kit = UserKit {
+        input: ReaderSource::new(rt.reader()),
+        output: WriterSink::new(io::writer(rt)),
+        link,
+        clock: SystemClock::new(MachineTime(rt)),
+        draw: draw_of(rt),
+    };
+    let ending = use_service(alloc, texts.as_slice(), &mut kit);
+    if let Some(link) = &mut kit.link {
+        link.finish();
+    }
+    Ok(ending.code())
+}
+
+// The connection that the words ask for, where it can be made.
+fn link_of(rt: &HostRuntime, alloc: Global, words: &[&str]) -> Result<Option<TcpLink>, AllocError> {
+    match Plan::read(alloc, words) {
+        Ok(Some(Plan::Talk { port, asked, .. })) => match asked {
+            Asked::Cltu { .. } => Ok(None),
+            _ => Ok(connect(rt, alloc, port).ok()),
+        },
+        Ok(_) => Ok(None),
+        Err(_) => Err(AllocError),
+    }
+}
+
+fn connect(rt: &HostRuntime, alloc: Global, port: u16) -> io::Result<TcpLink> {
+    let address = SocketAddr::from((Ipv4Addr::LOCALHOST, port));
+    let stream = TcpStream::connect(rt, address)?;
+    TcpLink::new(alloc, stream, Duration::from_millis(WAIT_MILLIS))
+}
+
+// What the numbers of credentials begin from: 0 where the machine has no random numbers.
+fn draw_of<R: RandomSource>(rt: &R) -> u32 {
+    let mut octets = [0; 4];
+    match rt.fill_bytes(&mut octets) {
+        Ok(()) => u32::from_be_bytes(octets) & 0x7fff_ffff,
+        Err(_) => 0,
+    }
+}
