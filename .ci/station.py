@@ -1,13 +1,13 @@
 #!/usr/bin/env python3
 """Drives a station over the loopback, as users, a front end and an operator do.
 
-usage: station.py STATION PROVIDER
+usage: station.py STATION PROVIDER USER
 
 Users bind, hear heartbeats, start deliveries, read their transfer buffers back and unbind; sixteen of
-them at once, one octet by octet; one resets its connection; one has telecommands radiated. A front
-end feeds frames meanwhile. What a user was handed is compared with what was fed, and so is what
-`list` of the provider shows afterwards. The octets of the users' messages are spelled here by hand,
-from the standards. The last line says how many checks passed.
+them at once, one octet by octet; one resets its connection; one has telecommands radiated; one is
+the program USER. A front end feeds frames meanwhile. What a user was handed is compared with what
+was fed, and so is what `list` of the provider shows afterwards. The octets of the other users'
+messages are spelled here by hand, from the standards. The last line says how many checks passed.
 """
 import os
 import socket
@@ -18,7 +18,7 @@ import tempfile
 import threading
 import time
 
-STATION, PROVIDER = map(os.path.abspath, sys.argv[1:])
+STATION, PROVIDER, USER = map(os.path.abspath, sys.argv[1:])
 # How many seconds a user waits for anything.
 PATIENCE = 60
 TURNS = "100000000"
@@ -404,6 +404,28 @@ def commands(folder):
         check("the antenna's octets", file.read(), b"".join(sent.values()))
 
 
+def receiving(folder):
+    """The user's program receives the frames of a span."""
+    station = Station(folder, 1, 1)
+    front_end = station.front_end()
+    front_end.sendall("".join(map(frame, range(10))).encode())
+    front_end.close()
+    words = ["raf", str(station.ports[0]), "MOC", "none", instance("offl", 1), "20000/2/0", "20000/6/0",
+             "2", "1000000"]
+    for _ in range(100):
+        found = subprocess.run([USER, *words], capture_output=True, stdin=subprocess.DEVNULL,
+                               timeout=PATIENCE)
+        if found.stdout != b"link fault\n":
+            break
+        # (the station doesn't listen yet)
+        time.sleep(0.05)
+    told = [f"frame 20000/{number}/0 0 {0 if place else -1} 41 {frame(number).split()[-1]}"
+            for place, number in enumerate(range(2, 7))]
+    check("the user's program", (found.returncode, found.stdout.decode().split("\n")[:-1]),
+          (0, ["ok 101", "ok 1", *told, "end", "ok 3", "ok 103"]))
+    station.ended("its station's run", 0, ["stored 10", "radiated 0", "door 1 links 1"])
+
+
 def again(folder):
     """A second run over the archive of an earlier one goes on behind its entries."""
     for numbers in [range(3), range(3, 6)]:
@@ -462,7 +484,7 @@ def refusals(folder):
         check(f"words {words}", (found.returncode, found.stdout), (2, b"usage\n"))
 
 
-for part in [one_user, deliveries, crowd, commands, again, refusals]:
+for part in [one_user, deliveries, crowd, commands, receiving, again, refusals]:
     with tempfile.TemporaryDirectory() as folder:
         try:
             part(folder)
