@@ -1,14 +1,12 @@
 // Each line of the input, with what it says.
 
 use crate::asked::Asked;
-use crate::ending::put_ending;
-use crate::entry::put_entry;
 use crate::status::Status;
 use crate::stream::put_stream_line;
-use crate::transcript::put_transcript_line;
 use drill_text::{LineFault, ScriptLine, parse_line};
 use explain_lines::{parse_stream, parse_transcript};
 use explain_words::Text;
+use line_meaning::{Ending, put_ending, put_entry, put_transcript_line};
 use octet_core::{Sink, Source};
 use sle_numbers::ServiceType;
 use std::alloc::{AllocError, Global};
@@ -140,8 +138,9 @@ fn put_listed(alloc: Global, line: &[u8], text: &mut Text) -> Result<(), AllocEr
 
 // Appends what the last line of an output says, or that none has this form.
 fn put_last(alloc: Global, line: &[u8], text: &mut Text) -> Result<(), AllocError> {
-    if !put_ending(alloc, line, text)? {
-        text.title("not read: none of the lines that are asked for has this form");
+    match Ending::of(alloc, line)? {
+        Some(ending) => put_ending(&ending, text),
+        None => text.title("not read: none of the lines that are asked for has this form"),
     }
     Ok(())
 }

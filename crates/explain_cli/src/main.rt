@@ -8,12 +8,9 @@
 #![tactic(auto)]
 
 mod asked;
-mod ending;
-mod entry;
 mod explain;
 mod status;
 mod stream;
-mod transcript;
 
 use crate::asked::plan;
 use crate::explain::explain;

@@ -4,14 +4,26 @@ use explain_words::Text;
 use std::alloc::{AllocError, Global};
 use words::{Fixed, FixedText, Last, Long, Number, Octet, Then, Unread, read_line};
 
-/// Appends what a line says that ends an output, and answers whether it is one.
-pub fn put_ending(alloc: Global, line: &[u8], text: &mut Text) -> Result<bool, AllocError> {
-    match plain(line) {
-        Some(words) => {
-            text.title(words);
-            Ok(true)
+/// What a line says that ends an output.
+#[derive(Clone, Copy, Debug)]
+pub enum Ending {
+    /// A line without a number: what it says in words.
+    Plain(&'static str),
+    /// `bad line N`: the script ran up to this line.
+    BadLine { line: u32 },
+    /// `bad site N C`: this line of the configuration is refused, for the cause 1 to 6.
+    BadSite { line: u32, cause: u8 },
+    /// `archive refused P`: from this octet on the file isn't an archive's.
+    ArchiveRefused { place: u64 },
+}
+
+impl Ending {
+    /// How a line ends an output, if it does.
+    pub fn of(alloc: Global, line: &[u8]) -> Result<Option<Ending>, AllocError> {
+        match plain(line) {
+            Some(words) => Ok(Some(Ending::Plain(words))),
+            None => bad_line(alloc, line),
         }
-        None => put_numbered(alloc, line, text),
     }
 }
 
@@ -42,49 +54,52 @@ fn plain(line: &[u8]) -> Option<&'static str> {
     None
 }
 
-fn put_numbered(alloc: Global, line: &[u8], text: &mut Text) -> Result<bool, AllocError> {
+fn bad_line(alloc: Global, line: &[u8]) -> Result<Option<Ending>, AllocError> {
     match read_line::<BadLine>(alloc, line) {
-        Ok((_, (_, number))) => {
-            text.counted(
-                "line ",
-                i128::from(number),
-                " of the script is bad: it ran up to there",
-            );
-            Ok(true)
-        }
-        Err(Unread::Bad) => put_site(alloc, line, text),
+        Ok((_, (_, line))) => Ok(Some(Ending::BadLine { line })),
+        Err(Unread::Bad) => bad_site(alloc, line),
         Err(Unread::Memory) => Err(AllocError),
     }
 }
 
-fn put_site(alloc: Global, line: &[u8], text: &mut Text) -> Result<bool, AllocError> {
+fn bad_site(alloc: Global, line: &[u8]) -> Result<Option<Ending>, AllocError> {
     match read_line::<BadSite>(alloc, line) {
-        Ok((_, (_, (number, cause)))) => {
+        Ok((_, (_, (line, cause)))) => Ok(Some(Ending::BadSite { line, cause })),
+        Err(Unread::Bad) => archive_refused(alloc, line),
+        Err(Unread::Memory) => Err(AllocError),
+    }
+}
+
+fn archive_refused(alloc: Global, line: &[u8]) -> Result<Option<Ending>, AllocError> {
+    match read_line::<ArchiveRefused>(alloc, line) {
+        Ok((_, (_, place))) => Ok(Some(Ending::ArchiveRefused { place })),
+        Err(Unread::Bad) => Ok(None),
+        Err(Unread::Memory) => Err(AllocError),
+    }
+}
+
+/// Appends what the last line of an output says.
+pub fn put_ending(ending: &Ending, text: &mut Text) {
+    match ending {
+        Ending::Plain(words) => text.title(words),
+        Ending::BadLine { line } => text.counted(
+            "line ",
+            i128::from(*line),
+            " of the script is bad: it ran up to there",
+        ),
+        Ending::BadSite { line, cause } => {
             text.counted(
                 "line ",
-                i128::from(number),
+                i128::from(*line),
                 " of the configuration is refused",
             );
-            text.field("cause", cause_of(cause));
-            Ok(true)
+            text.field("cause", cause_of(*cause));
         }
-        Err(Unread::Bad) => put_archive(alloc, line, text),
-        Err(Unread::Memory) => Err(AllocError),
-    }
-}
-
-fn put_archive(alloc: Global, line: &[u8], text: &mut Text) -> Result<bool, AllocError> {
-    match read_line::<ArchiveRefused>(alloc, line) {
-        Ok((_, (_, place))) => {
-            text.counted(
-                "from octet ",
-                i128::from(place),
-                " on the file isn't an archive's",
-            );
-            Ok(true)
-        }
-        Err(Unread::Bad) => Ok(false),
-        Err(Unread::Memory) => Err(AllocError),
+        Ending::ArchiveRefused { place } => text.counted(
+            "from octet ",
+            i128::from(*place),
+            " on the file isn't an archive's",
+        ),
     }
 }
 
