@@ -18,8 +18,8 @@ USAGE = 2, b"usage\n", HINT
 PROGRAM = "crates/provider_cli/out/provider_cli"
 ENDED = "run=ended status=0 runners=1 races=unchecked proved=no"
 
-# What the stand-in does is said by its environment. It notes its words, folder, input and processes
-# in the folder NOTES.
+# What the stand-in does is said by its environment, also how the programs begin that it builds. It
+# notes its words, folder, input and processes in the folder NOTES.
 RT = r"""#!/bin/sh
 echo "$PWD $*" >>"$NOTES/words"
 case $1 in
@@ -41,9 +41,9 @@ case $1 in
     ci)
         [ -z "$CHANGES" ] || echo >>"$CHANGES"
         sed 's/[ :].*/ proved/; s/^/rt: /; s/cds_time proved/cds_time is kept: so/' crates.txt
-        for main in provider_cli explain_cli capture_cli station_cli; do
+        for main in provider_cli explain_cli capture_cli picture_cli station_cli; do
             mkdir -p crates/$main/out
-            printf '#!/bin/sh\necho "proved program: $*"\n' >crates/$main/out/$main
+            printf '#!/bin/sh\n%s\necho "proved program: $*"\n' "$ECHOES" >crates/$main/out/$main
             chmod +x crates/$main/out/$main
         done
         ;;
@@ -104,7 +104,8 @@ class Copy:
 # ---- words
 
 OWN = [[b"help"], [b"--help"], [b"-h"], [b"--version"], [b"prove"]]
-COMMANDS = [b"drill", b"rehearse", b"init", b"list", b"explain", b"run", b"prove"]
+COMMANDS = [b"drill", b"rehearse", b"init", b"list", b"explain", b"picture", b"run",
+            b"prove"]
 # words outside the launcher's own grammar, which the program refuses too
 OUTSIDE = [
     *([*words, more] for words in OWN[1:] for more in [b"", b"x", b"drill"]),
@@ -319,6 +320,54 @@ def capturing(copy, check):
         check(f"launcher, refused {line}", copy.run(line), USAGE)
 
 
+# What stands in front of each line of a script that is run for a picture.
+MARK = b"start 0/1/0 0/0/0 0\n"
+
+
+def drawing(copy, check):
+    """`picture` runs `drill` with marks, and then a program of its own over what that writes."""
+    says = {"SAYS": ENDED, "OUTPUT": "a\nb"}
+    copy.forget()
+    found = copy.run([b"picture"], b"x\n\ny", says)
+    check("unproved picture", (*found[:2], is_told(found[2])), (0, b"a\nb", True))
+    for how, times in [(b"`bin/provider prove`", 2), (b"`bin/provider prove picture`", 2)]:
+        check(f"unproved picture, {how}", found[2].count(how), times)
+    where = "".join(f"{copy.top}/crates/{name}_cli try --seconds 600 -- {word}\n"
+                    for name, word in [("provider", "drill"), ("picture", "picture")])
+    check("unproved picture, words", copy.noted("words"), where.encode())
+    check("unproved picture, input", copy.noted("input"), b"4\nx\n\nya\nb")
+    path = copy.top / PROGRAM.replace("provider_cli", "picture_cli")
+    # both programs write what they are given
+    says = {"ECHOES": "cat && [ $1 != drill ] || exit ${ENDS:-0} && exit"}
+    found = copy.run([b"prove", b"picture"], given=says)
+    check("prove picture", found[:2], (0, bytes(path) + b"\n"))
+    copy.run([b"prove"], given=says)
+    for script, marked in [
+        (b"", b""), (b"x", MARK + b"x"), (b"x\n\n#\n", MARK + b"x\n" + MARK + b"\n" + MARK + b"#\n"),
+        (b"site\na\nend\nx\nend\n", b"site\na\nend\n" + MARK + b"x\n" + MARK + b"end\n"),
+        (b"site", b"site"), (b"site\nend \n", b"site\nend \n"), (b"site\nend", b"site\nend"),
+        (b"site \nend\n", MARK + b"site \n" + MARK + b"end\n"),
+        (b"s\0ite\n\xff\0\r\n", MARK + b"s\0ite\n" + MARK + b"\xff\0\r\n"),
+    ]:
+        framed = b"%d\n" % len(script) + script + marked
+        check(f"proved picture of {script}", copy.run([b"picture"], script), (0, framed, b""))
+    for code in [3, 4, 9]:
+        end = b"provider: the script ended with exit code %d, and the page shows where\n" % code
+        found = copy.run([b"picture"], b"x", {"ENDS": str(code)})
+        check(f"a picture, status {code}", found, (0, b"1\nx" + MARK + b"x", end))
+    for code in [6, 7, 11, 70]:
+        status, output, errors = copy.run([b"picture"], b"x", {"ENDS": str(code)})
+        check(f"no picture, status {code}", (status, output, errors.count(b"\n")), (code, b"", 1))
+    folder = os.open("/", os.O_RDONLY)
+    check("no picture, a read fault", copy.run([b"picture"], stdin=folder)[:2], (6, b""))
+    os.close(folder)
+    check("pictures, files", copy.left(), [])
+    copy.forget()
+    shutil.rmtree(path.parent)
+    for line in [[b"picture", b"x"], [b"picture", b""], [b"prove", b"picture", b"x"], [b"Picture"]]:
+        check(f"launcher, refused {line}", copy.run(line), USAGE)
+
+
 def running(copy, check):
     """`run` is a program of its own, and wants a proof."""
     words = [b"run", b"10", b"1", b"a b", b"1", b"", b"65535", b"5101"]
@@ -492,7 +541,7 @@ def drive(launcher, run, check, outside):
             first = real.start([b"drill"], stdin=script)
         words(copy, run, check, outside)
         own_words(copy, check)
-        for part in (unproved, inputs, explaining, capturing, running, prove, sameness,
+        for part in (unproved, inputs, explaining, capturing, drawing, running, prove, sameness,
                      failing_proofs, gate, signals):
             part(copy, check)
         output, errors = first.communicate(timeout=600)

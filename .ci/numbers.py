@@ -60,6 +60,7 @@ run_plan Ports.as_slice ->|run_plan Ports.push port|run_plan RunPlan feed|user_w
 run_command run ->|run_command RunStatus.code ->|run_command RunStatus cause
 user_show Ending.code ->|user_task Task.put invoke|user_core Event invoke|user_core Awaited invoke
 capture_cli Place connection|capture_cli Status.code ->|line_meaning Ending cause
+picture_cli Status.code ->
 """
 
 PLAIN = ("tests_", "bench_", "sample_", "kill_", "plain_")

@@ -175,7 +175,7 @@ fn put_upright(mark: &Mark, top: u32, page: &mut Page) {
 const REPEATED: usize = 16;
 
 // How many characters a column has room for, about.
-const CHARACTERS: usize = 10;
+const CHARACTERS: usize = 13;
 
 // The texts of a mark: one, or in a long mark one every 16 columns.
 fn put_texts(mark: &Mark, top: u32, page: &mut Page) {

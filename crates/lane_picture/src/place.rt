@@ -3,13 +3,13 @@
 use crate::lane::{Lane, Mark};
 
 /// How wide a column is.
-pub const COLUMN: u32 = 52;
+pub const COLUMN: u32 = 72;
 
 /// How high a row is.
 pub const ROW: u32 = 22;
 
 /// How high a row of upright texts is.
-pub const UPRIGHT: u32 = 88;
+pub const UPRIGHT: u32 = 104;
 
 /// How wide the names are.
 pub const NAMES: u32 = 150;

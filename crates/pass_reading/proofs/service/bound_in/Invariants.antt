@@ -1,0 +1,5 @@
+use Rattle.std.proofs.Common.{length}
+use Rattle.pass_reading.proofs.service.bound_in.Given as goal
+
+abbrev pub decreases-loop-message : goal.decreases-loop-message
+decreases-loop-message l = length l.messages.messages
