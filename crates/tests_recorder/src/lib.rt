@@ -1,10 +1,5 @@
-// Tests of the recorder over a disk in memory, and of the antenna and the source of entries in
-// memory. They stand above `recorder` and `antenna_core`, and are proved once.
+// Tests of the recorder, the antenna and the source of entries in memory.
 #![tactic(auto)]
 
 #[cfg(test)]
-mod doubles;
-#[cfg(test)]
-mod script;
-#[cfg(test)]
-mod steps;
+mod tests;
