@@ -7,11 +7,12 @@ use Rattle.octet_core.specs.Fault.{last_count}
 use Rattle.disk_model.specs.Images.{Pending}
 use Rattle.disk_model.specs.declared.call.Call.{Call as DiskCall}
 use Rattle.frame_archive.specs.State.{ArchiveState}
+use Rattle.frame_archive.specs.Acknowledges.{Acknowledges}
 use Rattle.frame_archive.specs.Run.{Adds}
 use Rattle.recorder.specs.Feeds.{Answer}
 use Rattle.recorder.specs.Polling.{IsPolled}
 use Rattle.recorder.specs.Offers.{offered_to}
-use Rattle.recorder.specs.Steps.{IsStored}
+use Rattle.recorder.specs.Steps.{IsStored, TellsOffered}
 use Rattle.recorder.specs.declared.recorded.Recorded.{Recorded}
 use Rattle.turn_lock.specs.PassState.{PassState, Lock}
 use Rattle.turn_lock.specs.declared.view.Mark.{Mark}
@@ -49,7 +50,8 @@ tally_of steps = record {
 }
 
 -- A step polled these entries of the source, and stored those of them that weren't dropped, on any
--- disk; the archive acknowledges them behind those before.
+-- disk; the archive acknowledges them behind those before. On a disk that tells, nothing is dropped
+-- for being offered once more behind a store that failed.
 pub record Steps {D F : Type 0} (pending : D → Option Pending) (makes fails : D → DiskCall → D
     → Type 0) (answers : F → Option (List Answer)) (recorded : Recorded) (old new : ArchiveState D)
     (before after : F) : Type 0 where
@@ -58,6 +60,8 @@ pub record Steps {D F : Type 0} (pending : D → Option Pending) (makes fails : 
   pub counted : length recorded.entries + recorded.refused + recorded.full ≡ length polled
   pub stored : IsStored pending makes fails recorded.reopened (offered_to old polled) new recorded
   pub acknowledged : Adds pending old new recorded.entries
+  pub taken : (entries : List Entry) → Acknowledges pending old entries
+      → TellsOffered (offered_to old polled) recorded
 
 -- Steps one after the other, from an archive and a source as they were to what these became.
 pub data Chain {D F : Type 0} (pending : D → Option Pending) (makes fails : D → DiskCall → D

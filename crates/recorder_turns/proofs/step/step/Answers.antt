@@ -21,6 +21,7 @@ returns-in-Ok-clause-err g c =
       counted = answer.2;
       stored = answer.3;
       acknowledged = c.in-Ok.ensures.acknowledged;
+      taken = answer.4;
     })
     (λ call. c.gains_compose.ensures.one c.args.station.now call c.args.pass.now
     c.publish_stored.new.pass c.requires.ready c.requires.left)
