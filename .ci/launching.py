@@ -1,4 +1,4 @@
-"""How the launcher is driven: its words, a run before any proof, and `prove`.
+"""How the launchers are driven: their words, a run before any proof, and `prove`.
 
 Most cases take a copy of the tree without what was built in it, and a small stand-in for `rt`; one
 takes the real `rt try`.
@@ -41,7 +41,7 @@ case $1 in
     ci)
         [ -z "$CHANGES" ] || echo >>"$CHANGES"
         sed 's/[ :].*/ proved/; s/^/rt: /; s/cds_time proved/cds_time is kept: so/' crates.txt
-        for main in provider_cli explain_cli capture_cli picture_cli station_cli; do
+        for main in provider_cli explain_cli capture_cli picture_cli station_cli user_cli; do
             mkdir -p crates/$main/out
             printf '#!/bin/sh\n%s\necho "proved program: $*"\n' "$ECHOES" >crates/$main/out/$main
             chmod +x crates/$main/out/$main
@@ -69,11 +69,11 @@ class Copy:
         (self.tools / "rt").write_text(RT)
         (self.tools / "rt").chmod(0o755)
 
-    def start(self, words, given={}, **more):
+    def start(self, words, given={}, launcher="bin/provider", **more):
         """Starts the launcher; the stand-in's environment has what is given."""
         path = f"{self.tools}:{os.environ['PATH']}"
         env = {**os.environ, "PATH": path, "NOTES": str(self.notes), "TMPDIR": str(self.scratch)}
-        return subprocess.Popen([self.top / "bin/provider", *words], env={**env, **given},
+        return subprocess.Popen([self.top / launcher, *words], env={**env, **given},
                                 stdout=more.pop("stdout", subprocess.PIPE), stderr=subprocess.PIPE,
                                 **more)
 
@@ -388,6 +388,32 @@ def running(copy, check):
         check(f"launcher, refused {line}", copy.run(line), USAGE)
 
 
+def receiving(copy, check):
+    """`bin/user` has a program of its own, and wants a proof, which goes the same way."""
+    def user(*words, **more):
+        return copy.run([*words], launcher="bin/user", **more)
+
+    copy.forget()
+    status, output, errors = user(b"show", b"raf")
+    check("unproved user", (status, output, errors.count(b"`bin/user prove`")), (1, b"", 1))
+    check("unproved user, rt", copy.noted("words"), None)
+    path = copy.top / PROGRAM.replace("provider_cli", "user_cli")
+    status, output, errors = user(b"prove")
+    check("prove user", (status, output), (0, bytes(path) + b"\n"))
+    check("prove user, its lines", errors.count(b"user: proved "), errors.count(b"\n") - 1)
+    copy.forget()
+    check("prove user again", user(b"prove"), (0, bytes(path) + b"\n", b""))
+    check("prove user again, rt", copy.noted("words"), None)
+    for words in [[b"show", b"raf"], [b"prove", b"x"], [b"help", b"x"]]:
+        check(f"proved user {words}", user(*words), (0, b"proved program: " + b" ".join(words) + b"\n", b""))
+    with changed(copy.top / "crates/user_line/src/lib.rt", b"\n"):
+        check("a user of other sources", user(b"show", b"raf")[:2], (1, b""))
+    with changed(copy.top / "crates/station_run/src/lib.rt", b"\n"):
+        check("a user beside other sources", user(b"show", b"raf")[0], 0)
+    shutil.rmtree(path.parent)
+    check("a user's help", user(b"help", b"raf")[0], 0)
+
+
 def is_proved(copy):
     given = {"SAYS": ENDED, "OUTPUT": "unproved"}
     output = copy.run([b"drill"], given=given)[1]
@@ -541,8 +567,8 @@ def drive(launcher, run, check, outside):
             first = real.start([b"drill"], stdin=script)
         words(copy, run, check, outside)
         own_words(copy, check)
-        for part in (unproved, inputs, explaining, capturing, drawing, running, prove, sameness,
-                     failing_proofs, gate, signals):
+        for part in (unproved, inputs, explaining, capturing, drawing, running, receiving, prove,
+                     sameness, failing_proofs, gate, signals):
             part(copy, check)
         output, errors = first.communicate(timeout=600)
         expected = run([b"drill"], (TOP / "examples/first-pass.script").read_bytes())[1]
