@@ -69,9 +69,10 @@ module _ {L C O : Type 0} (calls : L → Option (List Call)) (link_faults : L �
     its_lines = subst (λ l. Gains (written old.output) (written new.output) l)
         (sym (append-nil (lines_of s the_round))) made.printed
 
-    pub went_on : t.user.course.status ≡ None → IsFalse (any_failed answers)
+    pub went_on : t.user.course.status ≡ None → any_failed answers ≡ false
+        → IsFalse (any_failed answers)
         → WentOn calls link_faults readings written output_faults h s t from_poll new
-    went_on goes well = record {
+    went_on goes none well = record {
       round = the_round;
       heard = refl;
       ran = record {
@@ -79,6 +80,8 @@ module _ {L C O : Type 0} (calls : L → Option (List Call)) (link_faults : L �
         told = its_calls;
         reads = made.reads;
         printed = its_lines;
+        goes_through =
+            (ap (λ (x : TalkState). x.user.course.status) (sym made.state) ∙ goes, (none, tt));
         link_well = made.counts.kept well ∙ same;
         output_well = made.kept;
       };
@@ -102,6 +105,7 @@ module _ {L C O : Type 0} (calls : L → Option (List Call)) (link_faults : L �
             (sym (append-nil (calls_of s the_round ++ []))) its_calls;
         reads = made.reads;
         printed = printed;
+        goes_through = tt;
         ends = ends;
         link_rose = λ is. subst (λ n. Rose n (link_faults new.link)) same
             (made.counts.rose (failed is));
@@ -137,7 +141,7 @@ module _ {L C O : Type 0} (calls : L → Option (List Call)) (link_faults : L �
         → Turns calls link_faults readings written output_faults h
         (if b then Some end.LinkFault else None) s t from_poll new
     by_failing true fails is = failed is fails
-    by_failing false well is = went_on is (search well)
+    by_failing false well is = went_on is well (search well)
 
     pub made_by : (status : Option Status) (closed : Bool) → t.user.course.status ≡ status
         → closed ≡ hears_close (hearing_in h)
@@ -171,6 +175,7 @@ module _ {L C O : Type 0} (calls : L → Option (List Call)) (link_faults : L �
       told = subst (λ l. Tells (calls before) (calls l) (poll_calls h)) (sym stopped.link) told;
       reads = stopped.reads;
       printed = stopped.printed;
+      goes_through = tt;
       ends = tt;
       link_rose = λ e. absurd cc;
       output_rose = λ e. stopped.rose refl;
@@ -186,6 +191,7 @@ module _ {L C O : Type 0} (calls : L → Option (List Call)) (link_faults : L �
       told = subst (λ l. Tells (calls before) (calls l) (poll_calls h)) (sym stopped.link) told;
       reads = stopped.reads;
       printed = stopped.printed;
+      goes_through = tt;
       ends = tt;
       link_rose = λ e. absurd cc;
       output_rose = λ e. absurd cc;

@@ -21,7 +21,7 @@ use Rattle.user_talk.specs.Running.{GoesOn, Ends, Polls, Talked, PollsBehindFirs
 use Rattle.user_talk.specs.declared.end.End.{End}
 use Rattle.user_talk.specs.declared.end.End.TheVariants as end
 use Rattle.user_talk.specs.declared.rounds.TheConstants.{PIECE_OCTETS}
-use Rattle.user_talk.proofs.Running.{ran_both, ended_both, all_both, reads_none}
+use Rattle.user_talk.proofs.Running.{ran_both, ended_both, all_both, reads_none, through_but_last}
 use Rattle.user_talk.proofs.Told.{tells_none}
 
 -- one turn, in which a poll was heard
@@ -90,6 +90,7 @@ module _ {L C O : Type 0} (calls : L → Option (List Call)) (link_faults : L �
         told = told;
         reads = reads_none (readings clock);
         printed = gains-none (written output);
+        goes_through = tt;
         ends = (goes, inl refl);
         link_rose = λ e. rose;
         output_rose = λ e. absurd cc;
@@ -147,6 +148,7 @@ module _ {L C O : Type 0} (calls : L → Option (List Call)) (link_faults : L �
       told = tells_none (calls link);
       reads = reads_none (readings clock);
       printed = gains-none (written output);
+      goes_through = tt;
       link_well = refl;
       output_well = refl;
     };
@@ -208,6 +210,7 @@ module _ {L C O : Type 0} (calls : L → Option (List Call)) (link_faults : L �
       reads = subst (λ l. Reads (readings p.clock) (readings q.clock) l) (sym (append-nil _))
           first.ran.reads;
       printed = first.ran.printed;
+      goes_through = through_but_last s first.rounds first.ran.goes_through;
       ends = (
         refl,
         ap (λ (x : TalkState). x.user.course.status) (sym first.ran.state)

@@ -15,7 +15,8 @@ use Rattle.user_core.specs.declared.status.Status.TheVariants as status
 use Rattle.user_talk.specs.Readings.{Reads, moment_shown}
 use Rattle.user_talk.specs.Rounds.{TalkState, Round, after_rounds, calls_in, lines_in, moments}
 use Rattle.user_talk.specs.Rounds.{after_round, calls_of, lines_of}
-use Rattle.user_talk.specs.Running.{World, Ran, Ended, Tail, tail_calls}
+use Rattle.user_talk.specs.Running.{World, Ran, Ended, Tail, whole, unheard, broken, tail_calls}
+use Rattle.user_talk.specs.Running.{GoesThrough, but_last, before_polls}
 use Rattle.user_talk.specs.Running.{tail_moments, tail_lines, EndsBy, PrintsTo, LastIs}
 use Rattle.user_talk.specs.declared.end.End.{End}
 use Rattle.user_talk.specs.declared.end.End.TheVariants as end
@@ -100,6 +101,42 @@ all_both p (r ∷ a) b first second =
     let parts = and_parts (p r) (list_all p a) first in
     ap₂ (λ x y. x && y) parts.0 (all_both p a b parts.1 second)
 
+-- ---- behind each turn the user goes on
+
+through_both : (s : TalkState) (a b : List Round) → GoesThrough s a
+    → GoesThrough (after_rounds s a) b → GoesThrough s (a ++ b)
+through_both s [] b first second = second
+through_both s (r ∷ a) b first second =
+    (first.0, (first.1.0, through_both (after_round s r) a b first.1.1 second))
+
+pub through_but_last : (s : TalkState) (a : List Round) → GoesThrough s a
+    → GoesThrough s (but_last a)
+through_but_last s [] goes = tt
+through_but_last s (r ∷ []) goes = tt
+through_but_last s (r ∷ q ∷ a) goes =
+    (goes.0, (goes.1.0, through_but_last (after_round s r) (q ∷ a) goes.1.1))
+
+but_last_both : (a : List Round) (q : Round) (b : List Round)
+    → but_last (a ++ (q ∷ b)) ≡ a ++ but_last (q ∷ b)
+but_last_both [] q b = refl
+but_last_both (r ∷ []) q b = refl
+but_last_both (r ∷ p ∷ a) q b = ap (λ l. r ∷ l) (but_last_both (p ∷ a) q b)
+
+through_whole : (s : TalkState) (a b : List Round) → GoesThrough s a
+    → GoesThrough (after_rounds s a) (but_last b) → GoesThrough s (but_last (a ++ b))
+through_whole s a [] first second =
+    subst (λ l. GoesThrough s (but_last l)) (sym (append-nil a)) (through_but_last s a first)
+through_whole s a (q ∷ b) first second =
+    subst (λ l. GoesThrough s l) (sym (but_last_both a q b))
+    (through_both s a (but_last (q ∷ b)) first second)
+
+through_behind : (s : TalkState) (a b : List Round) (tail : Tail) → GoesThrough s a
+    → GoesThrough (after_rounds s a) (before_polls b tail)
+    → GoesThrough s (before_polls (a ++ b) tail)
+through_behind s a b whole first second = through_whole s a b first second
+through_behind s a b unheard first second = through_both s a b first second
+through_behind s a b (broken h now) first second = through_both s a b first second
+
 module _ {L C O : Type 0} (calls : L → Option (List Call)) (link_faults : L → ℕ)
     (readings : C → Option (List Cds)) (written : O → Option (List ℕ)) (output_faults : O → ℕ) where
   abbrev RanIn : List Round → TalkState → TalkState → World L C O → World L C O → Type 0
@@ -124,6 +161,8 @@ module _ {L C O : Type 0} (calls : L → Option (List Call)) (link_faults : L �
         (ap (λ x. lines_in s a ++ lines_in x b) first.state ∙ sym (lines_both s a b))
         (gains-append (written p.output) (written q.output) (written r.output) (lines_in s a)
         (lines_in t b) first.printed second.printed);
+    goes_through = through_both s a b first.goes_through
+        (subst (λ x. GoesThrough x b) first.state second.goes_through);
     link_well = second.link_well ∙ first.link_well;
     output_well = second.output_well ∙ first.output_well;
   }
@@ -154,6 +193,8 @@ module _ {L C O : Type 0} (calls : L → Option (List Call)) (link_faults : L �
             (prints_behind e (written p.output) (written q.output) (written r.output)
             (lines_in s a) (lines_in t b) (tail_lines (after_rounds t b) tail) first.printed
             second.printed));
+        goes_through = through_behind s a b tail first.goes_through
+            (subst (λ x. GoesThrough x (before_polls b tail)) first.state second.goes_through);
         ends = subst (λ x. EndsBy e (a ++ b) tail x) state
             (ends_behind e a b tail (after_rounds t b) second.ends);
         link_rose = λ is. subst (λ n. Rose n (link_faults r.link)) first.link_well

@@ -16,7 +16,7 @@ use Rattle.user_talk.specs.Ending.{hears_close}
 use Rattle.user_talk.specs.Outbox.{any_failed}
 use Rattle.user_talk.specs.Readings.{Reads}
 use Rattle.user_talk.specs.Rounds.{TalkState, Round, begun, answer_at, hearing_in, poll_calls}
-use Rattle.user_talk.specs.Rounds.{after_rounds, calls_in, lines_in, moments}
+use Rattle.user_talk.specs.Rounds.{after_round, after_rounds, calls_in, lines_in, moments}
 use Rattle.user_talk.specs.declared.end.End.{End}
 use Rattle.user_talk.specs.declared.end.End.TheVariants as end
 use Rattle.user_talk.specs.declared.rounds.TheConstants.{PIECE_OCTETS}
@@ -74,6 +74,26 @@ PollsBehindFirst [] tail = tail_polled tail ≡ false
 PollsBehindFirst (r ∷ rounds) tail =
     (r.heard ≡ None) × ((list_all is_polled rounds ≡ true) × (tail_polled tail ≡ true))
 
+-- ---- before each poll
+
+-- behind each of these turns the user goes on, and none of its offers failed
+abbrev pub GoesThrough : TalkState → List Round → Type 0
+GoesThrough s [] = Unit {0}
+GoesThrough s (r ∷ rounds) =
+    ((after_round s r).user.course.status ≡ None)
+    × ((any_failed r.answers ≡ false) × GoesThrough (after_round s r) rounds)
+
+abbrev pub but_last : List Round → List Round
+but_last [] = []
+but_last (r ∷ []) = []
+but_last (r ∷ q ∷ rounds) = r ∷ but_last (q ∷ rounds)
+
+-- the turns behind which a poll was made: all but the last, and that too where more stands behind it
+abbrev pub before_polls : List Round → Tail → List Round
+before_polls rounds whole = but_last rounds
+before_polls rounds unheard = rounds
+before_polls rounds (broken h now) = rounds
+
 -- ---- how it ends
 
 -- the last of the turns is so
@@ -117,16 +137,18 @@ IsTurn h rounds tail = ⊥
 
 module _ {L C O : Type 0} (calls : L → Option (List Call)) (link_faults : L → ℕ)
     (readings : C → Option (List Cds)) (written : O → Option (List ℕ)) (output_faults : O → ℕ) where
-  -- These turns were made, and nothing failed in them.
+  -- These turns were made, nothing failed in them, and the user goes on.
   pub record Ran (rounds : List Round) (s t : TalkState) (old new : World L C O) : Type 0 where
     pub state : t ≡ after_rounds s rounds
     pub told : Tells (calls old.link) (calls new.link) (calls_in s rounds)
     pub reads : Reads (readings old.clock) (readings new.clock) (moments rounds)
     pub printed : Gains (written old.output) (written new.output) (lines_in s rounds)
+    pub goes_through : GoesThrough s rounds
     pub link_well : link_faults new.link ≡ link_faults old.link
     pub output_well : output_faults new.output ≡ output_faults old.output
 
-  -- These turns were made, with this behind them, and so the talk ended.
+  -- These turns were made, with this behind them, and so the talk ended. Before each poll the user
+  -- went on.
   pub record Ended (rounds : List Round) (tail : Tail) (e : End) (s : TalkState)
       (old new : World L C O) : Type 0 where
     pub told : Tells (calls old.link) (calls new.link) (calls_in s rounds ++ tail_calls tail)
@@ -134,6 +156,7 @@ module _ {L C O : Type 0} (calls : L → Option (List Call)) (link_faults : L �
         (moments rounds ++ tail_moments tail)
     pub printed : PrintsTo e (written old.output) (written new.output) (lines_in s rounds)
         (tail_lines (after_rounds s rounds) tail)
+    pub goes_through : GoesThrough s (before_polls rounds tail)
     pub ends : EndsBy e rounds tail (after_rounds s rounds)
     pub link_rose : e ≡ end.LinkFault → Rose (link_faults old.link) (link_faults new.link)
     pub output_rose : e ≡ end.WriteFault

@@ -115,7 +115,7 @@ fn round<L: Link, C: Clock, O: Sink>(
 }
 
 // So many rounds, or until the talk ends.
-#[tactic(auto, using(crate::proofs::Polled::goes_none, crate::proofs::Polled::goes_more, crate::proofs::Polled::spent))]
+#[tactic(auto, using(crate::proofs::Polled::goes_none, crate::proofs::Polled::goes_more))]
 pub(crate) fn rounds<L: Link, C: Clock, O: Sink>(
     talk: &mut Talk,
     turns: u64,

@@ -1,6 +1,6 @@
-use Rattle.std.proofs.Common.{arith}
-use Rattle.user_talk.specs.Running.{world}
-use Rattle.user_talk.proofs.Polled.{ends_more}
+use Rattle.std.proofs.Common.{◌≡◌, arith, subst}
+use Rattle.user_talk.specs.Running.{world, GoesOn}
+use Rattle.user_talk.proofs.Polled.{ends_more, spent}
 use Rattle.user_talk.proofs.rounds.rounds.Goals as goal
 
 pub returns-in-Some : goal.returns-in-Some
@@ -11,3 +11,13 @@ returns-in-Some g c =
     (world c.loop.link c.loop.clock c.loop.output)
     (world c.round.new.link c.round.new.clock c.round.new.output) c.loop.invariant.goes
     (omega (arith, c.loop-test.true)) c.in-Some.ensures.polls
+
+pub returns : goal.returns
+returns g c =
+    let old = world c.args.link.now c.args.clock.now c.args.output.now in
+    let new = world c.loop.link c.loop.clock c.loop.output in
+    let all : c.loop.counter ≡ c.args.turns = omega arith in
+    spent g.L.Link.calls g.L.Link.faults g.C.Clock.readings g.O.Sink.written g.O.Sink.faults
+    c.args.turns c.args.talk.now c.loop.talk old new
+    (subst (λ n. GoesOn g.L.Link.calls g.L.Link.faults g.C.Clock.readings g.O.Sink.written
+    g.O.Sink.faults n c.args.talk.now c.loop.talk old new) all c.loop.invariant.goes)
