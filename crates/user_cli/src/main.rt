@@ -1,4 +1,4 @@
-// A user of a provider: it shows a recorded stream, and receives frames over TCP.
+// A user of a provider: it shows a recorded stream, receives frames and sends telecommands over TCP.
 //
 // The words are those of `user_words`; other words are `usage`. Where PASS is `file`, the word is the
 // first line of the file that the environment's USER_PASS_FILE names, so that no password stands
@@ -17,7 +17,7 @@ use std::time::Duration;
 use std::{env, fs, io};
 use tcp_link::TcpLink;
 use user_service::{UserKit, use_service};
-use user_words::{Asked, Plan};
+use user_words::Plan;
 
 const MEMORY: u8 = 70;
 
@@ -96,10 +96,7 @@ fn run(rt: &HostRuntime, alloc: Global, words: &[String]) -> Result<u8, AllocErr
 // The connection that the words ask for, where it can be made.
 fn link_of(rt: &HostRuntime, alloc: Global, words: &[&str]) -> Result<Option<TcpLink>, AllocError> {
     match Plan::read(alloc, words) {
-        Ok(Some(Plan::Talk { port, asked, .. })) => match asked {
-            Asked::Cltu { .. } => Ok(None),
-            _ => Ok(connect(rt, alloc, port).ok()),
-        },
+        Ok(Some(Plan::Talk { port, .. })) => Ok(connect(rt, alloc, port).ok()),
         Ok(_) => Ok(None),
         Err(_) => Err(AllocError),
     }

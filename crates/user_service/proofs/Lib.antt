@@ -1,1 +1,5 @@
+pub mod Answered
+pub mod Came
 pub mod Fitting
+pub mod Streaming
+pub mod Taken

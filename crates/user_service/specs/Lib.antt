@@ -1,1 +1,5 @@
+pub mod Input
 pub mod Sending
+pub mod Service
+pub mod Streams
+pub mod Telling

@@ -1,15 +1,23 @@
 // A talk by the words of a command line.
-ghost use Rattle.std.specs.Prelude.{◌≡◌, IsTrue, true};
+ghost use Rattle.std.specs.Prelude.{◌≡◌, IsTrue, false, true};
 ghost use Rattle.std.specs.List.{list_all};
+ghost use Rattle.user_talk.specs.Closed.{TalkedTo};
+ghost use Rattle.user_talk.specs.Running.{world};
 ghost use Rattle.user_task.specs.Fitting.{fits_line, fits_task};
+ghost use Rattle.user_task.specs.Work.{is_show};
 ghost use Rattle.user_words.specs.Plan.{FitsTalk};
 ghost use Rattle.user_service.specs.Sending.{task_of, work_of};
+ghost use Rattle.user_service.specs.Service.{Sends};
+ghost use Rattle.user_service.specs.Streams.{Streams};
 
+use crate::kit::UserKit;
+use crate::unsent::cltus_for;
 use cds_time::Clock;
 use link_model::Link;
-use octet_core::Sink;
+use octet_core::{Sink, Source};
 use std::alloc::Global;
-use user_show::{Ending, end_with};
+use user_core::laws;
+use user_show::Ending;
 use user_talk::talk;
 use user_task::{Cltus, Task, Work};
 use user_words::{Asked, Identity};
@@ -21,8 +29,6 @@ pub(crate) struct Order {
     pub asked: Asked,
     // How many polls it makes at most.
     pub turns: u64,
-    // What the numbers of its credentials begin from.
-    pub draw: u32,
 }
 
 fn work_of(asked: Asked, cltus: Cltus) -> Work
@@ -52,13 +58,14 @@ fn work_of(asked: Asked, cltus: Cltus) -> Work
 }
 
 impl Order {
-    // The task with these CLTUs.
-    #[tactic(auto, using(crate::proofs::Fitting::task_fits))]
-    fn task(self, cltus: Cltus) -> Task
+    // The task with these CLTUs. The numbers of its credentials begin from `draw`.
+    #[tactic(auto, using(crate::proofs::Fitting::task_fits, crate::proofs::Fitting::task_invokes))]
+    fn task(self, draw: u32, cltus: Cltus) -> Task
         requires order { FitsTalk self.identity self.asked self.turns }
         requires cltus { list_all fits_line cltus ≡ true }
-        ensures task { result ≡ task_of self.draw self.identity self.asked cltus }
+        ensures task { result ≡ task_of draw self.identity self.asked cltus }
         ensures fits { IsTrue (fits_task result) }
+        ensures invokes { is_show result.work ≡ false }
     {
         let Identity {
             name,
@@ -69,26 +76,61 @@ impl Order {
             name,
             signing,
             instance,
-            draw: self.draw,
+            draw,
             work: work_of(self.asked, cltus),
         }
     }
 }
 
-// Does an order. No CLTUs are sent as yet: what asks for that is told as words that ask for nothing.
-pub(crate) fn send<O: Sink, L: Link, C: Clock>(
+// Talks over a task that invokes.
+fn hold<L: Link, C: Clock, O: Sink>(
     alloc: Global,
-    order: Order,
+    task: Task,
+    turns: u64,
     link: &mut L,
     clock: &mut C,
     output: &mut O,
 ) -> Ending
-    requires { FitsTalk order.identity order.asked order.turns }
+    requires fits { IsTrue (fits_task task) }
+    requires invokes { is_show task.work ≡ false }
+    ensures talked { TalkedTo L.calls L.faults C.readings O.written O.faults task turns result
+        (world link.old clock.old output.old) (world link.new clock.new output.new) }
+    ensures streams { Streams L.calls O.written task turns result
+        (world link.old clock.old output.old) (world link.new clock.new output.new) }
 {
-    if let Asked::Cltu { .. } = order.asked {
-        return end_with(b"usage\n", Ending::Usage, output);
-    }
-    let turns = order.turns;
-    let task = order.task(Cltus::from_lines(Vec::new(alloc)));
+    laws::lines_in_order();
     talk(alloc, task, turns, link, clock, output)
+}
+
+// Does an order, over an input that has the CLTUs where they are asked for.
+pub(crate) fn send<I: Source, O: Sink, L: Link, C: Clock>(
+    alloc: Global,
+    order: Order,
+    kit: &mut UserKit<I, O, L, C>,
+    mut link: L,
+) -> Ending
+    requires { FitsTalk order.identity order.asked order.turns }
+    ensures { Sends I.left I.faults O.written O.faults L.calls L.faults C.readings
+        order.identity order.asked order.turns result link kit.old kit.new }
+{
+    match cltus_for(alloc, order.asked, &mut kit.input) {
+        Ok(cltus) => {
+            let turns = order.turns;
+            let task = order.task(kit.draw, cltus);
+            let ending = hold(
+                alloc,
+                task,
+                turns,
+                &mut link,
+                &mut kit.clock,
+                &mut kit.output,
+            );
+            kit.link = Some(link);
+            ending
+        }
+        Err(why) => {
+            kit.link = Some(link);
+            why.tell(alloc, &mut kit.output)
+        }
+    }
 }

@@ -1,5 +1,7 @@
 // What the words of a command line ask for is done.
-ghost use Rattle.user_words.specs.Plan.{FitsPlan, FitsTalk};
+ghost use Rattle.user_line.specs.Line.{texts_of};
+ghost use Rattle.user_words.specs.Plan.{asked_of_line, FitsPlan, FitsTalk};
+ghost use Rattle.user_service.specs.Service.{Converses, Serves, Served};
 
 use crate::kit::UserKit;
 use crate::sending::{Order, send};
@@ -9,7 +11,7 @@ use octet_core::{Sink, Source};
 use std::alloc::Global;
 use std::mem;
 use user_show::{Ending, end_with, show};
-use user_words::{Asked, Plan};
+use user_words::Plan;
 
 /// Does what the words of a command line ask for, the program's name left away, and answers how the
 /// program ends.
@@ -17,7 +19,10 @@ pub fn use_service<I: Source, O: Sink, L: Link, C: Clock>(
     alloc: Global,
     words: &[&str],
     kit: &mut UserKit<I, O, L, C>,
-) -> Ending {
+) -> Ending
+    ensures { Served I.left I.faults O.written O.faults L.calls L.faults C.readings
+        (asked_of_line (texts_of words.now)) result kit.old kit.new }
+{
     match Plan::read(alloc, words) {
         Ok(Some(plan)) => serve(alloc, plan, kit),
         Ok(None) => end_with(b"usage\n", Ending::Usage, &mut kit.output),
@@ -32,6 +37,8 @@ fn serve<I: Source, O: Sink, L: Link, C: Clock>(
     kit: &mut UserKit<I, O, L, C>,
 ) -> Ending
     requires { FitsPlan plan }
+    ensures { Serves I.left I.faults O.written O.faults L.calls L.faults C.readings
+        (Some plan) result kit.old kit.new }
 {
     match plan {
         Plan::Show { service } => show(alloc, service, &mut kit.input, &mut kit.output),
@@ -41,12 +48,10 @@ fn serve<I: Source, O: Sink, L: Link, C: Clock>(
             turns,
             ..
         } => {
-            let draw = kit.draw;
             let order = Order {
                 identity,
                 asked,
                 turns,
-                draw,
             };
             converse(alloc, order, kit)
         }
@@ -60,21 +65,11 @@ fn converse<I: Source, O: Sink, L: Link, C: Clock>(
     kit: &mut UserKit<I, O, L, C>,
 ) -> Ending
     requires { FitsTalk order.identity order.asked order.turns }
+    ensures { Converses I.left I.faults O.written O.faults L.calls L.faults C.readings kit.old.link
+        order.identity order.asked order.turns result kit.old kit.new }
 {
     match mem::replace(&mut kit.link, None) {
-        Some(mut link) => {
-            let ending = send(alloc, order, &mut link, &mut kit.clock, &mut kit.output);
-            kit.link = Some(link);
-            ending
-        }
-        None => lacking(order.asked, &mut kit.output),
-    }
-}
-
-// There is no link. No CLTUs are sent as yet, with a link or without.
-fn lacking<O: Sink>(asked: Asked, output: &mut O) -> Ending {
-    match asked {
-        Asked::Cltu { .. } => end_with(b"usage\n", Ending::Usage, output),
-        _ => end_with(b"link fault\n", Ending::LinkFault, output),
+        Some(link) => send(alloc, order, kit, link),
+        None => end_with(b"link fault\n", Ending::LinkFault, &mut kit.output),
     }
 }
