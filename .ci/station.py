@@ -4,7 +4,7 @@
 usage: station.py STATION PROVIDER USER
 
 Users bind, hear heartbeats, start deliveries, read their transfer buffers back and unbind; sixteen of
-them at once, one octet by octet; one resets its connection; one has telecommands radiated; one is
+them at once, one octet by octet; one resets its connection; one has telecommands radiated; two are
 the program USER. A front end feeds frames meanwhile. What a user was handed is compared with what
 was fed, and so is what `list` of the provider shows afterwards. The octets of the other users'
 messages are spelled here by hand, from the standards. The last line says how many checks passed.
@@ -18,6 +18,7 @@ import tempfile
 import threading
 import time
 
+TOP = os.path.dirname(os.path.dirname(os.path.abspath(__file__)))
 STATION, PROVIDER, USER = map(os.path.abspath, sys.argv[1:])
 # How many seconds a user waits for anything.
 PATIENCE = 60
@@ -426,6 +427,32 @@ def receiving(folder):
     station.ended("its station's run", 0, ["stored 10", "radiated 0", "door 1 links 1"])
 
 
+def commanding(folder):
+    """The user's program has the telecommands of a file radiated."""
+    station = Station(folder, 1, 1, configuration=site(1) + f"cltu {COMMANDS} MOC 100000 100 60\n")
+    with open(os.path.join(TOP, "examples", "telecommands.cltus"), "rb") as file:
+        text = file.read()
+    lines = [line.split() for line in text.decode().split("\n") if line.startswith("cltu ")]
+    words = ["cltu", str(station.ports[0]), "MOC", "none", COMMANDS, lines[0][1], "100000"]
+    for _ in range(100):
+        found = subprocess.run([USER, *words], capture_output=True, input=text, timeout=PATIENCE)
+        if found.stdout != b"link fault\n":
+            break
+        # (the station doesn't listen yet)
+        time.sleep(0.05)
+    told = found.stdout.decode().split("\n")[:-1]
+    check("the user's telecommands", (found.returncode, told[:2], told[-2:]),
+          (0, ["ok 101", "ok 1"], ["ok 3", "ok 103"]))
+    check("what is expected behind each", [line.split()[:3] for line in told if line.startswith("ok 11 ")],
+          [["ok", "11", str(int(line[1]) + 1)] for line in lines])
+    check("the notices that were wanted", told.count("notice 0"), sum(line[5] == "0" for line in lines))
+    station.front_end().close()
+    station.ended("its station's run of telecommands", 0,
+                  ["stored 0", f"radiated {len(lines)}", "door 1 links 1"])
+    with open(os.path.join(folder, "cltus"), "rb") as file:
+        check("the antenna's octets of a file", file.read(), b"".join(bytes.fromhex(line[6]) for line in lines))
+
+
 def again(folder):
     """A second run over the archive of an earlier one goes on behind its entries."""
     for numbers in [range(3), range(3, 6)]:
@@ -484,7 +511,7 @@ def refusals(folder):
         check(f"words {words}", (found.returncode, found.stdout), (2, b"usage\n"))
 
 
-for part in [one_user, deliveries, crowd, commands, receiving, again, refusals]:
+for part in [one_user, deliveries, crowd, commands, receiving, commanding, again, refusals]:
     with tempfile.TemporaryDirectory() as folder:
         try:
             part(folder)

@@ -5,9 +5,11 @@ usage: user.py PROGRAM LAUNCHER
 
 The provider listens on the loopback, answers what it hears by a list, and stalls, cuts, resets and
 answers in pieces. What the program hands over is compared with the octets of the standards' messages,
-and what it prints with the lines of docs/PROFILE.md. The last line says how many checks passed.
+what it prints with the lines of docs/PROFILE.md, and its exit code with the table there: each code
+comes once at least. The last line says how many checks passed.
 """
 import os
+import resource
 import socket
 import struct
 import subprocess
@@ -52,13 +54,18 @@ INSTANCE = "sagr=1.spack=P.rsl-fg=1.raf=onlc1"
 
 class Provider(threading.Thread):
     """Answers one connection: for each message that it hears, the octets of a list; an answer may be
-    several pieces, `close` or `reset`."""
+    several pieces, `close` or `reset`. A narrow one has little room, and looks away for a second
+    before it reads."""
 
-    def __init__(self, answers, slow=0.0):
+    def __init__(self, answers, slow=0.0, narrow=False):
         super().__init__(daemon=True)
-        self.listener = socket.create_server(("127.0.0.1", 0))
+        self.listener = socket.socket()
+        if narrow:
+            self.listener.setsockopt(socket.SOL_SOCKET, socket.SO_RCVBUF, 2048)
+        self.listener.bind(("127.0.0.1", 0))
+        self.listener.listen()
         self.port = self.listener.getsockname()[1]
-        self.answers, self.slow, self.heard = answers, slow, b""
+        self.answers, self.slow, self.narrow, self.heard = answers, slow, narrow, b""
         self.start()
 
     def take(self, peer, count):
@@ -84,6 +91,8 @@ class Provider(threading.Thread):
             try:
                 self.heard += self.message(peer)
                 for answer in self.answers:
+                    if self.narrow:
+                        time.sleep(1)
                     self.heard += self.message(peer)
                     for piece in answer if isinstance(answer, list) else [answer]:
                         time.sleep(self.slow)
@@ -113,9 +122,10 @@ def raf(port, turns="100", password="none", quality="2"):
     return ["raf", str(port), "MOC", password, INSTANCE, "none", "none", quality, turns]
 
 
-def talk(name, answers, status, lines, heard=None, turns="100", slow=0.0, words=raf, text=b""):
-    provider = Provider(answers, slow)
-    found = run(words(provider.port, turns), text)
+def talk(name, answers, status, lines, heard=None, turns="100", slow=0.0, words=raf, text=b"",
+         narrow=False, **more):
+    provider = Provider(answers, slow, narrow)
+    found = run(words(provider.port, turns), text, **more)
     provider.join(PATIENCE)
     check(name, found, (status, lines))
     if heard is not None:
@@ -139,13 +149,50 @@ with open("/dev/full", "wb") as full:
     done = subprocess.run([PROGRAM, "show", "raf"], input=STREAM, stdout=full, timeout=PATIENCE)
     check("an output that fails", done.returncode, 7)
 
+def least(size):
+    """Leaves a process so many octets of memory."""
+    return lambda: resource.setrlimit(resource.RLIMIT_AS, (size, size))
+
+
+check("an input without memory", run(["show", "cltu"], (b"\x03" + bytes(7)) * (MOST_OCTETS // 8),
+                                     preexec_fn=least(16_000_000)), (70, b""))
+
 # ---- words
 
-for words in [[], ["help"], ["--help"], ["show"], ["show", "rocf"], ["show", "raf", "raf"],
-              ["show", "-h"], raf(0), raf(65536), raf(5000, "0"), raf(5000, "1", "sha1:00"),
-              raf(5000, "1", "file"), raf(5000, quality="3"), raf(5000)[:-1], raf(5000) + ["1"],
-              ["rcf", "5000", "MOC", "none", INSTANCE, "none", "none", "2", "100"],
-              ["cltu", "5000", "MOC", "none", INSTANCE, "-1", "100"], ["raf", b"\xff"]]:
+
+def rcf(port, turns="100", channel="17/0/3"):
+    return ["rcf", str(port), "MOC", "none", "sagr=1.spack=P.rsl-fg=1.rcf=onlc2", "none", "none", channel, turns]
+
+
+COMMANDS = "sagr=1.spack=P.fsl-fg=1.cltu=cltu1"
+
+
+def cltu(port, turns="200", first="5", password="none"):
+    return ["cltu", str(port), "MOC", password, COMMANDS, first, turns]
+
+
+def other(words, place, word):
+    return words[:place] + [word] + words[place + 1:]
+
+
+OUTSIDE = [[], [""], ["help"], ["--help"], ["-h"], ["--"], ["SHOW", "raf"], ["show"], ["show", ""], ["show", "rocf"],
+           ["show", "RAF"], ["show", "raf", "raf"], ["show", "-h"], ["show", "--", "raf"], ["raf", b"\xff"],
+           ["raf"], ["rcf"], ["cltu"], raf(5000)[:-1], raf(5000) + ["1"], rcf(5000)[:-1], rcf(5000) + ["1"],
+           cltu(5000)[:-1], cltu(5000) + ["1"]]
+# what may not stand in each place
+BAD = {1: ["", "0", "65536", "05000", "+5000", "-1", "5000 ", "0x1388", "port"],
+       2: ["", "MO", "M" * 17, "M C", "-MOC", "M\u00fcC"],
+       3: ["", "None", "file", "sha1:", "sha1:0102030405", "sha1:" + "00" * 17, "sha1:01020304050", "md5:010203040506",
+           "sha256:0102030405gg", "010203040506"],
+       4: ["", "sagr", "sagr=", "sagr=1.", ".sagr=1", "sagr=1=2", "color=1", "sagr=1," * 2],
+       -1: ["", "0", "1099511627777", "0100", "1.5", "-100", "many"]}
+for words, places in [(raf(5000), {5: ["", "20000", "20000/0", "20000/86400000/0", "65536/0/0", "now"],
+                                   6: ["", "None", "20000/0/1000"], 7: ["", "3", "02", "good"]}),
+                      (rcf(5000), {5: ["0"], 6: ["0"], 7: ["", "17", "17/0", "1024/0/3", "17/4/3", "17/0/64", "17/0/**", "*"]}),
+                      (cltu(5000), {5: ["", "4294967296", "05", "-1", "none"]})]:
+    for place, bad in [*BAD.items(), *places.items()]:
+        OUTSIDE += [other(words, place, word) for word in bad]
+for words in OUTSIDE:
     check(f"the words {words}", run(words), (2, b"usage\n"))
 
 # ---- a provider
@@ -169,10 +216,124 @@ with open("/dev/full", "wb") as full:
     done = subprocess.run([PROGRAM, *raf(provider.port)], stdout=full, timeout=PATIENCE)
     check("an output that fails at a provider", done.returncode, 7)
 
-# ---- telecommands, which aren't sent yet
+# ---- telecommands, whose octets are spelled here by hand, from CCSDS 912.1-B and X.690
 
-check("telecommands", run(["cltu", "5000", "MOC", "none", "sagr=1.spack=P.fsl-fg=1.cltu=cltu1", "5", "200"]),
-      (2, b"usage\n"))
+
+def tlv(tag, *contents):
+    content = b"".join(contents)
+    size = len(content)
+    length = bytes([size]) if size < 128 else bytes([0x80 + (size.bit_length() + 7) // 8]) + size.to_bytes(
+        (size.bit_length() + 7) // 8, "big")
+    return h(tag) + length + content
+
+
+def integer(value):
+    return tlv("02", value.to_bytes(value.bit_length() // 8 + 1, "big"))
+
+
+def pdu(tag, *contents):
+    octets = tlv(tag, UNUSED, *contents)
+    return struct.pack(">B3xI", 1, len(octets)) + octets
+
+
+UNUSED = h("8000")
+TIME = h("80084e20000003e80000")
+
+
+def part(number, value):
+    return tlv("31", tlv("30", tlv("06", h("2b7004030102") + bytes([number])), tlv("1a", value)))
+
+
+CLTU_BIND = pdu("bf64", tlv("1a", b"MOC"), tlv("1a", b"PORT1"), integer(16), integer(5),
+                tlv("30", part(52, b"1"), part(53, b"P"), part(14, b"1"), part(7, b"cltu1")))
+CLTU_START = pdu("a0", integer(0), integer(5))
+CLTU_STARTED = pdu("a1", integer(0), tlv("a0", TIME, UNUSED))
+
+
+def transfer(invoke, number, octets, earliest=UNUSED, latest=UNUSED, delay=0, wanted=0):
+    return pdu("aa", integer(invoke), integer(number), earliest, latest, integer(delay), integer(wanted),
+               tlv("04", octets))
+
+
+def transferred(invoke, following, free, answer=UNUSED):
+    return pdu("ab", integer(invoke), integer(following), integer(free), answer)
+
+
+def notice(kind, number):
+    return pdu("ac", h(kind), tlv("a1", integer(number), UNUSED, integer(0)), tlv("a1", integer(number), TIME),
+               integer(0), integer(3))
+
+
+def stopping(invoke):
+    return pdu("a2", integer(invoke)), pdu("a3", integer(invoke), UNUSED)
+
+
+RCF_BIND = pdu("bf64", tlv("1a", b"MOC"), tlv("1a", b"PORT1"), integer(2), integer(5),
+               tlv("30", part(52, b"1"), part(53, b"P"), part(38, b"1"), part(46, b"onlc2")))
+RCF_START = pdu("a0", integer(0), UNUSED, UNUSED, tlv("30", integer(17), integer(0), tlv("81", b"\3")))
+
+TEXT = b"""# two telecommands, the second in a window
+cltu 5 none none 0 0 c5c5c5c5
+
+cltu 6 20000/1000/0 20001/0/0 250 1 00ff
+"""
+SENT = [transfer(1, 5, h("c5c5c5c5")),
+        transfer(2, 6, h("00ff"), tlv("a1", TIME), tlv("a1", h("80084e21000000000000")), 250, 1)]
+BOUND = [BR, CLTU_STARTED]
+ENDED = CONTEXT + CLTU_BIND + CLTU_START
+TOLD = b"ok 101\nok 1\n"
+stop, stopped = stopping(3)
+talk("telecommands", [*BOUND, [transferred(1, 6, 1000), notice("8000", 5), notice("8500", 5)],
+                      [transferred(2, 7, 998), notice("8500", 6)], stopped, UNBOUND],
+     0, TOLD + b"ok 11 6 1000\nnotice 0\nnotice 5\nok 11 7 998\nnotice 5\nok 3\nok 103\n",
+     ENDED + b"".join(SENT) + stop + UNBIND, words=cltu, text=TEXT)
+stop, stopped = stopping(1)
+for name, text in [("no telecommand", b""), ("comments alone", b"# none today\n\n#\n")]:
+    talk(name, [*BOUND, stopped, UNBOUND], 0, TOLD + b"ok 3\nok 103\n", ENDED + stop + UNBIND,
+         words=cltu, text=text)
+stop, stopped = stopping(2)
+one = b"cltu 5 none none 0 0 c5c5c5c5"
+for kind, number in [("8100", 1), ("8200", 2), ("8300", 3)]:
+    talk(f"a notice of kind {number}", [*BOUND, [transferred(1, 6, 1000), notice(kind, 5)], stopped, UNBOUND],
+         0, TOLD + b"ok 11 6 1000\nnotice %d\nok 3\nok 103\n" % number,
+         ENDED + SENT[0] + stop + UNBIND, words=cltu, text=one)
+talk("a refused telecommand", [*BOUND, transferred(1, 5, 1000, h("a103810102"))], 3,
+     TOLD + b"no 11 2 5 1000\n", ENDED + SENT[0], words=cltu, text=TEXT)
+talk("a connection that is cut", [*BOUND, [transferred(1, 6, 1000)[:9], "close"]], 11, TOLD + b"closed\n",
+     words=cltu, text=TEXT)
+long = bytes(range(256)) * 256
+stop, stopped = stopping(2)
+talk("a connection that stalls", [*BOUND, [transferred(1, 6, 0), notice("8500", 5)], stopped, UNBOUND], 0,
+     TOLD + b"ok 11 6 0\nnotice 5\nok 3\nok 103\n", ENDED + transfer(1, 5, long) + stop + UNBIND,
+     words=cltu, text=b"cltu 5 none none 0 0 " + long.hex().encode(), narrow=True, turns="1000")
+for name, text, number in [
+        ("no line of a telecommand", b"cltu 5 none none 0 0 c5c5\nfly\n", 2),
+        ("a telecommand without octets", b"#\n\ncltu 5 none none 0 0 \n", 3),
+        ("a telecommand of 65,537 octets", b"cltu 5 none none 0 0 " + b"00" * 65537, 1),
+        ("an odd digit", b"cltu 5 none none 0 0 c5c\n", 1), ("a number too great", b"cltu 4294967296 none none 0 0 c5\n", 1),
+        ("another word for a wish", b"cltu 5 none none 0 2 c5\n", 1), ("a carriage return", one + b"\r\n", 1),
+        ("a blank too many", b"cltu 5  none none 0 0 c5\n", 1), ("no time", b"cltu 5 now none 0 0 c5\n", 1)]:
+    talk(name, [], 13, b"bad line %d\n" % number, b"", words=cltu, text=text)
+comment = b"#" * 4095 + b"\n"
+stop, stopped = stopping(1)
+talk("the longest input", [*BOUND, stopped, UNBOUND], 0, TOLD + b"ok 3\nok 103\n", ENDED + stop + UNBIND,
+     words=cltu, text=comment * (MOST_OCTETS // 4096))
+talk("one octet more of input", [], 12, b"input too long\n", b"", words=cltu,
+     text=comment * (MOST_OCTETS // 4096) + b"f")
+with open(os.devnull, "wb") as closed:
+    talk("telecommands that can't be read", [], 6, b"read fault\n", b"", words=cltu, stdin=closed)
+talk("telecommands without memory", [], 70, b"", b"", words=cltu, text=comment * (MOST_OCTETS // 4096),
+     preexec_fn=least(16_000_000))
+check("nobody listens for telecommands", run(cltu(port), b"fly\n"), (8, b"link fault\n"))
+provider = Provider([])
+with open("/dev/full", "wb") as full:
+    done = subprocess.run([PROGRAM, *cltu(provider.port)], input=b"fly\n", stdout=full, timeout=PATIENCE)
+    check("a bad line that can't be told", done.returncode, 7)
+
+# ---- frames of a channel
+
+talk("frames of a channel", [BR, [pdu("a1", integer(0), UNUSED), "close"]], 11, b"ok 101\nok 1\nclosed\n",
+     CONTEXT + RCF_BIND + RCF_START, words=rcf)
 
 # ---- the launcher
 
@@ -186,7 +347,7 @@ with tempfile.TemporaryDirectory() as folder:
         check(f"a file for PASS of mode {mode:o}", found[0], status)
 check("no file for PASS", run(raf(port, password="file"), program=LAUNCHER)[0], 1)
 check("the launcher's stream", run(["show", "raf"], STREAM, program=LAUNCHER), (0, LINES))
-for words in [["--help"], ["help"], ["help", "show"], ["help", "raf"], ["help", "rcf"]]:
+for words in [["--help"], ["help"], *(["help", name] for name in ["show", "raf", "rcf", "cltu"])]:
     found = run(words, program=LAUNCHER)
     check(f"the launcher's {words}", (found[0], found[1][:6]), (0, b"usage:"))
 
