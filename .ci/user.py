@@ -8,6 +8,7 @@ answers in pieces. What the program hands over is compared with the octets of th
 what it prints with the lines of docs/PROFILE.md, and its exit code with the table there: each code
 comes once at least. The last line says how many checks passed.
 """
+import fcntl
 import os
 import resource
 import socket
@@ -18,7 +19,11 @@ import tempfile
 import threading
 import time
 
-PROGRAM, LAUNCHER = map(os.path.abspath, sys.argv[1:])
+PROGRAM, LAUNCHER = map(os.path.abspath, sys.argv[1:3])
+# A run in a network of its own, where a sender's octets have little room, is told which network it
+# was started from.
+NETWORK = os.readlink("/proc/self/ns/net")
+STALLED = sys.argv[3:] and sys.argv[3] != NETWORK
 PATIENCE = 60
 MOST_OCTETS = 16_777_216
 
@@ -132,91 +137,7 @@ def talk(name, answers, status, lines, heard=None, turns="100", slow=0.0, words=
         check(name + ", what was handed over", provider.heard, heard)
 
 
-# ---- a recorded stream
-
-LINES = b"ok 101\nok 1\nframe 20000/1000/0 0 -1 41 0010a1\nend\nok 3\nok 103\n"
-STREAM = CONTEXT + BR + SR + A1 + EOD + STOPPED + UNBOUND
-check("a stream", run(["show", "raf"], STREAM), (0, LINES))
-check("no stream", run(["show", "rcf"]), (0, b""))
-check("a bad message", run(["show", "raf"], BR + b"\x07" + bytes(7)), (5, b"ok 101\nbad message 25\n"))
-check("a cut message", run(["show", "raf"], STREAM[:-1]),
-      (5, LINES[:-len(b"ok 103\n")] + b"bad message %d\n" % (len(STREAM) - len(UNBOUND))))
-check("the longest stream", run(["show", "cltu"], (b"\x03" + bytes(7)) * (MOST_OCTETS // 8)), (0, b""))
-check("one octet more", run(["show", "cltu"], b"\x03" + bytes(MOST_OCTETS)), (12, b"input too long\n"))
-with open(os.devnull, "wb") as closed:
-    check("an input that fails", run(["show", "raf"], stdin=closed), (6, b"read fault\n"))
-with open("/dev/full", "wb") as full:
-    done = subprocess.run([PROGRAM, "show", "raf"], input=STREAM, stdout=full, timeout=PATIENCE)
-    check("an output that fails", done.returncode, 7)
-
-def least(size):
-    """Leaves a process so many octets of memory."""
-    return lambda: resource.setrlimit(resource.RLIMIT_AS, (size, size))
-
-
-check("an input without memory", run(["show", "cltu"], (b"\x03" + bytes(7)) * (MOST_OCTETS // 8),
-                                     preexec_fn=least(16_000_000)), (70, b""))
-
-# ---- words
-
-
-def rcf(port, turns="100", channel="17/0/3"):
-    return ["rcf", str(port), "MOC", "none", "sagr=1.spack=P.rsl-fg=1.rcf=onlc2", "none", "none", channel, turns]
-
-
-COMMANDS = "sagr=1.spack=P.fsl-fg=1.cltu=cltu1"
-
-
-def cltu(port, turns="200", first="5", password="none"):
-    return ["cltu", str(port), "MOC", password, COMMANDS, first, turns]
-
-
-def other(words, place, word):
-    return words[:place] + [word] + words[place + 1:]
-
-
-OUTSIDE = [[], [""], ["help"], ["--help"], ["-h"], ["--"], ["SHOW", "raf"], ["show"], ["show", ""], ["show", "rocf"],
-           ["show", "RAF"], ["show", "raf", "raf"], ["show", "-h"], ["show", "--", "raf"], ["raf", b"\xff"],
-           ["raf"], ["rcf"], ["cltu"], raf(5000)[:-1], raf(5000) + ["1"], rcf(5000)[:-1], rcf(5000) + ["1"],
-           cltu(5000)[:-1], cltu(5000) + ["1"]]
-# what may not stand in each place
-BAD = {1: ["", "0", "65536", "05000", "+5000", "-1", "5000 ", "0x1388", "port"],
-       2: ["", "MO", "M" * 17, "M C", "-MOC", "M\u00fcC"],
-       3: ["", "None", "file", "sha1:", "sha1:0102030405", "sha1:" + "00" * 17, "sha1:01020304050", "md5:010203040506",
-           "sha256:0102030405gg", "010203040506"],
-       4: ["", "sagr", "sagr=", "sagr=1.", ".sagr=1", "sagr=1=2", "color=1", "sagr=1," * 2],
-       -1: ["", "0", "1099511627777", "0100", "1.5", "-100", "many"]}
-for words, places in [(raf(5000), {5: ["", "20000", "20000/0", "20000/86400000/0", "65536/0/0", "now"],
-                                   6: ["", "None", "20000/0/1000"], 7: ["", "3", "02", "good"]}),
-                      (rcf(5000), {5: ["0"], 6: ["0"], 7: ["", "17", "17/0", "1024/0/3", "17/4/3", "17/0/64", "17/0/**", "*"]}),
-                      (cltu(5000), {5: ["", "4294967296", "05", "-1", "none"]})]:
-    for place, bad in [*BAD.items(), *places.items()]:
-        OUTSIDE += [other(words, place, word) for word in bad]
-for words in OUTSIDE:
-    check(f"the words {words}", run(words), (2, b"usage\n"))
-
-# ---- a provider
-
-WHOLE = [BR, [SR, A1[:20], A1[20:], EOD], STOPPED, UNBOUND]
-SAID = CONTEXT + BIND + START + STOP + UNBIND
-talk("frames", WHOLE, 0, LINES, SAID)
-talk("frames in pieces", [[BR[:3], BR[3:]], [SR + A1[:1], A1[1:] + EOD[:9], EOD[9:]], STOPPED, UNBOUND],
-     0, LINES, SAID, slow=0.02)
-talk("a refused START", [BR, REFUSED], 3, b"ok 101\nno 1 4\n", CONTEXT + BIND + START)
-talk("a bad message", [b"\x09" + bytes(7)], 5, b"bad message 0\n", CONTEXT + BIND)
-talk("an abort", [BR, ABORT], 11, b"ok 101\nabort 127\n", CONTEXT + BIND + START)
-talk("a close", [[BR, "close"]], 11, b"ok 101\nclosed\n")
-talk("a reset", [[BR, "reset"]], 8, b"ok 101\nlink fault\n", slow=0.2)
-talk("turns", [BR], 10, b"ok 101\nturns spent\n", CONTEXT + BIND + START, turns="8")
-with socket.create_server(("127.0.0.1", 0)) as listener:
-    port = listener.getsockname()[1]
-check("nobody listens", run(raf(port)), (8, b"link fault\n"))
-provider = Provider(WHOLE)
-with open("/dev/full", "wb") as full:
-    done = subprocess.run([PROGRAM, *raf(provider.port)], stdout=full, timeout=PATIENCE)
-    check("an output that fails at a provider", done.returncode, 7)
-
-# ---- telecommands, whose octets are spelled here by hand, from CCSDS 912.1-B and X.690
+# ---- messages of telecommands, whose octets are spelled here by hand, from CCSDS 912.1-B and X.690
 
 
 def tlv(tag, *contents):
@@ -282,6 +203,136 @@ SENT = [transfer(1, 5, h("c5c5c5c5")),
 BOUND = [BR, CLTU_STARTED]
 ENDED = CONTEXT + CLTU_BIND + CLTU_START
 TOLD = b"ok 101\nok 1\n"
+
+
+def rcf(port, turns="100", channel="17/0/3"):
+    return ["rcf", str(port), "MOC", "none", "sagr=1.spack=P.rsl-fg=1.rcf=onlc2", "none", "none", channel, turns]
+
+
+COMMANDS = "sagr=1.spack=P.fsl-fg=1.cltu=cltu1"
+
+
+def cltu(port, turns="200", first="5", password="none"):
+    return ["cltu", str(port), "MOC", password, COMMANDS, first, turns]
+
+
+# ---- connections that stall
+
+
+def narrow():
+    """Gives this network's senders room for 4,096 octets, and its loopback a start."""
+    with socket.socket(socket.AF_INET, socket.SOCK_DGRAM) as any_socket:
+        # (SIOCGIFFLAGS, SIOCSIFFLAGS and IFF_UP of Linux)
+        flags = struct.unpack("16sH", fcntl.ioctl(any_socket, 0x8913, struct.pack("16sH14x", b"lo", 0))[:18])[1]
+        fcntl.ioctl(any_socket, 0x8914, struct.pack("16sH14x", b"lo", flags | 1))
+    with open("/proc/sys/net/ipv4/tcp_wmem", "w") as limits:
+        limits.write("4096 4096 4096")
+
+
+def stalled():
+    long = bytes(range(256)) * 256
+    text = b"cltu 5 none none 0 0 " + long.hex().encode()
+    said = ENDED + transfer(1, 5, long)
+    stop, stopped = stopping(2)
+    rest = [[transferred(1, 6, 0), notice("8500", 5)], stopped, UNBOUND]
+    talk("a connection that stalls", [*BOUND, *rest], 0, TOLD + b"ok 11 6 0\nnotice 5\nok 3\nok 103\n",
+         said + stop + UNBIND, words=cltu, text=text, narrow=True, turns="1000")
+    talk("turns spent on a stall", [*BOUND, []], 10, TOLD + b"turns spent\n", said, words=cltu, text=text, narrow=True,
+         turns="50")
+    talk("a reset behind a stall", [*BOUND[:1], [BOUND[1], "reset"]], 8, b"ok 101\nok 1\nlink fault\n", words=cltu,
+         text=text, narrow=True, slow=0.5, turns="1000")
+
+
+if STALLED:
+    narrow()
+    stalled()
+    print(f"{passed} passed, {failed} failed")
+    sys.exit(failed != 0)
+again = subprocess.run(["unshare", "-rn", sys.executable, "-B", *sys.argv, NETWORK], stdout=subprocess.PIPE,
+                       stderr=subprocess.PIPE, text=True)
+*told, last = again.stdout.splitlines() or [""]
+if last:
+    print(*told, sep="\n", end="\n" if told else "")
+    passed, failed = passed + int(last.split()[0]), failed + int(last.split()[2])
+else:
+    print("user: no network of its own could be made, and no connection stalled:", again.stderr.strip()[-200:])
+
+# ---- a recorded stream
+
+LINES = b"ok 101\nok 1\nframe 20000/1000/0 0 -1 41 0010a1\nend\nok 3\nok 103\n"
+STREAM = CONTEXT + BR + SR + A1 + EOD + STOPPED + UNBOUND
+check("a stream", run(["show", "raf"], STREAM), (0, LINES))
+check("no stream", run(["show", "rcf"]), (0, b""))
+check("a bad message", run(["show", "raf"], BR + b"\x07" + bytes(7)), (5, b"ok 101\nbad message 25\n"))
+check("a cut message", run(["show", "raf"], STREAM[:-1]),
+      (5, LINES[:-len(b"ok 103\n")] + b"bad message %d\n" % (len(STREAM) - len(UNBOUND))))
+check("the longest stream", run(["show", "cltu"], (b"\x03" + bytes(7)) * (MOST_OCTETS // 8)), (0, b""))
+check("one octet more", run(["show", "cltu"], b"\x03" + bytes(MOST_OCTETS)), (12, b"input too long\n"))
+with open(os.devnull, "wb") as closed:
+    check("an input that fails", run(["show", "raf"], stdin=closed), (6, b"read fault\n"))
+with open("/dev/full", "wb") as full:
+    done = subprocess.run([PROGRAM, "show", "raf"], input=STREAM, stdout=full, timeout=PATIENCE)
+    check("an output that fails", done.returncode, 7)
+
+
+def least(size):
+    """Leaves a process so many octets of memory."""
+    return lambda: resource.setrlimit(resource.RLIMIT_AS, (size, size))
+
+
+check("an input without memory",
+      run(["show", "cltu"], (b"\x03" + bytes(7)) * (MOST_OCTETS // 8), preexec_fn=least(16_000_000)), (70, b""))
+
+# ---- words
+
+
+def other(words, place, word):
+    return words[:place] + [word] + words[place + 1:]
+
+
+OUTSIDE = [[], [""], ["help"], ["--help"], ["-h"], ["--"], ["SHOW", "raf"], ["show"], ["show", ""], ["show", "rocf"],
+           ["show", "RAF"], ["show", "raf", "raf"], ["show", "-h"], ["show", "--", "raf"], ["raf", b"\xff"],
+           ["raf"], ["rcf"], ["cltu"], raf(5000)[:-1], raf(5000) + ["1"], rcf(5000)[:-1], rcf(5000) + ["1"],
+           cltu(5000)[:-1], cltu(5000) + ["1"]]
+# what may not stand in each place
+BAD = {1: ["", "0", "65536", "05000", "+5000", "-1", "5000 ", "0x1388", "port"],
+       2: ["", "MO", "M" * 17, "M C", "-MOC", "M\u00fcC"],
+       3: ["", "None", "file", "sha1:", "sha1:0102030405", "sha1:" + "00" * 17, "sha1:01020304050", "md5:010203040506",
+           "sha256:0102030405gg", "010203040506"],
+       4: ["", "sagr", "sagr=", "sagr=1.", ".sagr=1", "sagr=1=2", "color=1", "sagr=1," * 2],
+       -1: ["", "0", "1099511627777", "0100", "1.5", "-100", "many"]}
+for words, places in [(raf(5000), {5: ["", "20000", "20000/0", "20000/86400000/0", "65536/0/0", "now"],
+                                   6: ["", "None", "20000/0/1000"], 7: ["", "3", "02", "good"]}),
+                      (rcf(5000), {5: ["0"], 6: ["0"], 7: ["", "17", "17/0", "1024/0/3", "17/4/3", "17/0/64", "17/0/**", "*"]}),
+                      (cltu(5000), {5: ["", "4294967296", "05", "-1", "none"]})]:
+    for place, bad in [*BAD.items(), *places.items()]:
+        OUTSIDE += [other(words, place, word) for word in bad]
+for words in OUTSIDE:
+    check(f"the words {words}", run(words), (2, b"usage\n"))
+
+# ---- a provider
+
+WHOLE = [BR, [SR, A1[:20], A1[20:], EOD], STOPPED, UNBOUND]
+SAID = CONTEXT + BIND + START + STOP + UNBIND
+talk("frames", WHOLE, 0, LINES, SAID)
+talk("frames in pieces", [[BR[:3], BR[3:]], [SR + A1[:1], A1[1:] + EOD[:9], EOD[9:]], STOPPED, UNBOUND],
+     0, LINES, SAID, slow=0.02)
+talk("a refused START", [BR, REFUSED], 3, b"ok 101\nno 1 4\n", CONTEXT + BIND + START)
+talk("a bad message", [b"\x09" + bytes(7)], 5, b"bad message 0\n", CONTEXT + BIND)
+talk("an abort", [BR, ABORT], 11, b"ok 101\nabort 127\n", CONTEXT + BIND + START)
+talk("a close", [[BR, "close"]], 11, b"ok 101\nclosed\n")
+talk("a reset", [[BR, "reset"]], 8, b"ok 101\nlink fault\n", slow=0.2)
+talk("turns", [BR], 10, b"ok 101\nturns spent\n", CONTEXT + BIND + START, turns="8")
+with socket.create_server(("127.0.0.1", 0)) as listener:
+    port = listener.getsockname()[1]
+check("nobody listens", run(raf(port)), (8, b"link fault\n"))
+provider = Provider(WHOLE)
+with open("/dev/full", "wb") as full:
+    done = subprocess.run([PROGRAM, *raf(provider.port)], stdout=full, timeout=PATIENCE)
+    check("an output that fails at a provider", done.returncode, 7)
+
+# ---- telecommands
+
 stop, stopped = stopping(3)
 talk("telecommands", [*BOUND, [transferred(1, 6, 1000), notice("8000", 5), notice("8500", 5)],
                       [transferred(2, 7, 998), notice("8500", 6)], stopped, UNBOUND],
@@ -301,11 +352,6 @@ talk("a refused telecommand", [*BOUND, transferred(1, 5, 1000, h("a103810102"))]
      TOLD + b"no 11 2 5 1000\n", ENDED + SENT[0], words=cltu, text=TEXT)
 talk("a connection that is cut", [*BOUND, [transferred(1, 6, 1000)[:9], "close"]], 11, TOLD + b"closed\n",
      words=cltu, text=TEXT)
-long = bytes(range(256)) * 256
-stop, stopped = stopping(2)
-talk("a connection that stalls", [*BOUND, [transferred(1, 6, 0), notice("8500", 5)], stopped, UNBOUND], 0,
-     TOLD + b"ok 11 6 0\nnotice 5\nok 3\nok 103\n", ENDED + transfer(1, 5, long) + stop + UNBIND,
-     words=cltu, text=b"cltu 5 none none 0 0 " + long.hex().encode(), narrow=True, turns="1000")
 for name, text, number in [
         ("no line of a telecommand", b"cltu 5 none none 0 0 c5c5\nfly\n", 2),
         ("a telecommand without octets", b"#\n\ncltu 5 none none 0 0 \n", 3),
