@@ -16,6 +16,7 @@ use Rattle.user_core.specs.Laws.{Turn, after_turns, octets_in, printed, LinesInO
 use Rattle.user_core.specs.Laws.{AreOctets, stream_text, ends_in}
 use Rattle.user_core.specs.Turn.{Standing, new_user}
 use Rattle.user_core.proofs.Spoken.{offers_in_order}
+use Rattle.user_lines.specs.Shown.{lines as stream_lines}
 use Rattle.user_show.specs.Ending.{EndsWith}
 use Rattle.user_show.specs.declared.ending.Ending.{Ending}
 use Rattle.user_show.specs.declared.ending.Ending.TheVariants as ending
@@ -30,10 +31,12 @@ use Rattle.user_talk.proofs.Handed.{in_order, its_turns}
 use Rattle.user_talk.proofs.Turned.{front_all}
 use Rattle.user_task.specs.declared.task.Task.{Task}
 use Rattle.user_task.specs.Work.{is_show, service_of}
-use Rattle.user_service.specs.Streams.{lines_of, Prints, BreaksOff, Streams}
+use Rattle.user_service.specs.Causes.{IsCaused}
+use Rattle.user_service.specs.Streams.{Prints, BreaksOff, Streams}
 use Rattle.user_service.proofs.Answered.{done_is_answered}
 use Rattle.user_service.proofs.Came.{broken_turns, all_turns, all_calls, polls_counted, came_all}
 use Rattle.user_service.proofs.Came.{handed_are, printed_all}
+use Rattle.user_service.proofs.Causes.{is_brought}
 use Rattle.user_service.proofs.Taken.{all_taken}
 
 -- ---- why a talk ended
@@ -215,9 +218,9 @@ text_by end.Memory a b c lines more fb fc ended well prints none closes =
 
 -- who invokes is told nothing of a message that is cut at the stream's end
 whole_text : (service : ServiceType) (show ends : Bool) (octets : List ℕ) → show ≡ false
-    → stream_text service (show && ends) (unread_of 0 octets) ≡ lines_of service octets
+    → stream_text service (show && ends) (unread_of 0 octets) ≡ (stream_lines service octets).text
 whole_text service true ends octets is = absurd cc
-whole_text service false ends octets is = append-nil (lines_of service octets)
+whole_text service false ends octets is = append-nil (stream_lines service octets).text
 
 goes_on : (s : Standing) → s.course.status ≡ None → is_over s.course ≡ false
 goes_on s none = ap is_some none
@@ -233,12 +236,42 @@ prints_of in_order task turns octets ended invokes came going are =
     in_order task turns (subst (λ l. AreOctets l) (sym came) are) in
     record {
       rest = its.rest;
-      whole = ap (lines_of (service_of task.work)) (sym came)
+      whole = ap (λ l. (stream_lines (service_of task.work) l).text) (sym came)
           ∙ (sym (whole_text (service_of task.work) (is_show task.work) (ends_in turns)
           (octets_in turns) invokes)
           ∙ its.whole);
       all = λ is. its.all (goes_on (after_turns (new_user task) turns) (going is));
     }
+
+-- ---- why
+
+caused_by : (e : End) (task : Task) (rounds : List Round) (tail : Tail)
+    → is_show task.work ≡ false → EndsBy e rounds tail (after_rounds (begun task) rounds)
+    → IsCaused (ending_of e) (service_of task.work) (new_user task) (turns_of (begun task) rounds)
+caused_by (end.Over status.Done closed) task rounds tail invokes ends = tt
+caused_by (end.Over status.Refused closed) task rounds tail invokes ends =
+    is_brought status.Refused task (turns_of (begun task) rounds) invokes (λ e. cc)
+    (ap (λ (u : Standing). u.course.status) (sym (its_turns (begun task) rounds).user) ∙ ends.1.0)
+caused_by (end.Over status.BadMessage closed) task rounds tail invokes ends =
+    is_brought status.BadMessage task (turns_of (begun task) rounds) invokes (λ e. cc)
+    (ap (λ (u : Standing). u.course.status) (sym (its_turns (begun task) rounds).user) ∙ ends.1.0)
+caused_by (end.Over status.PeerEnded closed) task rounds tail invokes ends =
+    is_brought status.PeerEnded task (turns_of (begun task) rounds) invokes (λ e. cc)
+    (ap (λ (u : Standing). u.course.status) (sym (its_turns (begun task) rounds).user) ∙ ends.1.0)
+caused_by (end.Over status.OutOfMemory closed) task rounds tail invokes ends = tt
+caused_by end.Spent task rounds tail invokes ends = tt
+caused_by end.LinkFault task rounds tail invokes ends = tt
+caused_by end.WriteFault task rounds tail invokes ends = tt
+caused_by end.Memory task rounds tail invokes ends = tt
+
+is_caused : (b c : Option (List ℕ)) (fb fc : ℕ) (line : List ℕ) (own ended : Ending)
+    (service : ServiceType) (s : Standing) (turns : List Turn)
+    → EndsWith b c fb fc line own ended → IsCaused own service s turns
+    → IsCaused ended service s turns
+is_caused b c fb fc line own ended service s turns (inl closes) caused =
+    subst (λ x. IsCaused x service s turns) (sym closes.0) caused
+is_caused b c fb fc line own ended service s turns (inr closes) caused =
+    subst (λ x. IsCaused x service s turns) (sym closes.0) tt
 
 -- ---- all of it
 
@@ -266,7 +299,7 @@ module _ {L C O : Type 0} (calls : L → Option (List Call)) (link_faults : L �
       → is_show task.work ≡ false
       → TalkedTo calls link_faults readings written output_faults task most ended old new
       → Streams calls written task most ended old new
-  streams_of lines task most ended old new invokes talked =
+  streams_of in_lines task most ended old new invokes talked =
       let s = begun task in
       let e = talked.end in
       let rounds = talked.talked.rounds in
@@ -308,7 +341,7 @@ module _ {L C O : Type 0} (calls : L → Option (List Call)) (link_faults : L �
         text = λ well. subst (λ l. Gains a c (l ++ line_of e)) (sym (printed_all s rounds tail))
             (text_by e a b c (lines_in s rounds) (tail_lines t tail) fb fc ended well its.printed
             none talked.closes);
-        prints = prints_of lines task (all_turns s rounds tail)
+        prints = prints_of in_lines task (all_turns s rounds tail)
             (octets_heard (all_calls s rounds tail)) ended invokes
             (came_all s rounds tail its.goes_through)
             (⊎_elim
@@ -316,6 +349,9 @@ module _ {L C O : Type 0} (calls : L → Option (List Call)) (link_faults : L �
             (went_on e rounds tail t (inl (spent_by e (own (λ x. cc) ∙ is))) its.ends))
             (λ is. unbroken s rounds tail
             (went_on e rounds tail t (inr (failed_by e (own (λ x. cc) ∙ is))) its.ends)));
+        caused = is_caused b c fb fc (line_of e) (ending_of e) ended (service_of task.work)
+            (new_user task) (turns_of s rounds) talked.closes
+            (caused_by e task rounds tail invokes its.ends);
         done = λ is. done_is_answered task (turns_of s rounds) invokes
             (ap (λ (u : Standing). u.course.status) (sym (its_turns s rounds).user)
             ∙ done_by e rounds tail t (own (λ x. cc) ∙ is) its.ends);

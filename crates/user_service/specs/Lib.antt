@@ -1,3 +1,4 @@
+pub mod Causes
 pub mod Input
 pub mod Sending
 pub mod Service

@@ -3,7 +3,6 @@
 use Rattle.std.specs.Prelude.{◌≡◌, ◌⊎◌, ℕ, ◌≤◌, Bool, true, false, Option, None, List, [], ◌∷◌}
 use Rattle.std.specs.Prelude.{◌++◌, length}
 use Rattle.isp1_auth.specs.Numbers.{first_number}
-use Rattle.isp1_tml.specs.Unread.{unread_of}
 use Rattle.link_model.specs.declared.call.Call.{Call}
 use Rattle.link_model.specs.declared.call.Call.TheVariants.{Polled, Offered}
 use Rattle.link_model.specs.Calls.{Tells, octets_heard, octets_handed, polls_in}
@@ -14,7 +13,7 @@ use Rattle.sle_numbers.specs.declared.service_type.ServiceType.{ServiceType}
 use Rattle.user_core.specs.declared.course.Course.{Course}
 use Rattle.user_core.specs.Laws.{Turn, after_turns, offers, printed, octets_in, Says, AreOctets}
 use Rattle.user_core.specs.Turn.{new_user}
-use Rattle.user_lines.specs.Shown.{shown_of}
+use Rattle.user_lines.specs.Shown.{lines}
 use Rattle.user_show.specs.declared.ending.Ending.{Ending}
 use Rattle.user_show.specs.declared.ending.Ending.TheVariants as ending
 use Rattle.user_talk.specs.Running.{World}
@@ -22,16 +21,13 @@ use Rattle.user_task.specs.declared.task.Task.{Task}
 use Rattle.user_task.specs.declared.work.Work.{Work}
 use Rattle.user_task.specs.Invocation.{invocation_at}
 use Rattle.user_task.specs.Work.{service_of}
-
--- the lines of the messages of a stream, up to its first bad one
-abbrev pub lines_of : ServiceType → List ℕ → List ℕ
-lines_of service octets = (shown_of service (unread_of 0 octets)).text
+use Rattle.user_service.specs.Causes.{IsCaused}
 
 -- Lines begin those of a stream. Where the talk ended behind no message of it, they are all of them.
-pub record Prints (service : ServiceType) (octets : List ℕ) (ended : Ending) (lines : List ℕ)
+pub record Prints (service : ServiceType) (octets : List ℕ) (ended : Ending) (printed : List ℕ)
     : Type 0 where
   pub rest : List ℕ
-  pub whole : lines_of service octets ≡ lines ++ rest
+  pub whole : (lines service octets).text ≡ printed ++ rest
   pub all : (ended ≡ ending.TurnsSpent) ⊎ (ended ≡ ending.LinkFault) → rest ≡ []
 
 -- the last invocation was said, and its return came
@@ -84,5 +80,6 @@ module _ {L C O : Type 0} (calls : L → Option (List Call)) (written : O → Op
         (printed (new_user task) (turns ++ broken) ++ last)
     pub prints : AreOctets (octets_heard own) → Prints (service_of task.work) (octets_heard own)
         ended (printed (new_user task) (turns ++ broken))
+    pub caused : IsCaused ended (service_of task.work) (new_user task) turns
     pub done : ended ≡ ending.Done
         → IsAnswered task.work (after_turns (new_user task) turns).course
