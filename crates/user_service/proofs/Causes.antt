@@ -1,5 +1,5 @@
 -- What brought the status of a user that ended.
-use Rattle.std.proofs.Common.{◌≡◌, ◌⊎◌, inl, inr, ⊎_elim, ℕ, ◌+◌, ◌==◌, Bool, true, false, ◌&&◌, ◌||◌}
+use Rattle.std.proofs.Common.{◌≡◌, ℕ, ◌+◌, ◌==◌, Bool, true, false, ◌&&◌, ◌||◌}
 use Rattle.std.proofs.Common.{if◌then◌else◌, is_some, Option, Some, None, List, [], ◌∷◌, length, refl}
 use Rattle.std.proofs.Common.{ap, sym, subst, ◌∙◌}
 use Rattle.std.specs.List.{list_any}
@@ -28,6 +28,14 @@ use Rattle.user_task.specs.Invocation.{Said, invocation_at}
 use Rattle.user_task.specs.Work.{is_show, service_of, cltus_of}
 use Rattle.user_service.specs.Causes.{brings_by, brings_told, brings, brings_in}
 use Rattle.user_service.specs.Causes.{is_peer_end}
+use Rattle.user_core.specs.declared.course.Awaited.{Awaited}
+use Rattle.user_lines.specs.declared.tag.Tag.{Tag}
+use Rattle.user_service.specs.Causes.{unbound}
+use Rattle.user_service.proofs.Answered.{Fine, both_none, first_is_bind, heard_fine, opened_fine}
+use Rattle.user_service.proofs.Answered.{turn_fine, new_fine}
+use Rattle.user_task.specs.Invocation.{bind}
+use Rattle.std.proofs.Common.{zero, suc, arith}
+use Rattle.std.specs.Prelude.{not}
 
 or_left : (a b : Bool) → a ≡ true → (a || b) ≡ true
 or_left true b is = refl
@@ -79,7 +87,77 @@ told_brings : (st : Status) (task : Task) (d : Talk) (t : Told) → d.course.sta
 unfolding told_to
 told_brings st task d t none is = after_brings st task.work (event_of t) d.course none is
 
--- ---- what is said brings nothing but that all is done
+-- ---- where all is done, the last return was told
+
+closes_awaits : (came : Bool) (c : Course) → (closes came c).awaited ≡ c.awaited
+closes_awaits true c = refl
+closes_awaits false c = refl
+
+aborted_awaits : (reads : Bool) (c : Course) → (aborted reads c).awaited ≡ c.awaited
+aborted_awaits true c = refl
+aborted_awaits false c = refl
+
+and_true : (a : Bool) → a ≡ true → (a && true) ≡ true
+and_true true is = refl
+and_true false is = absurd cc
+
+-- the awaited return is no longer awaited, and so it was told
+cleared_by : (fits refused : Bool) (c : Course) (t : Tag) (invoke : Option ℕ) (a : Awaited)
+    → is_awaited (Some a) t invoke ≡ fits → c.awaited ≡ Some a
+    → (answered fits refused c).status ≡ None → (answered fits refused c).awaited ≡ None
+    → (is_awaited (Some a) t invoke && not refused) ≡ true
+cleared_by false refused c t invoke a fits awaits goes none = absurd cc
+cleared_by true true c t invoke a fits awaits goes none = absurd cc
+cleared_by true false c t invoke a fits awaits goes none =
+    and_true (is_awaited (Some a) t invoke) fits
+
+cleared : (work : Work) (event : Event) (c : Course) → c.awaited ≡ Some unbound
+    → (after work event c).status ≡ None → (after work event c).awaited ≡ None
+    → brings_by Done event ≡ true
+unfolding after
+cleared work Nothing c awaits goes none = absurd cc
+cleared work (Returned t invoke refused) c awaits goes none =
+    cleared_by (is_awaited c.awaited t invoke) refused c t invoke unbound
+    (ap (λ x. is_awaited x t invoke) (sym awaits)) awaits goes none
+cleared work Halted c awaits goes none =
+    let same = closes_awaits (has_begun c.said) c in absurd cc
+cleared work EndOfData c awaits goes none =
+    let same = closes_awaits (has_begun c.said) c in absurd cc
+cleared work (Emptied last_ok) c awaits goes none =
+    let same = closes_awaits (was_last (cltus_of work) c.said last_ok) c in absurd cc
+cleared work Aborted c awaits goes none =
+    let same = aborted_awaits (is_show work) c in absurd cc
+
+answered_said : (fits refused : Bool) (c : Course) → (answered fits refused c).said ≡ c.said
+answered_said false refused c = refl
+answered_said true true c = refl
+answered_said true false c = refl
+
+closes_said : (came : Bool) (c : Course) → (closes came c).said ≡ c.said
+closes_said true c = refl
+closes_said false c = refl
+
+aborted_said : (reads : Bool) (c : Course) → (aborted reads c).said ≡ c.said
+aborted_said true c = refl
+aborted_said false c = refl
+
+after_said : (work : Work) (event : Event) (c : Course) → (after work event c).said ≡ c.said
+unfolding after
+after_said work Nothing c = refl
+after_said work (Returned t invoke refused) c =
+    answered_said (is_awaited c.awaited t invoke) refused c
+after_said work Halted c = closes_said (has_begun c.said) c
+after_said work EndOfData c = closes_said (has_begun c.said) c
+after_said work (Emptied last_ok) c = closes_said (was_last (cltus_of work) c.said last_ok) c
+after_said work Aborted c = aborted_said (is_show work) c
+
+-- what is told, with what stands there then
+record Told_so (task : Task) (d e : Talk) (t : Told) : Type 0 where
+  course : e.course ≡ after task.work (event_of t) d.course
+
+told_so : (task : Task) (d : Talk) (t : Told) → Told_so task d (told_to task d t) t
+unfolding told_to
+told_so task d t = record { course = refl }
 
 if_status : (x y : Talk) (b : Bool) (o : Option Status) → x.course.status ≡ o
     → y.course.status ≡ o → (if b then x else y).course.status ≡ o
@@ -91,31 +169,50 @@ said_status : (task : Task) (now : ℕ) (d : Talk) (s : Said)
 unfolding said_to
 said_status task now d s = refl
 
-finished_status : (st : Status) (show : Bool) (c : Course)
-    → (finished_by show c).status ≡ Some st → (c.status ≡ Some st) ⊎ (st ≡ Done)
-finished_status st true c is = inl is
-finished_status st false c is = inr cc
+finished_status : (st : Status) (show : Bool) (c : Course) → c.status ≡ None
+    → (finished_by show c).status ≡ Some st → st ≡ Done
+finished_status st true c none is = absurd cc
+finished_status st false c none is = cc
 
-next_status : (st : Status) (task : Task) (now : ℕ) (d : Talk) (o : Option Said)
-    → (next_said task now d o).course.status ≡ Some st
-    → (d.course.status ≡ Some st) ⊎ (st ≡ Done)
-next_status st task now d None is = finished_status st (is_show task.work) d.course is
-next_status st task now d (Some s) is =
-    inl
-    (sym (if_status (said_to task now d s) d (may_say task.work d.course s) d.course.status
-    (said_status task now d s) refl)
-    ∙ is)
+some_status : (task : Task) (now : ℕ) (d : Talk) (s : Said)
+    → (next_said task now d (Some s)).course.status ≡ d.course.status
+some_status task now d s =
+    if_status (said_to task now d s) d (may_say task.work d.course s) d.course.status
+    (said_status task now d s) refl
 
-went_status : (st : Status) (task : Task) (now : ℕ) (d : Talk)
-    → (went_on task now d).course.status ≡ Some st
-    → (d.course.status ≡ Some st) ⊎ (st ≡ Done)
+-- all is done behind what is told
+done_brings : (st : Status) (task : Task) (now : ℕ) (d e : Talk) (t : Told) (o : Option Said)
+    → Told_so task d e t → Fine task.work d.course → d.course.status ≡ None
+    → e.course.status ≡ None → e.course.awaited ≡ None
+    → invocation_at task.work e.course.said ≡ o
+    → (next_said task now e o).course.status ≡ Some st → brings_told st (Some t) ≡ true
+done_brings st task now d e t None so f none goes awaits at is =
+    let same : e.course.said ≡ d.course.said =
+    ap (λ (c : Course). c.said) so.course ∙ after_said task.work (event_of t) d.course in
+    let done : st ≡ Done = finished_status st (is_show task.work) e.course goes is in
+    subst (λ x. brings_told x (Some t) ≡ true) (sym done)
+    (cleared task.work (event_of t) d.course
+    (f.last none (ap (invocation_at task.work) (sym same) ∙ at))
+    (sym (ap (λ (c : Course). c.status) so.course) ∙ goes)
+    (sym (ap (λ (c : Course). c.awaited) so.course) ∙ awaits))
+done_brings st task now d e t (Some s) so f none goes awaits at is =
+    absurd
+    (let no_status : None ≡ Some st = sym goes ∙ (sym (some_status task now e s) ∙ is) in cc)
+
+went_brings : (st : Status) (task : Task) (now : ℕ) (d e : Talk) (t : Told)
+    → Told_so task d e t → Fine task.work d.course → d.course.status ≡ None
+    → (went_on task now e).course.status ≡ Some st
+    → (e.course.status ≡ Some st → brings_told st (Some t) ≡ true)
+    → brings_told st (Some t) ≡ true
 unfolding went_on
-went_status st task now d is = by (rests d.course) refl
+went_brings st task now d e t so f none is told = by (rests e.course) refl
   where
-    by : (b : Bool) → rests d.course ≡ b → (d.course.status ≡ Some st) ⊎ (st ≡ Done)
-    by true rest = inl (rw rest at is)
+    by : (b : Bool) → rests e.course ≡ b → brings_told st (Some t) ≡ true
+    by true rest = told (rw rest at is)
     by false rest =
-        next_status st task now d (invocation_at task.work d.course.said) (rw rest at is)
+        let both = both_none e.course rest in
+        done_brings st task now d e t (invocation_at task.work e.course.said) so f none both.0
+        both.1 refl (rw rest at is)
 
 -- ---- messages
 
@@ -126,21 +223,21 @@ bad_brings st place d is =
     subst (λ x. brings_told x None ≡ true) same refl
 
 heard_by_brings : (st : Status) (task : Task) (now place : ℕ) (d : Talk) (o : Option Told)
-    → (st ≡ Done → ⊥) → d.course.status ≡ None
+    → Fine task.work d.course → d.course.status ≡ None
     → (heard_by task now place d o).course.status ≡ Some st → brings_told st o ≡ true
-heard_by_brings st task now place d None not_done none is = bad_brings st place d is
-heard_by_brings st task now place d (Some t) not_done none is =
-    ⊎_elim (λ told. told_brings st task d t none told) (λ done. absurd (not_done done))
-    (went_status st task now (told_to task d t) is)
+heard_by_brings st task now place d None f none is = bad_brings st place d is
+heard_by_brings st task now place d (Some t) f none is =
+    went_brings st task now d (told_to task d t) t (told_so task d t) f none is
+    (told_brings st task d t none)
 
 heard_brings : (st : Status) (task : Task) (now place : ℕ) (d : Talk) (m : Content)
-    → (st ≡ Done → ⊥) → d.course.status ≡ None
+    → Fine task.work d.course → d.course.status ≡ None
     → (heard task now place d m).course.status ≡ Some st
     → brings_told st (told_in (service_of task.work) m) ≡ true
 unfolding heard
-heard_brings st task now place d m not_done none is =
+heard_brings st task now place d m f none is =
     let going : is_over d.course ≡ false = going_on d.course.status none in
-    heard_by_brings st task now place d (told_in (service_of task.work) m) not_done none
+    heard_by_brings st task now place d (told_in (service_of task.work) m) f none
     (rw going at is)
 
 refused_brings : (st : Status) (refused : Bool) (place : ℕ) (d : Talk) → d.course.status ≡ None
@@ -158,31 +255,31 @@ or_assoc false b c is = is
 -- a message before others: it ended the user, or one of the others did
 first_brings : (st : Status) (task : Task) (now place next : ℕ) (refused : Bool)
     (messages : List Content) (d e : Talk) (m : Content) (later : Bool) (o : Option Status)
-    → heard task now place d m ≡ e → e.course.status ≡ o → (st ≡ Done → ⊥)
+    → heard task now place d m ≡ e → e.course.status ≡ o → Fine task.work d.course
     → d.course.status ≡ None
     → (heard_all task now next refused messages e).course.status ≡ Some st
     → (e.course.status ≡ None → later ≡ true)
     → (brings_told st (told_in (service_of task.work) m) || later) ≡ true
-first_brings st task now place next refused messages d e m later None heard_is status not_done none is
+first_brings st task now place next refused messages d e m later None heard_is status f none is
     others =
     or_right (brings_told st (told_in (service_of task.work) m)) later (others status)
-first_brings st task now place next refused messages d e m later (Some other) heard_is status not_done
+first_brings st task now place next refused messages d e m later (Some other) heard_is status f
     none is others =
     let stays = over_all task now next refused messages e (ap is_some status) in
     let ends : e.course.status ≡ Some st =
     sym (ap (λ (x : Talk). x.course.status) stays) ∙ is in
     or_left (brings_told st (told_in (service_of task.work) m)) later
-    (heard_brings st task now place d m not_done none
+    (heard_brings st task now place d m f none
     (ap (λ (x : Talk). x.course.status) heard_is ∙ ends))
 
 all_bring : (st : Status) (task : Task) (now place : ℕ) (refused : Bool) (messages : List Content)
-    (d : Talk) → (st ≡ Done → ⊥) → d.course.status ≡ None
+    (d : Talk) → is_show task.work ≡ false → Fine task.work d.course → d.course.status ≡ None
     → (heard_all task now place refused messages d).course.status ≡ Some st
     → (list_any (λ (m : Content). brings_told st (told_in (service_of task.work) m)) messages
     || (refused && brings_told st None)) ≡ true
-all_bring st task now place refused [] d not_done none is =
+all_bring st task now place refused [] d invokes f none is =
     refused_brings st refused place d none is
-all_bring st task now place refused (m ∷ messages) d not_done none is =
+all_bring st task now place refused (m ∷ messages) d invokes f none is =
     let next = capped (place + length (spelling m)) in
     let e = heard task now place d m in
     let later =
@@ -192,7 +289,8 @@ all_bring st task now place refused (m ∷ messages) d not_done none is =
     (list_any (λ (m : Content). brings_told st (told_in (service_of task.work) m)) messages)
     (refused && brings_told st None)
     (first_brings st task now place next refused messages d e m later e.course.status refl refl
-    not_done none is (λ goes. all_bring st task now next refused messages e not_done goes is))
+    f none is (λ goes. all_bring st task now next refused messages e invokes
+    (heard_fine task now place d m invokes f) goes is))
 
 -- ---- turns
 
@@ -204,15 +302,33 @@ beating_status now d = by (beats d now) refl
     by true is = rw is refl
     by false is = rw is refl
 
-opened_status : (st : Status) (task : Task) (now : ℕ) (d : Talk)
-    → (opened task now d).course.status ≡ Some st
-    → (d.course.status ≡ Some st) ⊎ (st ≡ Done)
-unfolding opened
-opened_status st task now d is = by (d.course.said == 0) refl
+is_zero : (n : ℕ) → (n == 0) ≡ true → n ≡ 0
+is_zero zero is = refl
+is_zero (suc n) is = absurd (grind arith)
+
+-- a turn's opening ends nobody
+went_none : (task : Task) (now : ℕ) (d : Talk) (s : Said)
+    → invocation_at task.work d.course.said ≡ Some s → d.course.status ≡ None
+    → (went_on task now d).course.status ≡ None
+unfolding went_on
+went_none task now d s at none = by (rests d.course) refl
   where
-    by : (b : Bool) → (d.course.said == 0) ≡ b → (d.course.status ≡ Some st) ⊎ (st ≡ Done)
-    by true first = went_status st task now d (rw first at is)
-    by false first = inl (rw first at is)
+    by : (b : Bool) → rests d.course ≡ b → (went_on task now d).course.status ≡ None
+    by true is = rw is none
+    by false is = rw (is, at) (some_status task now d s ∙ none)
+
+opened_none : (task : Task) (now : ℕ) (d : Talk) → is_show task.work ≡ false
+    → d.course.status ≡ None → (opened task now d).course.status ≡ None
+unfolding opened
+opened_none task now d invokes none = by (d.course.said == 0) refl
+  where
+    by : (b : Bool) → (d.course.said == 0) ≡ b → (opened task now d).course.status ≡ None
+    by true is =
+        let at : invocation_at task.work d.course.said ≡ Some bind =
+        ap (invocation_at task.work) (is_zero d.course.said is)
+        ∙ first_is_bind task.work invokes in
+        rw is (went_none task now d bind at none)
+    by false is = rw is none
 
 closed_brings : (st : Status) (show : Bool) (place : ℕ) (rest : List ℕ) (d : Talk)
     → show ≡ false → (closed_by show place rest d).course.status ≡ Some st
@@ -223,55 +339,29 @@ closed_brings st false place rest d invokes is =
     subst (λ x. is_peer_end x ≡ true) same refl
 
 in_brings : (st : Status) (task : Task) (now : ℕ) (k : Kept) (h : Hearing) (d : Talk)
-    → is_show task.work ≡ false → (st ≡ Done → ⊥)
-    → (d.course.status ≡ Some st → ⊥) → (d.course.status ≡ None) ⊎ (d.course.status ≡ Some Done)
+    → is_show task.work ≡ false → Fine task.work d.course → d.course.status ≡ None
     → (heard_in task now k h d).course.status ≡ Some st
     → brings st (service_of task.work) k h ≡ true
-in_brings st task now k nothing d invokes not_done before or is = absurd (before is)
-in_brings st task now k (came octets) d invokes not_done before (inl none) is =
+in_brings st task now k nothing d invokes f none is = absurd cc
+in_brings st task now k (came octets) d invokes f none is =
     let u = unread_in k octets in
-    all_bring st task now u.place (is_some u.fault) u.messages d not_done none is
-in_brings st task now k (came octets) d invokes not_done before (inr done) is =
-    let u = unread_in k octets in
-    let stays = over_all task now u.place (is_some u.fault) u.messages d (ap is_some done) in
-    absurd (before (sym (ap (λ (x : Talk). x.course.status) stays) ∙ is))
-in_brings st task now k ended d invokes not_done before or is =
+    all_bring st task now u.place (is_some u.fault) u.messages d invokes f none is
+in_brings st task now k ended d invokes f none is =
     closed_brings st (is_show task.work) k.place k.rest d invokes is
 
-open_or_done : (task : Task) (now : ℕ) (d : Talk) → d.course.status ≡ None
-    → ((opened task now d).course.status ≡ None)
-    ⊎ ((opened task now d).course.status ≡ Some Done)
-open_or_done task now d none = by (opened task now d).course.status refl
-  where
-    by : (o : Option Status) → (opened task now d).course.status ≡ o
-        → ((opened task now d).course.status ≡ None)
-        ⊎ ((opened task now d).course.status ≡ Some Done)
-    by None is = inl is
-    by (Some st) is =
-        ⊎_elim (λ was. absurd (let no_status : None ≡ Some st = sym none ∙ was in cc))
-        (λ done. inr (is ∙ ap Some done)) (opened_status st task now d is)
-
 turn_brings : (st : Status) (s : Standing) (t : Turn) → is_show s.task.work ≡ false
-    → (st ≡ Done → ⊥) → s.course.status ≡ None → (after_turn s t).course.status ≡ Some st
+    → Fine s.task.work s.course → s.course.status ≡ None
+    → (after_turn s t).course.status ≡ Some st
     → brings st (service_of s.task.work) s.stream t.hearing ≡ true
-turn_brings st s t invokes not_done none is =
+turn_brings st s t invokes f none is =
     let going : is_over s.course ≡ false = going_on s.course.status none in
     let a = begun t.waits t.now (talk_of s) in
     let b = opened s.task t.now a in
     let c = heard_in s.task t.now s.stream t.hearing b in
     let ends : (beating t.now c).course.status ≡ Some st = rw going at is in
-    in_brings st s.task t.now s.stream t.hearing b invokes not_done
-    (λ was.
-    ⊎_elim (λ there. let no_status : None ≡ Some st = sym none ∙ there in cc)
-    (λ done. not_done done) (opened_status st s.task t.now a was))
-    (open_or_done s.task t.now a none) (sym (beating_status t.now c) ∙ ends)
-
-turn_task : (s : Standing) (t : Turn) → (after_turn s t).task ≡ s.task
-turn_task s t = by (is_over s.course) refl
-  where
-    by : (over : Bool) → is_over s.course ≡ over → (after_turn s t).task ≡ s.task
-    by true is = rw is refl
-    by false is = rw is refl
+    in_brings st s.task t.now s.stream t.hearing b invokes
+    (opened_fine s.task t.now a invokes f) (opened_none s.task t.now a invokes none)
+    (sym (beating_status t.now c) ∙ ends)
 
 over_turn : (s : Standing) (t : Turn) → is_over s.course ≡ true → after_turn s t ≡ s
 over_turn s t is = rw is refl
@@ -285,34 +375,38 @@ over_turns s (t ∷ turns) is =
 -- a turn before others
 turn_first : (st : Status) (task : Task) (s : Standing) (t : Turn) (turns : List Turn)
     (later : Bool) (o : Option Status) → (after_turn s t).course.status ≡ o → s.task ≡ task
-    → is_show task.work ≡ false → (st ≡ Done → ⊥) → s.course.status ≡ None
+    → is_show task.work ≡ false → Fine task.work s.course → s.course.status ≡ None
     → (after_turns (after_turn s t) turns).course.status ≡ Some st
     → ((after_turn s t).course.status ≡ None → later ≡ true)
     → (brings st (service_of task.work) s.stream t.hearing || later) ≡ true
-turn_first st task s t turns later None status same invokes not_done none is others =
+turn_first st task s t turns later None status same invokes f none is others =
     or_right (brings st (service_of task.work) s.stream t.hearing) later (others status)
-turn_first st task s t turns later (Some other) status same invokes not_done none is others =
+turn_first st task s t turns later (Some other) status same invokes f none is others =
     let stays = over_turns (after_turn s t) turns (ap is_some status) in
     let ends : (after_turn s t).course.status ≡ Some st =
     sym (ap (λ (x : Standing). x.course.status) stays) ∙ is in
     or_left (brings st (service_of task.work) s.stream t.hearing) later
     (subst (λ (x : Task). brings st (service_of x.work) s.stream t.hearing ≡ true) same
     (turn_brings st s t
-    (subst (λ (x : Task). is_show x.work ≡ false) (sym same) invokes) not_done none ends))
+    (subst (λ (x : Task). is_show x.work ≡ false) (sym same) invokes)
+    (subst (λ (x : Task). Fine x.work s.course) (sym same) f) none ends))
 
 turns_bring : (st : Status) (task : Task) (s : Standing) (turns : List Turn) → s.task ≡ task
-    → is_show task.work ≡ false → (st ≡ Done → ⊥) → s.course.status ≡ None
+    → is_show task.work ≡ false → Fine task.work s.course → s.course.status ≡ None
     → (after_turns s turns).course.status ≡ Some st
     → brings_in st (service_of task.work) s turns ≡ true
-turns_bring st task s [] same invokes not_done none is = absurd cc
-turns_bring st task s (t ∷ turns) same invokes not_done none is =
+turns_bring st task s [] same invokes f none is = absurd cc
+turns_bring st task s (t ∷ turns) same invokes f none is =
     let n = after_turn s t in
+    let first = turn_fine s t (subst (λ (x : Task). is_show x.work ≡ false) (sym same) invokes)
+    (subst (λ (x : Task). Fine x.work s.course) (sym same) f) in
     turn_first st task s t turns (brings_in st (service_of task.work) n turns) n.course.status refl
-    same invokes not_done none is
-    (λ goes. turns_bring st task n turns (turn_task s t ∙ same) invokes not_done goes is)
+    same invokes f none is
+    (λ goes. turns_bring st task n turns (first.task ∙ same) invokes
+    (subst (λ (x : Task). Fine x.work n.course) same first.fine) goes is)
 
 pub is_brought : (st : Status) (task : Task) (turns : List Turn) → is_show task.work ≡ false
-    → (st ≡ Done → ⊥) → (after_turns (new_user task) turns).course.status ≡ Some st
+    → (after_turns (new_user task) turns).course.status ≡ Some st
     → brings_in st (service_of task.work) (new_user task) turns ≡ true
-is_brought st task turns invokes not_done is =
-    turns_bring st task (new_user task) turns refl invokes not_done refl is
+is_brought st task turns invokes is =
+    turns_bring st task (new_user task) turns refl invokes (new_fine task invokes) refl is

@@ -10,6 +10,7 @@ use Rattle.link_model.specs.Calls.{octets_heard}
 use Rattle.octet_core.specs.Written.{Gains, GainsFront}
 use Rattle.octet_core.specs.Writing.{gains-append, gains_front-append}
 use Rattle.sle_numbers.specs.declared.service_type.ServiceType.{ServiceType}
+use Rattle.user_core.specs.declared.status.Status.{Status}
 use Rattle.user_core.specs.declared.status.Status.TheVariants as status
 use Rattle.user_core.specs.Course.{is_over}
 use Rattle.user_core.specs.Laws.{Turn, after_turns, octets_in, printed, LinesInOrder, PrintsStream}
@@ -21,7 +22,7 @@ use Rattle.user_show.specs.Ending.{EndsWith}
 use Rattle.user_show.specs.declared.ending.Ending.{Ending}
 use Rattle.user_show.specs.declared.ending.Ending.TheVariants as ending
 use Rattle.user_talk.specs.Closed.{TalkedTo}
-use Rattle.user_talk.specs.Closing.{line_of, ending_of}
+use Rattle.user_talk.specs.Closing.{line_of, ending_of, ending_by}
 use Rattle.user_talk.specs.Outbox.{left_in}
 use Rattle.user_talk.specs.Rounds.{TalkState, Round, begun, after_rounds, turns_of, lines_in}
 use Rattle.user_talk.specs.Running.{World, EndsBy, PrintsTo, Tail, tail_count, tail_lines}
@@ -31,7 +32,7 @@ use Rattle.user_talk.proofs.Handed.{in_order, its_turns}
 use Rattle.user_talk.proofs.Turned.{front_all}
 use Rattle.user_task.specs.declared.task.Task.{Task}
 use Rattle.user_task.specs.Work.{is_show, service_of}
-use Rattle.user_service.specs.Causes.{IsCaused}
+use Rattle.user_service.specs.Causes.{IsCaused, brings_in}
 use Rattle.user_service.specs.Streams.{Prints, BreaksOff, Streams}
 use Rattle.user_service.proofs.Answered.{done_is_answered}
 use Rattle.user_service.proofs.Came.{broken_turns, all_turns, all_calls, polls_counted, came_all}
@@ -245,20 +246,23 @@ prints_of in_order task turns octets ended invokes came going are =
 
 -- ---- why
 
+over_caused : (st : Status) (task : Task) (turns : List Turn)
+    → brings_in st (service_of task.work) (new_user task) turns ≡ true
+    → IsCaused (ending_by st) (service_of task.work) (new_user task) turns
+over_caused status.Done task turns is = is
+over_caused status.Refused task turns is = is
+over_caused status.BadMessage task turns is = is
+over_caused status.PeerEnded task turns is = is
+over_caused status.OutOfMemory task turns is = tt
+
 caused_by : (e : End) (task : Task) (rounds : List Round) (tail : Tail)
     → is_show task.work ≡ false → EndsBy e rounds tail (after_rounds (begun task) rounds)
     → IsCaused (ending_of e) (service_of task.work) (new_user task) (turns_of (begun task) rounds)
-caused_by (end.Over status.Done closed) task rounds tail invokes ends = tt
-caused_by (end.Over status.Refused closed) task rounds tail invokes ends =
-    is_brought status.Refused task (turns_of (begun task) rounds) invokes (λ e. cc)
-    (ap (λ (u : Standing). u.course.status) (sym (its_turns (begun task) rounds).user) ∙ ends.1.0)
-caused_by (end.Over status.BadMessage closed) task rounds tail invokes ends =
-    is_brought status.BadMessage task (turns_of (begun task) rounds) invokes (λ e. cc)
-    (ap (λ (u : Standing). u.course.status) (sym (its_turns (begun task) rounds).user) ∙ ends.1.0)
-caused_by (end.Over status.PeerEnded closed) task rounds tail invokes ends =
-    is_brought status.PeerEnded task (turns_of (begun task) rounds) invokes (λ e. cc)
-    (ap (λ (u : Standing). u.course.status) (sym (its_turns (begun task) rounds).user) ∙ ends.1.0)
-caused_by (end.Over status.OutOfMemory closed) task rounds tail invokes ends = tt
+caused_by (end.Over st closed) task rounds tail invokes ends =
+    over_caused st task (turns_of (begun task) rounds)
+    (is_brought st task (turns_of (begun task) rounds) invokes
+    (ap (λ (u : Standing). u.course.status) (sym (its_turns (begun task) rounds).user)
+    ∙ ends.1.0))
 caused_by end.Spent task rounds tail invokes ends = tt
 caused_by end.LinkFault task rounds tail invokes ends = tt
 caused_by end.WriteFault task rounds tail invokes ends = tt
