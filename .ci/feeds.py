@@ -10,6 +10,7 @@ checks passed.
 """
 import errno
 import os
+import re
 import socket
 import struct
 import subprocess
@@ -55,12 +56,14 @@ def reset(peer):
 
 
 def ended(name, running, place, lines, report):
-    """The rest of what a program tells, and how it ends; a report stands once for each answer that
-    is a fault."""
+    """The rest of what a program tells, and how it ends; a report stands once for a connection, for
+    its end, and for each answer that is a fault."""
     told, complaint = running.communicate(timeout=PATIENCE)
     check(name, (running.returncode, told.split(b"\n")[:-1]), (0, lines))
-    expected = [f"feed {place}: {text}".encode() for text in report]
-    check(f"{name}, report", complaint.split(b"\n")[:-1], expected)
+    expected = [f"feed {place}: {text}" for text in report]
+    # (the system chooses the front end's port)
+    found = re.sub(r"127\.0\.0\.1:\d+ (connected|ended)", r"PEER \1", complaint.decode())
+    check(f"{name}, report", found.split("\n")[:-1], expected)
 
 
 def lines_and_an_end():
@@ -76,7 +79,8 @@ def lines_and_an_end():
                     check("a whole line", running.stdout.readline(), b"frame\n")
         rest = [b"loss", b"production", b"mark", b"end", b"end"]
         ended(f"lines {name}", running, place,
-              rest if name == "in pieces" else [b"frame", *rest], [])
+              rest if name == "in pieces" else [b"frame", *rest],
+              ["PEER connected", "PEER ended behind line 6"])
 
 
 def resets():
@@ -91,7 +95,7 @@ def resets():
         reset(peer)
         check(f"a reset {name}, lines", told, [b"frame\n", b"loss\n"][:len(told)])
         ended(f"a reset {name}", running, place, [b"failed", b"failed"],
-              [f"line {line}: {text}" for text in broken])
+              ["PEER connected", *(f"line {line}: {text}" for text in broken)])
 
 
 def a_second_connection():
@@ -102,7 +106,8 @@ def a_second_connection():
         with peer_of(place) as second:
             check("a second connection is closed", second.recv(1), b"")
         first.sendall(MARK)
-    ended("behind a second connection", running, place, [b"mark", b"end", b"end"], [])
+    ended("behind a second connection", running, place, [b"mark", b"end", b"end"],
+          ["PEER connected", "PEER ended behind line 2"])
 
 
 def a_port_that_is_taken():

@@ -6,6 +6,7 @@ takes the real `rt try`.
 import os
 import shutil
 import signal
+import socket
 import subprocess
 import tempfile
 import time
@@ -104,7 +105,7 @@ class Copy:
 # ---- words
 
 OWN = [[b"help"], [b"--help"], [b"-h"], [b"--version"], [b"prove"]]
-COMMANDS = [b"drill", b"rehearse", b"init", b"list", b"explain", b"picture", b"run",
+COMMANDS = [b"drill", b"rehearse", b"init", b"list", b"explain", b"picture", b"run", b"stop", b"check",
             b"prove"]
 # words outside the launcher's own grammar, which the program refuses too
 OUTSIDE = [
@@ -414,6 +415,64 @@ def receiving(copy, check):
     check("a user's help", user(b"help", b"raf")[0], 0)
 
 
+def operating(copy, check):
+    """What an operator has besides `run`: where a station hears a stop, `stop`, and `check`."""
+    copy.forget()
+    shows = {"ECHOES": 'echo "[${STATION_STOP-none}]"'}
+    copy.run([b"prove", b"run"], given=shows)
+    words = [b"run", b"10", b"1", b"a", b"1", b"c", b"5101"]
+    for given, told in [({}, b"5199"), ({"STATION_STOP": "7"}, b"7"), ({"STATION_STOP": ""}, b"none")]:
+        output = copy.run(words, given=given)[1]
+        check(f"a run with {given}", output.split(b"\n")[0], b"[" + told + b"]")
+    shutil.rmtree((copy.top / PROGRAM.replace("provider_cli", "station_cli")).parent)
+    with socket.create_server(("127.0.0.1", 0)) as station:
+        port = {"STATION_STOP": str(station.getsockname()[1])}
+        operator = copy.start([b"stop"], port)
+        peer, _ = station.accept()
+        check("stop, what is asked", peer.recv(9), b"stop\n")
+        peer.sendall(b"stopping\n")
+        time.sleep(0.2)
+        check("stop, until the end", operator.poll(), None)
+        peer.close()
+        check("stop", (*operator.communicate(timeout=60), operator.returncode), (b"stopped\n", b"", 0))
+        operator = copy.start([b"stop"], port)
+        station.accept()[0].close()
+        told = operator.communicate(timeout=60)
+        check("stop, no answer", (told[0], b"no station" in told[1], operator.returncode), (b"", True, 1))
+    for given in [port, {"STATION_STOP": "x"}, {"STATION_STOP": ""}]:
+        status, output, errors = copy.run([b"stop"], given=given)
+        check(f"stop, {given}", (status, output, errors.count(b"\n")), (1, b"", 1))
+    checking(copy, check)
+    for line in [[b"stop", b"x"], [b"stop", b""], [b"check"], [b"check", b"x", b"y"], [b"Stop"]]:
+        check(f"launcher, refused {line}", copy.run(line), USAGE)
+    check("operating, files", copy.left(), [])
+
+
+def checking(copy, check):
+    """`check` has `drill` read a configuration as the head of a script."""
+    copy.forget()
+    echoes = 'cat >"$NOTES/script"; [ -z "$SITE" ] || echo "$SITE"; exit ${ENDS:-0}'
+    copy.run([b"prove"], given={"ECHOES": echoes})
+    file = copy.top / "a b.conf"
+    for text, script in [(b"", b""), (b"x\ny\n", b"x\ny\n"), (b"x\n\ny", b"x\n\ny\n"),
+                         (b"x\nend\ny\n", b"x\nend \ny\n"), (b"\xff end\n", b"\xff end\n")]:
+        file.write_bytes(text)
+        check(f"check {text}", copy.run([b"check", bytes(file)]), (0, b"valid\n", b""))
+        check(f"check {text}, script", copy.noted("script"), b"site\n" + script + b"end\n")
+    bad = {"SITE": "bad site 3 2", "ENDS": "4"}
+    status, output, errors = copy.run([b"check", bytes(file)], given=bad)
+    check("check, a bad line", (status, output), (4, b"bad site 2 2\n"))
+    check("check, its words", (errors.count(b"\n"), b"line 2 of %s has too few" % bytes(file) in errors),
+          (1, True))
+    for code in [11, 70]:
+        status, output, errors = copy.run([b"check", bytes(file)], given={"ENDS": str(code)})
+        check(f"check, status {code}", (status, output, errors.count(b"\n")), (code, b"", 1))
+    file.unlink()
+    status, output, errors = copy.run([b"check", bytes(file)])
+    check("check, no file", (status, output, errors.count(b"can't be read")), (1, b"", 1))
+    copy.forget()
+
+
 def is_proved(copy):
     given = {"SAYS": ENDED, "OUTPUT": "unproved"}
     output = copy.run([b"drill"], given=given)[1]
@@ -567,8 +626,8 @@ def drive(launcher, run, check, outside):
             first = real.start([b"drill"], stdin=script)
         words(copy, run, check, outside)
         own_words(copy, check)
-        for part in (unproved, inputs, explaining, capturing, drawing, running, receiving, prove,
-                     sameness, failing_proofs, gate, signals):
+        for part in (unproved, inputs, explaining, capturing, drawing, running, receiving, operating,
+                     prove, sameness, failing_proofs, gate, signals):
             part(copy, check)
         output, errors = first.communicate(timeout=600)
         expected = run([b"drill"], (TOP / "examples/first-pass.script").read_bytes())[1]

@@ -57,6 +57,7 @@ user_lines Tag.number ->|user_lines Told invoke|user_lines Told name
 explain_cli Status.code ->|explain_lines StreamLine tag|explain_words put_name number
 explain_words put_why number|explain_words put_invoker invoke|explain_words put_performer invoke
 run_plan Ports.as_slice ->|run_plan Ports.push port|run_plan RunPlan feed|user_words Plan port
+run_host RunPlace stop|run_host tell_end exit
 run_command run ->|run_command RunStatus.code ->|run_command RunStatus cause
 user_show Ending.code ->|user_task Task.put invoke|user_core Event invoke|user_core Awaited invoke
 capture_cli Place connection|capture_cli Status.code ->|line_meaning Ending cause

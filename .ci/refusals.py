@@ -70,6 +70,21 @@ def said(launcher, name, words, status, wanted, provider, **more):
         check(f"{name}, {word}", word in found[2], True)
 
 
+def checks(launcher, path):
+    """`check` names the line of the configuration itself."""
+    for name, script, status, wanted in REFUSALS:
+        if status != 4:
+            continue
+        path.write_bytes(script.removeprefix(b"site\n").removesuffix(b"end\n"))
+        number = int(wanted[0].split()[1]) - 1
+        found = run([launcher, "check", path])
+        told = b"bad site %d %s\n" % (number, name.split()[1].encode())
+        check(f"check, {name}", found[:2], (4, told))
+        for word in [b"line %d of %s" % (number, bytes(path)), *wanted[1:]]:
+            check(f"check, {name}, {word}", word in found[2], True)
+    check("check, a site", run([launcher, "check", TOP / "examples/station.conf"]), (0, b"valid\n", b""))
+
+
 def refusals(provider, launcher):
     for name, script, status, wanted in REFUSALS:
         said(launcher, name, ["drill"], status, wanted, provider, text=script)
@@ -79,6 +94,7 @@ def refusals(provider, launcher):
         name = bytes(path)
         said(launcher, "a used path", ["init", path], 5, [name, b"isn't empty"], provider)
         said(launcher, "no archive", ["list", path], 5, [name, b"octet 4"], provider)
+        checks(launcher, pathlib.Path(folder) / "x.conf")
         said(launcher, "no file", ["list", folder + "/y"], 8, [b"/y", b"there"], provider)
     folder = os.open("/", os.O_RDONLY)
     said(launcher, "a read fault", ["drill"], 6, [b"can't be read"], provider, stdin=folder)

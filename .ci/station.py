@@ -4,275 +4,29 @@
 usage: station.py STATION PROVIDER USER
 
 Users bind, hear heartbeats, start deliveries, read their transfer buffers back and unbind; sixteen of
-them at once, one octet by octet; one resets its connection; one has telecommands radiated; two are
-the program USER. A front end feeds frames meanwhile. What a user was handed is compared with what
-was fed, and so is what `list` of the provider shows afterwards. The octets of the other users'
-messages are spelled here by hand, from the standards. The last line says how many checks passed.
+them at once, of timely, complete and offline instances, of channels and of telecommands: one of them
+octet by octet, one that doesn't read, one that resets its connection. Two more are the program USER. A
+front end feeds frames meanwhile. What a user was handed is compared with what was fed, and so is what
+`list` of the provider shows afterwards. An operator asks the station to stop, in the midst of it all,
+and reads its log. The octets of the other users' messages are spelled here by hand, from the
+standards. The last line says how many checks passed.
 """
 import os
+import re
 import socket
-import struct
 import subprocess
 import sys
 import tempfile
 import threading
 import time
 
+from control_centre import (BACKLOG, END_OF_DATA, HEARTBEAT, PATIENCE, Station, User, cds, channel, check,
+                            cltu_start, elements, frame, instance, integer, items, of_frames, programs,
+                            site, start, started, stop, stopped, told_at, told_counts, transfer)
+
 TOP = os.path.dirname(os.path.dirname(os.path.abspath(__file__)))
 STATION, PROVIDER, USER = map(os.path.abspath, sys.argv[1:])
-# How many seconds a user waits for anything.
-PATIENCE = 60
-TURNS = "100000000"
-
-passed = failed = 0
-lock = threading.Lock()
-
-
-def check(name, found, expected):
-    global passed, failed
-    with lock:
-        if found == expected:
-            passed += 1
-        else:
-            failed += 1
-            print(f"station: {name}: found {found!r:.400}, expected {expected!r:.400}")
-
-
-# ---- messages, after CCSDS 913.1-B (transport), 911.1-B (RAF), 912.1-B (FCLTU) and X.690
-
-def tlv(tag, content):
-    size = len(content)
-    if size < 128:
-        length = bytes([size])
-    else:
-        octets = size.to_bytes((size.bit_length() + 7) // 8, "big")
-        length = bytes([128 + len(octets)]) + octets
-    return bytes.fromhex(tag) + length + content
-
-
-def integer(value):
-    return tlv("02", value.to_bytes(value.bit_length() // 8 + 1, "big", signed=True))
-
-
-UNUSED = bytes.fromhex("8000")
-ATTRIBUTES = {"sagr": 52, "spack": 53, "rsl-fg": 38, "raf": 22, "fsl-fg": 14, "cltu": 7}
-
-
-def message(pdu):
-    return struct.pack(">B3xI", 1, len(pdu)) + pdu
-
-
-def context(interval, factor):
-    return struct.pack(">B3xI", 2, 12) + b"ISP1" + struct.pack(">3xBHH", 1, interval, factor)
-
-
-HEARTBEAT = struct.pack(">B3xI", 3, 0)
-
-
-def identifier(text):
-    names = b""
-    for part in text.split("."):
-        name, value = part.split("=")
-        oid = tlv("06", bytes([43, 112, 4, 3, 1, 2, ATTRIBUTES[name]]))
-        names += tlv("31", tlv("30", oid + tlv("1a", value.encode())))
-    return tlv("30", names)
-
-
-def bind(name, instance, service=0):
-    return message(tlv("bf64", UNUSED + tlv("1a", name.encode()) + tlv("1a", b"PORT1")
-                       + integer(service) + integer(5) + identifier(instance)))
-
-
-def start(invoke, first=None, last=None):
-    def moment(time):
-        return UNUSED if time is None else tlv("a1", tlv("80", time))
-    return message(tlv("a0", UNUSED + integer(invoke) + moment(first) + moment(last) + integer(2)))
-
-
-def stop(invoke):
-    return message(tlv("a2", UNUSED + integer(invoke)))
-
-
-def cltu_start(first):
-    return message(tlv("a0", UNUSED + integer(0) + integer(first)))
-
-
-def transfer(number, octets):
-    """A CLTU without a window, of whose radiation its user wants to be told."""
-    return message(tlv("aa", UNUSED + integer(0) + integer(number) + UNUSED + UNUSED + integer(0)
-                       + integer(0) + tlv("04", octets)))
-
-
-UNBIND = message(tlv("bf66", UNUSED + integer(0)))
-BOUND = message(tlv("bf65", UNUSED + tlv("1a", b"STATION") + tlv("80", b"\5")))
-UNBOUND = message(tlv("bf67", UNUSED + UNUSED))
-
-
-def started(invoke):
-    return message(tlv("a1", UNUSED + integer(invoke) + UNUSED))
-
-
-def stopped(invoke):
-    return message(tlv("a3", UNUSED + integer(invoke) + UNUSED))
-
-
-def elements(octets):
-    """The tags and contents of the elements that stand one behind the other."""
-    while octets:
-        size, place = octets[1], 2
-        if size >= 128:
-            place += size - 128
-            size = int.from_bytes(octets[2:place], "big")
-        yield octets[0], octets[place:place + size]
-        octets = octets[place + size:]
-
-
-def cds(number):
-    return struct.pack(">HIH", 20000, number, 0)
-
-
-def frame(number):
-    """Frame number `number` of a pass, as a line of a feed."""
-    return f"frame 20000/{number}/0 0 41 0 {(b'pass' + bytes([number % 256]) * 40).hex()}\n"
-
-
-def items(pdu):
-    """The items of a transfer buffer: of a frame its time, continuity and octets."""
-    [(tag, content)] = elements(pdu)
-    if tag != 0xa8:
-        return [pdu]
-    told = []
-    for kind, item in elements(content):
-        if kind == 0xa0:
-            _, (_, time), _, (_, continuity), _, _, (_, octets) = elements(item)
-            told.append((time, int.from_bytes(continuity, "big", signed=True), octets))
-        else:
-            told.append(item)
-    return told
-
-
-def of_frames(numbers):
-    return [(cds(number), 0 if place else -1, b"pass" + bytes([number % 256]) * 40)
-            for place, number in enumerate(numbers)]
-
-
-END_OF_DATA = [bytes.fromhex("80008300")]
-
-
-# ---- a user
-
-class User:
-    def __init__(self, port):
-        began = time.time()
-        while True:
-            try:
-                self.peer = socket.create_connection(("127.0.0.1", port), timeout=PATIENCE)
-                break
-            except ConnectionRefusedError:
-                if time.time() > began + PATIENCE:
-                    raise
-                time.sleep(0.02)
-        self.peer.setsockopt(socket.IPPROTO_TCP, socket.TCP_NODELAY, 1)
-
-    def say(self, *messages, one_by_one=False):
-        octets = b"".join(messages)
-        for piece in [octets[k:k + 1] for k in range(len(octets))] if one_by_one else [octets]:
-            self.peer.sendall(piece)
-
-    def octets(self, count):
-        heard = b""
-        while len(heard) < count:
-            piece = self.peer.recv(count - len(heard))
-            if not piece:
-                raise EOFError
-            heard += piece
-        return heard
-
-    def hear(self):
-        head = self.octets(8)
-        return head + self.octets(int.from_bytes(head[4:], "big"))
-
-    def answer(self):
-        """The next message that is no heartbeat."""
-        while True:
-            heard = self.hear()
-            if heard != HEARTBEAT:
-                return heard
-
-    def frames(self, count):
-        """Items of buffers, until so many have come."""
-        told = []
-        while len(told) < count:
-            told += items(self.answer()[8:])
-        return told
-
-    def end(self):
-        try:
-            return self.hear()
-        except EOFError:
-            return b""
-
-    def bound(self, name, who, instance, interval=30, one_by_one=False, service=0):
-        self.say(context(interval, 5), bind(who, instance, service), one_by_one=one_by_one)
-        check(f"{name}: bound", self.answer(), BOUND)
-
-    def unbind(self, name):
-        self.say(UNBIND)
-        check(f"{name}: unbound", self.answer(), UNBOUND)
-        check(f"{name}: the end of the stream", self.end(), b"")
-        self.peer.close()
-
-
-# ---- a station
-
-def free_ports(count):
-    held = [socket.create_server(("127.0.0.1", 0)) for _ in range(count)]
-    ports = [one.getsockname()[1] for one in held]
-    for one in held:
-        one.close()
-    return ports
-
-
-def instance(kind, number):
-    return f"sagr=1.spack=P.rsl-fg=1.raf={kind}{number}"
-
-
-def site(doors):
-    lines = ["heartbeat 1 3600 2 100", "peer MOC none sha1 60 000000000000"]
-    for number in range(1, doors + 1):
-        lines.append(f"raf {instance('onlc', number)} MOC complete 3 1 60")
-    lines.append(f"raf {instance('offl', 1)} MOC offline 4 0 60")
-    return "\n".join(lines) + "\n"
-
-
-class Station:
-    def __init__(self, folder, doors, links, configuration=None, turns=TURNS, made=True):
-        self.path = os.path.join(folder, "archive")
-        if made and not os.path.exists(self.path):
-            subprocess.run([PROVIDER, "init", self.path], check=True, stdout=subprocess.DEVNULL)
-        self.feed, *self.ports = free_ports(doors + 1)
-        words = [turns, str(links), self.path, str(self.feed), os.path.join(folder, "cltus")]
-        self.process = subprocess.Popen([STATION, *words, *map(str, self.ports)],
-                                        stdin=subprocess.PIPE, stdout=subprocess.PIPE,
-                                        stderr=subprocess.PIPE)
-        try:
-            self.process.stdin.write((configuration or site(doors)).encode())
-            self.process.stdin.close()
-        except BrokenPipeError:
-            # (it ended before it read)
-            pass
-        self.process.stdin = None
-
-    def front_end(self):
-        return User(self.feed).peer
-
-    def ended(self, name, status, lines):
-        told, complaint = self.process.communicate(timeout=PATIENCE)
-        check(name, (self.process.returncode, told.decode().split("\n")[:-1]), (status, lines))
-        return complaint.decode()
-
-    def listed(self):
-        return subprocess.run([PROVIDER, "list", self.path], capture_output=True).stdout.decode()
+programs.update(station=STATION, provider=PROVIDER)
 
 
 def one_user(folder):
@@ -284,8 +38,10 @@ def one_user(folder):
     front_end = station.front_end()
     front_end.close()
     user.unbind("one user")
-    station.ended("one user's run", 0, ["stored 0", "radiated 0", "door 1 links 1"])
+    log = station.ended("one user's run", 0, ["stored 0", "radiated 0", "door 1 links 1"])
     check("nothing listed", station.listed(), "")
+    check("one user's log", station.log_at(log, 1), ["USER connected", "USER ended: unbound"])
+    check("its source's log", station.log_at(log, None), ["USER connected", "USER ended behind line 0"])
 
 
 def deliveries(folder):
@@ -315,55 +71,165 @@ def deliveries(folder):
     front_end.close()
     user = User(station.ports[0])
     user.bound("reset", "MOC", instance("onlc", 1))
-    user.peer.setsockopt(socket.SOL_SOCKET, socket.SO_LINGER, struct.pack("ii", 1, 0))
-    user.peer.close()
+    user.reset()
     station.ended("the run of deliveries", 0, ["stored 11", "radiated 0", "door 1 links 3"])
     check("what was fed is listed", station.listed(),
           "".join(map(frame, range(10))) + "mark 20000/9/0\n")
 
 
-def crowd(folder):
-    """Sixteen users at once, who hear all that is fed meanwhile."""
-    station = Station(folder, 16, 1)
-    ready = threading.Barrier(17, timeout=PATIENCE)
-
-    def user_at(number):
-        name = f"user {number}"
-        try:
-            user = User(station.ports[number - 1])
-            user.bound(name, "MOC", instance("onlc", number), one_by_one=number == 1)
-            user.say(start(number), one_by_one=number == 1)
-            check(f"{name}: started", user.answer(), started(number))
-            ready.wait()
-            check(f"{name}: what was fed", user.frames(30), of_frames(range(30)))
-            user.say(stop(20))
-            check(f"{name}: stopped", user.answer(), stopped(20))
-            user.unbind(name)
-        except Exception as error:
-            check(name, repr(error), None)
-
-    users = [threading.Thread(target=user_at, args=[number]) for number in range(1, 17)]
-    for user in users:
-        user.start()
-    ready.wait()
-    with station.front_end() as front_end:
-        for number in range(30):
-            front_end.sendall(frame(number).encode())
-            time.sleep(0.01)
-    for user in users:
-        user.join()
-    station.ended("the run of a crowd", 0, ["stored 30", "radiated 0"]
-                  + [f"door {number} links 1" for number in range(1, 17)])
-    check("what a crowd heard is listed", station.listed(), "".join(map(frame, range(30))))
-
-
+CHANNELS = "sagr=1.spack=P.rsl-fg=1.rcf=onlc%d"
 COMMANDS = "sagr=1.spack=P.fsl-fg=1.cltu=cltu1"
+# How many frames a crowd is fed, of how many octets.
+MANY, LONG = 120, 30_000
 
 
-def told_at(pdu, place):
-    """The tag and content of an element of a PDU."""
-    [(_, content)] = elements(pdu)
-    return list(elements(content))[place]
+def crowd_site():
+    lines = ["heartbeat 1 3600 2 100", "peer MOC none sha1 60 000000000000"]
+    lines += [f"raf {instance('onlt', number)} MOC timely 2 1 60" for number in range(4)]
+    lines += [f"raf {instance('onlc', number)} MOC complete 3 1 60" for number in range(6)]
+    lines += [f"raf {instance('offl', number)} MOC offline 4 0 60" for number in range(3)]
+    lines += [f"rcf {CHANNELS % number} MOC complete 3 1 60 171/0/{number}" for number in range(2)]
+    lines.append(f"cltu {COMMANDS} MOC 100000 100 60")
+    return "\n".join(lines) + "\n"
+
+
+def long_frame(number):
+    """The octets of a frame of one of two virtual channels of a spacecraft."""
+    return (171 << 4 | number % 2 << 1).to_bytes(2, "big") + bytes([number]) * (LONG - 2)
+
+
+def long_items(numbers):
+    return [(cds(number), 0 if place else -1, long_frame(number))
+            for place, number in enumerate(numbers)]
+
+
+class Visitor:
+    """A user of a crowd, on a thread of its own: it binds and starts, waits until all have, hears what
+    it asked for, and unbinds or is left bound."""
+
+    def __init__(self, name, instance, numbers, begin, stays, service=0):
+        self.name, self.instance, self.numbers, self.begin = name, instance, numbers, begin
+        self.stays, self.service, self.user = stays, service, None
+
+    def come(self, port, ready):
+        try:
+            self.user = User(port)
+            by_one = self.name == "complete 1"
+            self.user.bound(self.name, "MOC", self.instance, one_by_one=by_one,
+                            service=self.service)
+            self.user.say(self.begin, one_by_one=by_one)
+            check(f"{self.name}: started", self.user.answer()[8], 0xa1)
+            ready.wait()
+            self.hear()
+            if not self.stays:
+                self.user.say(stop(900))
+                check(f"{self.name}: stopped", self.user.answer(), stopped(900))
+                self.user.unbind(self.name)
+        except Exception as error:
+            check(self.name, repr(error), None)
+
+    def hear(self):
+        told = self.user.frames(len(self.numbers))
+        check(f"{self.name}: what was fed", told == long_items(self.numbers), True)
+
+
+class TimelyVisitor(Visitor):
+    """It hears all frames in order, or a notice where some were discarded."""
+
+    def hear(self):
+        last, noticed, right = -1, False, True
+        while last < MANY - 1:
+            for item in items(self.user.answer()[8:]):
+                if item == BACKLOG:
+                    noticed = True
+                    continue
+                number = int.from_bytes(item[0][2:6], "big")
+                right &= item[2] == long_frame(number) and number > last
+                right &= noticed or number == last + 1
+                last, noticed = number, False
+        check(f"{self.name}: all, or a notice", right, True)
+
+
+class OfflineVisitor(Visitor):
+    """It waits for the end of its span."""
+
+    def hear(self):
+        super().hear()
+        check(f"{self.name}: the end", items(self.user.answer()[8:]), END_OF_DATA)
+
+
+class CommandVisitor(Visitor):
+    """It has telecommands queued and radiated."""
+
+    def hear(self):
+        self.user.say(*(transfer(number, bytes([0xaa, number])) for number in range(9)))
+        tags = [self.user.answer()[8] for _ in range(9 + 9 + 1)]
+        check(f"{self.name}: returns", tags.count(0xab), 9)
+
+
+def visitors():
+    every = list(range(MANY))
+    for number in range(3):
+        yield TimelyVisitor(f"timely {number}", instance("onlt", number), every, start(1), number > 1)
+    for number in range(4):
+        yield Visitor(f"complete {number}", instance("onlc", number), every, start(1), number > 2)
+    for number in range(3):
+        yield OfflineVisitor(f"offline {number}", instance("offl", number), every,
+                             start(1, cds(0), cds(MANY - 1)), number > 1)
+    for number in range(2):
+        yield Visitor(f"channel {number}", CHANNELS % number, every[number::2],
+                      start(1, what=channel(171, number)), number > 0, 2)
+    yield CommandVisitor("telecommands", COMMANDS, [], cltu_start(0), True, 16)
+
+
+def crowd(folder):
+    """Sixteen users at once, of every service, until an operator stops the station."""
+    station = Station(folder, 16, 2, configuration=crowd_site(), stops=True)
+    users = list(visitors())
+    ready = threading.Barrier(len(users) + 1, timeout=PATIENCE)
+    threads = [threading.Thread(target=user.come, args=[port, ready])
+               for user, port in zip(users, station.ports)]
+    for thread in threads:
+        thread.start()
+    # two that read nothing, and one that resets its connection while it is handed frames
+    others = []
+    for kind, number, port in [("onlc", 4, 13), ("onlt", 3, 14), ("onlc", 5, 15)]:
+        other = User(station.ports[port], room=4096)
+        other.bound(f"{kind} {number}", "MOC", instance(kind, number))
+        other.say(start(1))
+        others.append(other)
+    ready.wait()
+    front_end = station.front_end()
+    for number in range(MANY):
+        front_end.sendall(f"frame 20000/{number}/0 0 41 0 {long_frame(number).hex()}\n".encode())
+        if number == MANY // 2:
+            others[2].reset()
+    front_end.sendall(f"mark 20000/{MANY}/0\n".encode())
+    for thread in threads:
+        thread.join()
+    again = User(station.ports[15])
+    again.bound("after a reset", "MOC", instance("onlc", 5))
+    began = time.time()
+    station.stop("a crowd")
+    check("a stop is soon", time.time() - began < 20, True)
+    for user in [*(it.user for it in users if it.stays), again]:
+        check("a user that is bound hears the end", user.end(), b"")
+    log = station.ended("the run of a crowd", 0, [f"stored {MANY + 1}", "radiated 9"]
+                        + [f"door {number} links {1 + (number == 16)}" for number in range(1, 17)])
+    listed = station.listed()
+    check("what a crowd heard is listed", listed == "".join(
+        f"frame 20000/{number}/0 0 41 0 {long_frame(number).hex()}\n" for number in range(MANY))
+        + f"mark 20000/{MANY}/0\n", True)
+    for place, user in enumerate(users, 1):
+        end = "stopped, the user closed the connection" if user.stays else "unbound"
+        check(f"{user.name}: log", station.log_at(log, place), ["USER connected", f"USER ended: {end}"])
+    stopped_by = r"USER ended: stopped, (the user closed the connection|the connection broke)"
+    for place in (14, 15):
+        check("a log of one that doesn't read", [bool(re.fullmatch(stopped_by, line))
+              for line in station.log_at(log, place)], [False, True])
+    check("a log of a reset", station.log_at(log, 16),
+          ["USER connected", "USER ended: the connection broke", "USER connected",
+           "USER ended: stopped, the user closed the connection"])
 
 
 def commands(folder):
@@ -467,6 +333,64 @@ def again(folder):
     check("both runs are listed", station.listed(), "".join(map(frame, range(6))))
 
 
+def stops(folder):
+    """An operator stops a station at which nothing happens, and one whose source comes again."""
+    def at(name):
+        place = os.path.join(folder, name)
+        os.mkdir(place)
+        return place
+
+    station = Station(at("idle"), 3, 5, stops=True)
+    # (it listens to all before it hears a stop)
+    stranger, silent = User(station.stop_port), User(station.stop_port)
+    stranger.say(b"halt\n")
+    check("another word at the stop's port", stranger.end(), b"")
+    operator = User(station.stop_port)
+    check("who is silent makes room", silent.end(), b"")
+    for piece in [b"st", b"o", b"p\n"]:
+        operator.say(piece)
+        time.sleep(0.03)
+    check("a stop in pieces", operator.octets(9), b"stopping\n")
+    check("the end of a station", operator.end(), b"")
+    log = station.ended("the run of an idle station", 0,
+                        ["stored 0", "radiated 0", *(f"door {number} links 0" for number in (1, 2, 3))])
+    check("an idle station's log", log, ["stop: asked for by USER"])
+    # a source that ends is followed by the next one, and a stop leaves no line that came whole
+    station = Station(at("sources"), 1, 1, stops=True)
+    for numbers in [range(2), range(2, 5)]:
+        front_end = station.front_end()
+        front_end.sendall("".join(map(frame, numbers)).encode())
+        front_end.close()
+    front_end = station.front_end()
+    front_end.sendall((frame(5) + frame(6)[:-3]).encode())
+    user = User(station.ports[0])
+    user.bound("sources", "MOC", instance("onlc", 1))
+    user.say(start(1))
+    check("sources: started", user.answer(), started(1))
+    front_end.sendall((frame(6)[-3:] + frame(7)[:-1]).encode())
+    # (what came before the START isn't handed over)
+    last = user.frames(1)[-1]
+    while last[2] != of_frames([6])[0][2]:
+        last = user.frames(1)[-1]
+    check("sources: what was fed last", last[0], cds(6))
+    station.stop("sources")
+    log = station.ended("the run of sources", 0, ["stored 7", "radiated 0", "door 1 links 1"])
+    check("all sources are listed", station.listed(), "".join(map(frame, range(7))))
+    check("the sources' log", station.log_at(log, None),
+          ["USER connected", "USER ended behind line 2", "USER connected", "USER ended behind line 3",
+           "USER connected"])
+    with socket.create_server(("127.0.0.1", 0)) as other:
+        port = str(other.getsockname()[1])
+        station = Station(at("taken"), 1, 1, stops=True, given={"STATION_STOP": port})
+        log = station.ended("a stop's port that is taken", 6, ["read fault"])
+        check("its log", log, [f"stop 127.0.0.1:{port}: address in use"])
+    for given in [{"STATION_STOP": "0"}, {"STATION_STOP": "x"}, {"STATION_ADDRESS": "here"}]:
+        words = ["10", "1", station.path, "1", os.path.join(folder, "cltus"), "2"]
+        found = subprocess.run([STATION, *words], capture_output=True, stdin=subprocess.DEVNULL,
+                               env={**os.environ, **given})
+        check(f"environment {given}", (found.returncode, found.stdout), (2, b"usage\n"))
+
+
 def refusals(folder):
     def at(name):
         place = os.path.join(folder, name)
@@ -501,21 +425,20 @@ def refusals(folder):
     user.say(stop(2))
     check("a feed at fault: stopped", user.answer(), stopped(2))
     user.unbind("a feed at fault")
-    report = station.ended("a feed at fault", 6,
-                           ["stored 1", "radiated 0", "door 1 links 1", "read fault"])
-    check("its report", report, f"feed 127.0.0.1:{station.feed}: line 2: invalid data\n")
+    log = station.ended("a feed at fault", 6,
+                        ["stored 1", "radiated 0", "door 1 links 1", "read fault"])
+    check("its report", station.log_at(log, None), ["USER connected", "line 2: invalid data"])
     for words in [[], ["10", "1", "a", "1", "b"], ["9", "1", "a", "1", "b", "2"],
                   ["10", "0", "a", "1", "b", "2"], ["10", "1", "a", "0", "b", "2"],
                   ["10", "1", "a", "1", "b", "65536"], ["10", "1", "a", "1", "b", *["2"] * 17]]:
-        found = subprocess.run([STATION, *words], capture_output=True, stdin=subprocess.DEVNULL)
+        found = subprocess.run([programs["station"], *words], capture_output=True, stdin=subprocess.DEVNULL)
         check(f"words {words}", (found.returncode, found.stdout), (2, b"usage\n"))
 
 
-for part in [one_user, deliveries, crowd, commands, receiving, commanding, again, refusals]:
+for part in [one_user, deliveries, crowd, stops, commands, receiving, commanding, again, refusals]:
     with tempfile.TemporaryDirectory() as folder:
         try:
             part(folder)
         except Exception as error:
             check(part.__name__, repr(error), None)
-print(f"station: {passed} checks passed, {failed} failed")
-sys.exit(failed > 0)
+sys.exit(told_counts())

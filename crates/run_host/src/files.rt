@@ -3,6 +3,7 @@
 use antenna_file::FileAntenna;
 use disk_model::FileDisk;
 use octet_core::Octets;
+use operator_side::{Stamped, report};
 use run_plan::RunPlan;
 use std::io::ErrorKind;
 use std::{io, str};
@@ -16,13 +17,28 @@ pub struct RunFiles {
     pub antenna: FileAntenna,
 }
 
-/// Opens the files that a plan names: the archive's, which has to be there, and the antenna's, which
-/// is made where there is none.
+/// Opens the files that a plan names: the archive's, which has to be there, and the antenna's,
+/// which is made where there is none. What can't be opened is told on standard error.
 pub fn open_files(files: &HostRuntime, plan: &RunPlan) -> io::Result<RunFiles> {
+    let (archive, cltus) = (text_of(&plan.path)?, text_of(&plan.antenna)?);
     Ok(RunFiles {
-        disk: FileDisk::open(files, text_of(&plan.path)?)?,
-        antenna: FileAntenna::open(files, text_of(&plan.antenna)?)?,
+        disk: told(files, "archive", archive, FileDisk::open(files, archive))?,
+        antenna: told(files, "CLTUs", cltus, FileAntenna::open(files, cltus))?,
     })
+}
+
+// An opening, which is told where it failed.
+fn told<T: Drop>(
+    files: &HostRuntime,
+    what: &str,
+    path: &str,
+    opened: io::Result<T>,
+) -> io::Result<T> {
+    if let Err(error) = &opened {
+        let line = format!(in files.alloc(); "{what} {path}: {error}\n");
+        report(&mut Stamped::new(files, files.alloc()), line);
+    }
+    opened
 }
 
 // A path as a text, which it was on the command line.

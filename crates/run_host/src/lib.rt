@@ -1,14 +1,22 @@
 // `run` over what the machine has: the archive's file, doors and a source of entries over TCP, an
 // antenna over a file, and the machine's clock.
 //
-// `open_files` opens the files that a plan names, and `run_over` makes everything else and runs the
-// command. Doors listen at every address of the machine, and the source of entries at the loopback
-// alone. What fails at a socket is told on standard error.
+// `open_files` opens the files that a plan names, `RunPlace` is what the environment says of where
+// the station listens, and `run_over` makes everything else and runs the command. Doors listen at
+// the place's address, and the source of entries at the loopback alone. Connections, how they ended
+// and what fails are told on standard error, a line each with its time.
+//
+// Where the place has a port for that, a stop is asked for there. Then the doors give no further
+// link, the links that are out and the source come to an end, and so the run does. The antenna's
+// worker looks, at each reading of its clock: it is the last one to go, and rests for milliseconds
+// alone.
 #![tactic(auto)]
 
 mod files;
 mod host;
-mod reporter;
+mod place;
+mod watching;
 
 pub use files::{RunFiles, open_files};
-pub use host::run_over;
+pub use host::{run_over, tell_end};
+pub use place::RunPlace;

@@ -1,15 +1,16 @@
 // A ground station that serves users over TCP.
 //
 // The words are `TURNS LINKS PATH FEED ANTENNA PORT..` (`run_plan`), and the standard input is the
-// station's configuration. Other words are `usage`, exit code 2. `run_host` has the sockets and
-// files, and `run_command` says what is written and which exit code a run ends with.
+// station's configuration. Other words, and an environment out of form (`RunPlace`), are `usage`,
+// exit code 2. `run_host` has the sockets and files, and `run_command` says what is written and
+// which exit code a run ends with.
 #![tactic(auto)]
 
 ghost use Rattle.std.specs.Prelude.{IfOk, IfSome};
 ghost use Rattle.run_plan.specs.RunPlan.{IsInRange};
 
 use octet_core::{ReaderSource, Sink, WriterSink};
-use run_host::{open_files, run_over};
+use run_host::{RunPlace, open_files, run_over, tell_end};
 use run_plan::RunPlan;
 use std::alloc::{AllocError, Global};
 use std::env::Args;
@@ -27,13 +28,27 @@ const MEMORY: u8 = 70;
 fn main(rt: HostRuntime) -> ExitCode {
     let mut input = ReaderSource::new(rt.reader());
     let mut output = WriterSink::new(io::writer(&rt));
-    let exit = match plan_of(rt.alloc(), env::args(&rt)) {
-        Ok(Some(plan)) => match open_files(&rt, &plan) {
-            Ok(files) => run_over(&rt, rt.alloc(), &plan, files, &mut input, &mut output),
-            Err(_) => tell(b"disk fault\n", DISK_FAULT, &mut output),
-        },
-        Ok(None) => tell(b"usage\n", USAGE, &mut output),
-        Err(_) => MEMORY,
+    let exit = match (plan_of(rt.alloc(), env::args(&rt)), RunPlace::read(&rt)) {
+        (Ok(Some(plan)), Some(place)) => {
+            let exit = match open_files(&rt, &plan) {
+                Ok(files) => {
+                    run_over(
+                        &rt,
+                        rt.alloc(),
+                        &plan,
+                        place,
+                        files,
+                        &mut input,
+                        &mut output,
+                    )
+                }
+                Err(_) => tell(b"disk fault\n", DISK_FAULT, &mut output),
+            };
+            tell_end(&rt, rt.alloc(), exit);
+            exit
+        }
+        (Err(_), _) => MEMORY,
+        _ => tell(b"usage\n", USAGE, &mut output),
     };
     ExitCode::from(exit)
 }

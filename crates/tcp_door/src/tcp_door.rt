@@ -1,29 +1,28 @@
 // A door over a TCP listener.
 ghost use Rattle.std.specs.Prelude.{◌≡◌, false};
 
+use crate::door_link::DoorLink;
+use crate::doorway::Doorway;
+use crate::log::{connected, ended, failed};
 use door_model::{Door, Served};
 use octet_core::{Failed, Faults};
+use operator_side::{Stop, report};
 use std::alloc::Global;
-use std::io;
-use std::io::{ErrorKind, Write};
+use std::io::Write;
 use std::marker::Model;
 use std::net::{Net, SocketAddr, TcpListener, TcpStream};
 use std::time::Duration;
-use tcp_link::TcpLink;
 
-// How many connections that were gone before they were accepted are passed over in a call.
-const GONE_CONNECTIONS: u32 = 100;
-
-/// A door over a TCP listener. It shows nothing, and no call of it answers that no link comes.
+/// A door over a TCP listener. It shows nothing. It answers that no link comes only where its station
+/// is to stop.
 ///
-/// What fails is reported in a line of text.
+/// Each connection, how its serving ended, and what fails is reported in a line of text.
 #[derive(Drop)]
 pub struct TcpDoor<W: Write + Send + Drop> {
-    alloc: Global,
-    address: SocketAddr,
-    listener: io::Result<TcpListener>,
-    wait: Duration,
+    way: Doorway,
     reports: W,
+    // Where the last connection came from.
+    peer: SocketAddr,
     is_out: bool,
     faults: Faults,
 }
@@ -49,22 +48,30 @@ impl<W: Write + Send + Drop> TcpDoor<W> {
         ensures { result ≡ record { is_out = false; faults = 0 } }
     {
         TcpDoor {
-            alloc,
-            address,
-            listener: TcpListener::bind(rt, address),
-            wait,
+            way: Doorway {
+                alloc,
+                address,
+                listener: TcpListener::bind(rt, address),
+                wait,
+                stop: None,
+            },
             reports,
+            peer: address,
             is_out: false,
             faults: Faults::new(),
         }
     }
 
+    /// Has it end at this stop. A call that waits then looks once a connection wakes it.
+    pub fn end_at(&mut self, stop: Stop)
+        ensures { self.new ≡ self.old }
+    {
+        self.way.stop = Some(stop);
+    }
+
     /// Where it listens: with the system's port where it was told port 0.
     pub fn address(&self) -> SocketAddr {
-        match &self.listener {
-            Ok(listener) => listener.local_addr().unwrap_or(self.address),
-            Err(_) => self.address,
-        }
+        self.way.address()
     }
 
     /// How often a call has failed.
@@ -80,22 +87,10 @@ impl<W: Write + Send + Drop> TcpDoor<W> {
     }
 }
 
-// The next connection.
-fn accept(listener: &TcpListener) -> io::Result<TcpStream> {
-    for _ in 0..GONE_CONNECTIONS {
-        match listener.accept() {
-            Ok((stream, _)) => return Ok(stream),
-            Err(error) if error.kind() == ErrorKind::ConnectionAborted => {}
-            Err(error) => return Err(error),
-        }
-    }
-    Err(ErrorKind::ConnectionAborted.into())
-}
-
 impl<W: Write + Send + Drop> Door for TcpDoor<W> {
     ghost use Rattle.std.specs.Prelude.{None};
 
-    type Link = TcpLink;
+    type Link = DoorLink;
 
     ghost shown = { λ door. None };
 
@@ -105,33 +100,32 @@ impl<W: Write + Send + Drop> Door for TcpDoor<W> {
 
     /// Accepts the next connection, and waits for it. It fails where the address can't be had, the
     /// system accepts none, or memory for the link is refused, and reports why.
-    fn next_link(&mut self) -> Result<Option<TcpLink>, Failed> {
-        let (alloc, wait) = (self.alloc, self.wait);
-        let made = match &self.listener {
-            Ok(listener) => link_of(alloc, listener, wait),
-            Err(error) => Err(error.kind().into()),
-        };
-        match made {
-            Ok(link) => {
+    fn next_link(&mut self) -> Result<Option<DoorLink>, Failed> {
+        let (alloc, door) = (self.way.alloc, self.way.address);
+        match self.way.accept_link() {
+            Ok(Some((link, peer))) => {
                 self.is_out = true;
+                self.peer = peer;
+                report(&mut self.reports, connected(alloc, door, peer));
                 Ok(Some(link))
             }
+            Ok(None) => Ok(None),
             Err(error) => {
-                let address = self.address;
-                let _ = writeln!(self.reports, "door {address}: {error}");
+                report(&mut self.reports, failed(alloc, door, &error));
                 self.faults.fail()
             }
         }
     }
 
-    /// Has the link send what is left, and closes it.
-    fn give_back(&mut self, mut link: TcpLink, _served: Served) {
+    /// Has the link send what is left, closes it, and reports how its serving ended.
+    fn give_back(&mut self, mut link: DoorLink, served: Served) {
+        let (alloc, door, peer) = (self.way.alloc, self.way.address, self.peer);
+        let is_stopped = link.is_stopped();
         link.finish();
+        report(
+            &mut self.reports,
+            ended(alloc, door, peer, is_stopped, served),
+        );
         self.is_out = false;
     }
-}
-
-// A link over the next connection.
-fn link_of(alloc: Global, listener: &TcpListener, wait: Duration) -> io::Result<TcpLink> {
-    TcpLink::new(alloc, accept(listener)?, wait)
 }

@@ -5,6 +5,7 @@ ghost use Rattle.recorder.specs.Feeds.{IsValidFeed, is_failed};
 use drill_text::{LineFault, ScriptLine, parse_line};
 use memchr::memchr;
 use octet_core::Memory;
+use operator_side::Stop;
 use recorder::Feed;
 use std::alloc::Global;
 use std::io;
@@ -17,13 +18,19 @@ use std::net::{SocketAddr, TcpListener, TcpStream};
 // each, the word `frame` and a blank before each.
 const LONGEST_LINE: usize = 5 + 26 + 2 + 33 + 9 + 131_073 + 1;
 
-/// The lines of the first connection to a listener.
+/// The lines of the first connection to a listener, or of one after the other until a stop.
 #[derive(Drop)]
 pub struct Heard {
     alloc: Global,
     address: SocketAddr,
     listener: io::Result<TcpListener>,
+    stop: Option<Stop>,
     stream: Option<TcpStream>,
+    /// From where a connection came, and at which the stream ended, until these are told.
+    pub came: Option<SocketAddr>,
+    pub ended: Option<SocketAddr>,
+    // Where the connection came from.
+    peer: SocketAddr,
     // What came of the stream, from `taken` to `end`.
     octets: Vec<u8>,
     taken: usize,
@@ -59,7 +66,11 @@ impl Heard {
             alloc,
             address,
             listener,
+            stop: None,
             stream: None,
+            came: None,
+            ended: None,
+            peer: address,
             octets,
             taken: 0,
             end: 0,
@@ -67,6 +78,13 @@ impl Heard {
             is_broken: false,
             lines: 0,
         })
+    }
+
+    /// Has it end at this stop, and not where a stream does.
+    pub fn end_at(&mut self, stop: Stop)
+        ensures { self.new ≡ self.old }
+    {
+        self.stop = Some(stop);
     }
 
     /// Where it listens: with the system's port where it was told port 0.
@@ -92,9 +110,29 @@ impl Heard {
         match memchr(b'\n', &self.octets[self.taken..self.end]) {
             Some(size) => self.take_line(size),
             None if self.is_over && self.taken < self.end => self.take_line(self.end - self.taken),
-            None if self.is_over => Ok(Some(Feed::End)),
+            None if self.is_over => Ok(Some(self.end())),
+            None if self.is_stopped() => Ok(Some(Feed::End)),
             None => self.hear(),
         }
+    }
+
+    // Whether it is to stop.
+    fn is_stopped(&self) -> bool {
+        self.stop.as_ref().is_some_and(Stop::is_asked)
+    }
+
+    // What the end of a stream is: the end, or where that is a stop's, nothing yet. The next
+    // connection goes on then.
+    fn end(&mut self) -> Feed
+        ensures valid { IsValidFeed result }
+        ensures sound { is_failed result ≡ false }
+    {
+        if self.stop.is_none() {
+            return Feed::End;
+        }
+        self.stream = None;
+        self.is_over = false;
+        Feed::NotYet
     }
 
     // What a line of so many octets says. It is taken unless memory was refused or it is at fault.
@@ -133,7 +171,10 @@ impl Heard {
             return self.accept();
         };
         match stream.read(&mut self.octets[self.end..]) {
-            Ok(0) => self.is_over = true,
+            Ok(0) => {
+                self.is_over = true;
+                self.ended = Some(self.peer);
+            }
             Ok(count) => self.end += count,
             Err(error) if error.kind() == ErrorKind::Interrupted => {}
             Err(error) if error.kind() == ErrorKind::WouldBlock => {
@@ -166,9 +207,12 @@ impl Heard {
             Err(error) => return Err(error.kind().into()),
         };
         match listener.accept() {
-            Ok((stream, _)) => {
+            Ok((stream, peer)) => {
                 stream.set_nonblocking(true)?;
                 self.stream = Some(stream);
+                self.peer = peer;
+                self.came = Some(peer);
+                self.lines = 0;
                 Ok(None)
             }
             Err(error) if is_early(&error) => Ok(Some(Feed::NotYet)),

@@ -4,8 +4,9 @@ ghost use Rattle.recorder.specs.Feeds.{IsValidFeed, is_failed};
 
 use crate::heard::Heard;
 use octet_core::{Faults, Memory};
+use operator_side::{Stop, report};
 use recorder::{Feed, FrameSource};
-use std::alloc::Global;
+use std::alloc::{AllocError, Global};
 use std::io;
 use std::io::Write;
 use std::marker::Model;
@@ -18,12 +19,15 @@ const SKIPPED_LINES: u32 = 1_000;
 /// entry (`frame`, `loss`, `production` or `mark` of a script); empty lines and comments are passed
 /// over. Later connections are closed. It tells none of its answers.
 ///
-/// Before that connection and between lines nothing has come yet; the end of its stream is the end.
+/// Before that connection and between lines nothing has come yet; the end of its stream is the end,
+/// unless the source ends at a stop: then the next connection goes on, and the stop is the end,
+/// behind the lines that were read before.
 /// A port that can't be had, a connection that breaks, another line, and one that is longer than a
-/// frame of 65,536 octets needs, are faults: then it fails at each further call too. What fails is
-/// reported in a line of text.
+/// frame of 65,536 octets needs, are faults: then it fails at each further call too. Each
+/// connection, its end and what fails is reported in a line of text.
 #[derive(Drop)]
 pub struct TcpFeed<W: Write + Send + Drop> {
+    alloc: Global,
     heard: Heard,
     reports: W,
     faults: Faults,
@@ -49,10 +53,18 @@ impl<W: Write + Send + Drop> TcpFeed<W> {
         ensures { IfOk result (λ feed. feed ≡ record { faults = 0 }) }
     {
         Ok(TcpFeed {
+            alloc,
             heard: Heard::new(alloc, address, listen(rt, address))?,
             reports,
             faults: Faults::new(),
         })
+    }
+
+    /// Has it end at this stop, and go on with the next connection where one ends before.
+    pub fn end_at(&mut self, stop: Stop)
+        ensures { self.new ≡ self.old }
+    {
+        self.heard.end_at(stop);
     }
 
     /// Where it listens: with the system's port where it was told port 0.
@@ -96,6 +108,32 @@ fn next_of(heard: &mut Heard) -> io::Result<Feed>
     Ok(Feed::NotYet)
 }
 
+// Tells of a connection that came and of a stream that ended, of which none was told yet.
+fn tell<W: Write>(alloc: Global, heard: &mut Heard, reports: &mut W)
+    ensures { heard.new ≡ heard.old }
+{
+    if let Some(peer) = heard.came.take() {
+        let address = heard.address();
+        report(
+            reports,
+            format!(in alloc; "feed {address}: {peer} connected\n"),
+        );
+    }
+    if let Some(peer) = heard.ended.take() {
+        let (address, lines) = (heard.address(), heard.lines());
+        report(
+            reports,
+            format!(in alloc; "feed {address}: {peer} ended behind line {lines}\n"),
+        );
+    }
+}
+
+// Why a call failed.
+fn failed(alloc: Global, heard: &Heard, error: &io::Error) -> Result<String, AllocError> {
+    let (address, line) = (heard.address(), heard.lines().saturating_add(1));
+    format!(in alloc; "feed {address}: line {line}: {error}\n")
+}
+
 impl<W: Write + Send + Drop> FrameSource for TcpFeed<W> {
     ghost use Rattle.std.specs.Prelude.{None};
 
@@ -105,11 +143,12 @@ impl<W: Write + Send + Drop> FrameSource for TcpFeed<W> {
 
     /// The entry of the next line that says one, where it has come whole.
     fn next(&mut self) -> Feed {
-        match next_of(&mut self.heard) {
+        let answer = next_of(&mut self.heard);
+        tell(self.alloc, &mut self.heard, &mut self.reports);
+        match answer {
             Ok(feed) => feed,
             Err(error) => {
-                let (address, line) = (self.heard.address(), self.heard.lines().saturating_add(1));
-                let _ = writeln!(self.reports, "feed {address}: line {line}: {error}");
+                report(&mut self.reports, failed(self.alloc, &self.heard, &error));
                 let _ = self.faults.fail::<()>();
                 Feed::Failed
             }

@@ -1,5 +1,6 @@
 // A port that is taken, and a second connection.
 use crate::loopback::{answers, open};
+use operator_side::Stop;
 use recorder::{Feed, FrameSource};
 use std::io;
 use std::io::{Read, Write};
@@ -39,5 +40,24 @@ fn a_second_connection_is_closed(rt: HostRuntime) -> Result<(), Fail> {
     assert!(rt; left(&mut second)? == 0);
     first.write_all(b"mark 1/2/3\n")?;
     assert!(rt; matches!(feed.next(), Feed::Entry(_)));
+    Ok(())
+}
+
+// A stream's end isn't the source's, which goes on with the next connection until the stop, behind
+// the lines that were read.
+#[test]
+fn a_source_ends_at_a_stop(rt: HostRuntime) -> Result<(), Fail> {
+    let stop = Stop::new(rt.alloc())?;
+    let mut feed = open(&rt, rt.alloc(), "127.0.0.1:0".parse()?)?;
+    feed.end_at(stop.share()?);
+    for line in [b"mark 1/2/3\n", b"mark 1/2/4\n"] {
+        let mut peer = TcpStream::connect(&rt, feed.address())?;
+        peer.write_all(line)?;
+        drop(peer);
+        assert!(rt; matches!(feed.next(), Feed::Entry(_)));
+        assert!(rt; is_early(&mut feed));
+    }
+    stop.ask();
+    assert!(rt; matches!(feed.next(), Feed::End));
     Ok(())
 }

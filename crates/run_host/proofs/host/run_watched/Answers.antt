@@ -1,5 +1,5 @@
 use Rattle.std.proofs.Common.{◌≡◌, ap, arith, length}
-use Rattle.run_host.proofs.host.run_over.Goals as goal
+use Rattle.run_host.proofs.host.run_watched.Goals as goal
 
 pub run-exit-requires-clause-turns : goal.run-exit-requires-clause-turns
 run-exit-requires-clause-turns g c κs within =

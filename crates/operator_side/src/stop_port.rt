@@ -1,0 +1,110 @@
+// The port at which a stop is asked for.
+
+use std::io;
+use std::io::{ErrorKind, Read, Write};
+use std::net::{Net, SocketAddr, TcpListener, TcpStream};
+
+// What a connection sends to ask for a stop.
+const ASKED: &[u8] = b"stop\n";
+
+// What it hears then.
+const HEARD: &[u8] = b"stopping\n";
+
+/// The port at which a stop is asked for, by a connection that sends the line `stop`. It hears the
+/// line `stopping`, and is closed when this port is: by that it sees that all has ended.
+///
+/// A connection that sends something else is closed, and so is one that has asked for nothing yet
+/// when the next one comes.
+#[derive(Drop)]
+pub struct StopPort {
+    listener: TcpListener,
+    asking: Option<Asking>,
+    is_asked: bool,
+}
+
+// A connection, and what it has to send yet.
+#[derive(Drop)]
+struct Asking {
+    stream: TcpStream,
+    peer: SocketAddr,
+    left: &'static [u8],
+}
+
+impl StopPort {
+    /// A port that listens at this address from now on.
+    pub fn open<R: Net<Stream = TcpStream, Listener = TcpListener>>(
+        rt: &R,
+        address: SocketAddr,
+    ) -> io::Result<StopPort> {
+        let listener = TcpListener::bind(rt, address)?;
+        listener.set_nonblocking(true)?;
+        Ok(StopPort {
+            listener,
+            asking: None,
+            is_asked: false,
+        })
+    }
+
+    /// Looks, without waiting, and answers from where a stop was asked for, once.
+    pub fn look(&mut self) -> Option<SocketAddr> {
+        if self.is_asked {
+            return None;
+        }
+        self.accept();
+        let asking = self.asking.as_mut()?;
+        let peer = asking.peer;
+        match asking.hear() {
+            Ok(true) => {
+                self.is_asked = true;
+                Some(peer)
+            }
+            Ok(false) => None,
+            Err(_) => {
+                self.asking = None;
+                None
+            }
+        }
+    }
+
+    // Takes the next connection, if one has come.
+    fn accept(&mut self) {
+        let Ok((stream, peer)) = self.listener.accept() else {
+            return;
+        };
+        if stream.set_nonblocking(true).is_ok() {
+            self.asking = Some(Asking {
+                stream,
+                peer,
+                left: ASKED,
+            });
+        }
+    }
+}
+
+impl Asking {
+    // Hears what has come, and answers whether it asks for a stop.
+    fn hear(&mut self) -> io::Result<bool> {
+        let mut piece = [0; ASKED.len()];
+        let space = piece.len().min(self.left.len());
+        let count = match self.stream.read(&mut piece[..space]) {
+            Ok(0) => return Err(ErrorKind::UnexpectedEof.into()),
+            Ok(count) => count,
+            Err(error) if is_early(&error) => return Ok(false),
+            Err(error) => return Err(error),
+        };
+        match self.left.strip_prefix(&piece[..count]) {
+            Some(left) => self.left = left,
+            None => return Err(ErrorKind::InvalidData.into()),
+        }
+        if !self.left.is_empty() {
+            return Ok(false);
+        }
+        let _ = self.stream.write_all(HEARD);
+        Ok(true)
+    }
+}
+
+// Whether nothing has come yet.
+fn is_early(error: &io::Error) -> bool {
+    matches!(error.kind(), ErrorKind::WouldBlock | ErrorKind::Interrupted)
+}
