@@ -5,6 +5,9 @@ use Rattle.std.proofs.Common.{Some, None, List, [], ◌∷◌, ◌++◌, refl, s
 use Rattle.std.specs.List.{AllByRecursion}
 use Rattle.bind_pdu.specs.Binding.{bind}
 use Rattle.bind_pdu.specs.Unbinding.{unbind}
+use Rattle.fcltu_pdu.specs.Start.{start_pdu}
+use Rattle.fcltu_pdu.specs.Transfer.{transfer_pdu}
+use Rattle.isp1_tml.specs.Message.{spelling}
 use Rattle.return_pdu.specs.Starting.{raf_start, rcf_start}
 use Rattle.return_pdu.specs.Stopping.{stop}
 use Rattle.return_pdu.specs.Scheduling.{schedule}
@@ -17,26 +20,29 @@ use Rattle.drill_text.specs.Reading.{reading, forms}
 use Rattle.drill_text.specs.Script.{script_row, Behind, line_of, is_skipped}
 use Rattle.drill_text.specs.declared.ask_line.AskLine.{AskLine}
 use Rattle.drill_text.specs.declared.ask_line.AskLine.TheVariants.{Context, Bind, Unbind}
-use Rattle.drill_text.specs.declared.ask_line.AskLine.TheVariants.{StartRaf, StartRcf, Stop}
-use Rattle.drill_text.specs.declared.ask_line.AskLine.TheVariants.{Report, Get}
+use Rattle.drill_text.specs.declared.ask_line.AskLine.TheVariants.{StartRaf, StartRcf, StartCltu}
+use Rattle.drill_text.specs.declared.ask_line.AskLine.TheVariants.{Stop, Report, Get, Cltu}
 use Rattle.drill_text.specs.declared.script_form.ScriptForm.{ScriptForm}
 use Rattle.drill_text.specs.declared.script_form.ScriptForm.TheVariants.{In, Ask, Shut, Break}
 use Rattle.drill_text.specs.declared.script_form.ScriptForm.TheVariants.{Stall}
 use Rattle.drill_text.specs.declared.script_line.ScriptLine.{ScriptLine}
 use Rattle.drill_text.specs.declared.script_line.ScriptLine.TheVariants.{Skip}
+use Rattle.session_core.specs.Session.{AreOctets}
 use Rattle.station_config.specs.declared.site.Site.{Site}
 use Rattle.station_links.specs.Asked.{message_of, bind_asked, unbind_asked, start_asked}
-use Rattle.station_links.specs.Asked.{channel_asked, stop_asked, report_asked, get_asked}
+use Rattle.station_links.specs.Asked.{channel_asked, cltu_start_asked, stop_asked, report_asked}
+use Rattle.station_links.specs.Asked.{get_asked, cltu_asked}
 use Rattle.station_links.specs.Connected.{Connected}
 use Rattle.station_links.specs.Run.{Deed, BringsPieces}
 use Rattle.station_law.specs.Connections.{Life, life, life_by, at_door, deeds_at, deeds_by}
 use Rattle.station_law.specs.Connections.{orders_in, turns_of}
-use Rattle.station_law.specs.Doors.{Act, act_of, comes_whole, ordered}
+use Rattle.station_law.specs.Doors.{Act, act_of, ordered}
 use Rattle.station_law.specs.Lines.{step_read}
 use Rattle.station_law.specs.State.{State}
 use Rattle.provider_cli.proofs.PiecesSpelled.{bind_formed, unbind_formed, start_formed}
 use Rattle.provider_cli.proofs.PiecesSpelled.{channel_start_formed, stop_formed, report_formed}
-use Rattle.provider_cli.proofs.PiecesSpelled.{get_formed, context_piece, pdu_piece}
+use Rattle.provider_cli.proofs.PiecesSpelled.{get_formed, cltu_start_formed, cltu_formed}
+use Rattle.provider_cli.proofs.PiecesSpelled.{octets_each, context_piece, pdu_piece}
 
 -- ---- what a line brings
 
@@ -44,31 +50,31 @@ abbrev BringsAct : Option Act → Type 0
 BringsAct None = Unit {0}
 BringsAct (Some a) = AllByRecursion BringsPieces (orders_in a.order)
 
-asked : (c : ℕ) (a : AskLine) → ask.Fits a → BringsAct (comes_whole c (message_of a))
-asked c (Context interval factor) fits = (context_piece interval factor, tt)
-asked c (Bind name service version id) fits =
-    let t = bind.tree (bind_asked name service version id) in
-    (pdu_piece t (bind_formed name service version id fits), tt)
-asked c Unbind fits = (pdu_piece (unbind.tree unbind_asked) unbind_formed, tt)
-asked c (StartRaf first last quality) fits = (
-  pdu_piece (raf_start.tree (start_asked first last quality))
-      (start_formed first last quality),
-  tt,
-)
-asked c (StartRcf first last g) fits = (
-  pdu_piece (rcf_start.tree (channel_asked first last g)) (channel_start_formed first last g),
-  tt,
-)
-asked c Stop fits = (pdu_piece (stop.tree stop_asked) stop_formed, tt)
-asked c (Report kind) fits =
-    (pdu_piece (schedule.tree (report_asked kind)) (report_formed kind), tt)
-asked c (Get name) fits = (pdu_piece (get_parameter.tree (get_asked name)) (get_formed name), tt)
-asked c _ fits = tt
+asked : (a : AskLine) → ask.Fits a → AreOctets (spelling (message_of a))
+asked (Context interval factor) fits = context_piece interval factor
+asked (Bind name service version id) fits =
+    pdu_piece (bind.tree (bind_asked name service version id))
+    (bind_formed name service version id fits)
+asked Unbind fits = pdu_piece (unbind.tree unbind_asked) unbind_formed
+asked (StartRaf first last quality) fits =
+    pdu_piece (raf_start.tree (start_asked first last quality))
+    (start_formed first last quality)
+asked (StartRcf first last g) fits =
+    pdu_piece (rcf_start.tree (channel_asked first last g)) (channel_start_formed first last g)
+asked (StartCltu first) fits =
+    pdu_piece (start_pdu.tree (cltu_start_asked first)) (cltu_start_formed first)
+asked Stop fits = pdu_piece (stop.tree stop_asked) stop_formed
+asked (Report kind) fits = pdu_piece (schedule.tree (report_asked kind)) (report_formed kind)
+asked (Get name) fits = pdu_piece (get_parameter.tree (get_asked name)) (get_formed name)
+asked (Cltu id earliest latest radiation_delay wanted octets) fits =
+    pdu_piece (transfer_pdu.tree (cltu_asked id earliest latest radiation_delay wanted octets))
+    (cltu_formed id earliest latest radiation_delay wanted octets
+    (octets_each octets fits.1.1.1.1.1.each))
 
 line_brings : (f : ScriptForm) (p : Behind f) → (script_row f).Fits p
     → BringsAct (act_of (line_of f p))
 line_brings In p fits = (fits.1.each, tt)
-line_brings Ask p fits = asked p.0 p.1 fits.1
+line_brings Ask p fits = (asked p.1 fits.1, tt)
 line_brings Shut p fits = (tt, tt)
 line_brings Break p fits = (tt, tt)
 line_brings Stall p fits = (tt, tt)

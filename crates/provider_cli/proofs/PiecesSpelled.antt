@@ -42,6 +42,8 @@ use Rattle.return_pdu.specs.Starting.{raf_start, rcf_start}
 use Rattle.return_pdu.specs.Stopping.{stop}
 use Rattle.return_pdu.specs.Scheduling.{schedule}
 use Rattle.return_pdu.specs.Getting.{get_parameter}
+use Rattle.fcltu_pdu.specs.Start.{start_pdu}
+use Rattle.fcltu_pdu.specs.Transfer.{of_wanted, transfer_pdu}
 use Rattle.isp1_tml.specs.Message.{header, spelling, pdu, context}
 use Rattle.session_core.specs.Session.{AreOctets}
 use Rattle.words.specs.Alphabet.{Of}
@@ -50,7 +52,8 @@ use Rattle.words.specs.Names.{is_graphic, name_octets}
 use Rattle.drill_text.specs.Asks.{ask}
 use Rattle.drill_text.specs.declared.ask_line.AskLine.TheVariants.{Bind}
 use Rattle.station_links.specs.Asked.{port, bind_asked, unbind_asked, start_asked, channel_asked}
-use Rattle.station_links.specs.Asked.{stop_asked, report_asked, get_asked}
+use Rattle.station_links.specs.Asked.{cltu_start_asked, stop_asked, report_asked, get_asked}
+use Rattle.station_links.specs.Asked.{cltu_asked}
 
 -- ---- lists of octets
 
@@ -282,6 +285,47 @@ get_formed name = (
   identifier_so true (0xa6 ∷ []) refl,
   (no_credentials, (number_formed 0, (number_formed name, tt))),
 )
+
+pub cltu_start_formed : (first : ℕ) → IsWellFormed (start_pdu.tree (cltu_start_asked first))
+cltu_start_formed first = (
+  identifier_so true (0xa0 ∷ []) refl,
+  (no_credentials, (number_formed 0, (number_formed first, tt))),
+)
+
+pub cltu_formed : (id : ℕ) (earliest latest : Option Cds) (radiation_delay : ℕ) (wanted : Bool)
+    (octets : List ℕ) → IsOctets octets
+    → IsWellFormed
+    (transfer_pdu.tree (cltu_asked id earliest latest radiation_delay wanted octets))
+cltu_formed id earliest latest radiation_delay wanted octets are = (
+  identifier_so true (0xaa ∷ []) refl,
+  (
+    no_credentials,
+    (
+      number_formed 0,
+      (
+        number_formed id,
+        (
+          when_formed earliest,
+          (
+            when_formed latest,
+            (
+              number_formed radiation_delay,
+              (
+                number_formed (of_wanted wanted),
+                ((identifier_so false (0x04 ∷ []) refl, are), tt),
+              ),
+            ),
+          ),
+        ),
+      ),
+    ),
+  ),
+)
+
+-- octets that are told one by one are octets
+pub octets_each : (octets : List ℕ) → AreOctets octets → IsOctets octets
+octets_each [] all = tt
+octets_each (octet ∷ octets) all = (all 0, octets_each octets (λ i. all (suc i)))
 
 -- ---- messages of the transport
 

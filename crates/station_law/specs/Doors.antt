@@ -3,7 +3,7 @@
 use Rattle.std.specs.Prelude.{ℕ, zero, suc, Option, Some, None, List, [], ◌++◌, replicate}
 use Rattle.std.specs.Prelude.{slice_get, slice_set}
 use Rattle.archive_terms.specs.Archive.{Entry}
-use Rattle.isp1_tml.specs.Message.{Content, spelling}
+use Rattle.isp1_tml.specs.Message.{spelling}
 use Rattle.station_config.specs.declared.site.Site.{Site}
 use Rattle.station_book.specs.State.{Event}
 use Rattle.station_book.specs.State as books
@@ -60,15 +60,10 @@ pub record Act : Type 0 where
   pub order : Option Order
   pub rounds : ℕ
 
-abbrev pub comes_whole : ℕ → Option Content → Option Act
-comes_whole c None = None
-comes_whole c (Some message) =
-    Some (record { c = c; order = Some (comes (spelling message)); rounds = 1 })
-
--- none of a message that isn't built
 abbrev pub act_of : ScriptLine → Option Act
 act_of (Piece c octets) = Some (record { c = c; order = Some (comes octets); rounds = 1 })
-act_of (Ask c ask) = comes_whole c (message_of ask)
+act_of (Ask c ask) =
+    Some (record { c = c; order = Some (comes (spelling (message_of ask))); rounds = 1 })
 act_of (Shut c) = Some (record { c = c; order = Some shuts; rounds = 1 })
 act_of (Break c) = Some (record { c = c; order = Some breaks; rounds = 1 })
 act_of (Round c n) = Some (record { c = c; order = None; rounds = n })

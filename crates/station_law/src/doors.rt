@@ -10,15 +10,14 @@ ghost use Rattle.station_config.specs.Validity.{IsSite};
 ghost use Rattle.station_config.specs.declared.site.Site.{Site};
 ghost use Rattle.drill_text.specs.Reading.{Fits};
 ghost use Rattle.station_links.specs.Connected.{Connected};
-ghost use Rattle.station_law.specs.Doors.{Doors as Exchange, anew, rounds_of, comes_whole};
+ghost use Rattle.station_law.specs.Doors.{Doors as Exchange, anew, rounds_of};
 ghost use Rattle.station_law.specs.Doors.{act_of, opens, act};
 ghost use Rattle.station_law.specs.Standing.{Match, IsOpen, AreDoors, IsAsked, IsObeyed};
 ghost use Rattle.station_law.specs.Standing.{HasRan, IsActed, there, is_free, AreLeft, HasGone};
-ghost use Rattle.station_links.specs.Asked.{message_of};
 
 use crate::said::SaidAt;
 use crate::shared::{push, share};
-use drill_text::{AskLine, ScriptLine};
+use drill_text::ScriptLine;
 use octet_core::Memory;
 use record_form::{Entries, Entry};
 use station_book::{Book, PublishFault};
@@ -226,34 +225,17 @@ fn nobody() -> [Option<Connection>; DOORS]
     ]
 }
 
-// What a line asks of a connection, unless it is none of these lines, or its message isn't built.
+// What a line asks of a connection, unless it is none of these lines.
 fn turns_of(line: &ScriptLine) -> Option<Turns>
     ensures { Match IsAsked result (act_of line.now) }
 {
     match line {
         ScriptLine::Piece { c, .. } => Some(Turns { c: *c, rounds: 1 }),
-        ScriptLine::Ask { c, ask } => turns_asked(*c, ask),
+        ScriptLine::Ask { c, .. } => Some(Turns { c: *c, rounds: 1 }),
         ScriptLine::Shut { c } => Some(Turns { c: *c, rounds: 1 }),
         ScriptLine::Break { c } => Some(Turns { c: *c, rounds: 1 }),
         ScriptLine::Round { c, n } => Some(Turns { c: *c, rounds: *n }),
         ScriptLine::Stall { c, .. } => Some(Turns { c: *c, rounds: 0 }),
-        _ => None,
-    }
-}
-
-// One round, where the message that is asked is built.
-fn turns_asked(c: u32, ask: &AskLine) -> Option<Turns>
-    ensures { Match IsAsked result (comes_whole c (message_of ask.now)) }
-{
-    match ask {
-        AskLine::Context { .. }
-        | AskLine::Bind { .. }
-        | AskLine::Unbind
-        | AskLine::StartRaf { .. }
-        | AskLine::StartRcf { .. }
-        | AskLine::Stop
-        | AskLine::Report(_)
-        | AskLine::Get { .. } => Some(Turns { c, rounds: 1 }),
         _ => None,
     }
 }
@@ -265,11 +247,7 @@ fn obey(alloc: Global, connection: &mut Connection, line: &ScriptLine) -> Result
 {
     match line {
         ScriptLine::Piece { octets, .. } => connection.arrive(octets.clone()?)?,
-        ScriptLine::Ask { ask, .. } => {
-            if connection.ask(alloc, ask).is_err() {
-                return Err(Memory);
-            }
-        }
+        ScriptLine::Ask { ask, .. } => connection.ask(alloc, ask)?,
         ScriptLine::Shut { .. } => connection.shut(),
         ScriptLine::Break { .. } => connection.break_poll(),
         ScriptLine::Stall { n, .. } => connection.stall(*n),

@@ -27,8 +27,8 @@ use Rattle.drill_text.specs.declared.ask_line.AskLine.TheVariants.{Bind}
 use Rattle.station_links.specs.Asked.{port, bind_asked}
 
 pub few_pdu : {X : Type 0} (tag : List ℕ) (m : Members X) (x : X) → m.Fits x
-    → nat_le (length tag + 9 + m.most) 65536 ≡ true
-    → length (canonical (constructed tag (m.trees x))) ≤ 65536
+    → nat_le (length tag + 9 + m.most) 131072 ≡ true
+    → length (canonical (constructed tag (m.trees x))) ≤ 131072
 few_pdu tag m x fits short = grind (arith, structured_few tag m x fits)
 
 -- ---- times

@@ -1,8 +1,7 @@
 -- Which connections a value of the code stands for.
 use Rattle.std.specs.Prelude.{◌≡◌, ℕ, false, Option, Some, None, List}
 use Rattle.link_model.specs.declared.call.Call.{Call}
-use Rattle.link_model.specs.Steering.{Steering, with_piece}
-use Rattle.isp1_tml.specs.Message.{Content, spelling}
+use Rattle.link_model.specs.Steering.{Steering}
 use Rattle.station_book.specs.State.{Event}
 use Rattle.station_book.specs.State as book
 use Rattle.station_book.specs.History.{IsLegal, replay}
@@ -56,8 +55,3 @@ pub record Leaves (before after : book.State) : Type 0 where
 
 abbrev pub with_steering : ConnectionState → Steering → ConnectionState
 with_steering v steering = record v { steering = steering }
-
--- a whole message comes as one piece
-abbrev pub Comes : ConnectionState → ConnectionState → Option Content → Type 0
-Comes old new (Some message) = new ≡ with_steering old (with_piece old.steering (spelling message))
-Comes old new None = ⊥

@@ -1,9 +1,11 @@
 // The messages that a script's peer sends.
-ghost use Rattle.std.specs.Prelude.{◌≡◌, ◌≤◌, true, IfOk, IfErr, None};
+ghost use Rattle.std.specs.Prelude.{◌≡◌, ◌≤◌, true, IfOk, length};
 ghost use Rattle.ber_core.specs.Spelling.{canonical};
 ghost use Rattle.ber_shape.specs.Members.{structured};
 ghost use Rattle.bind_pdu.specs.Binding.{bind};
 ghost use Rattle.bind_pdu.specs.Unbinding.{unbind};
+ghost use Rattle.fcltu_pdu.specs.Start.{start_pdu};
+ghost use Rattle.fcltu_pdu.specs.Transfer.{transfer_pdu};
 ghost use Rattle.return_pdu.specs.Starting.{raf_start, rcf_start};
 ghost use Rattle.return_pdu.specs.Stopping.{stop};
 ghost use Rattle.return_pdu.specs.Scheduling.{schedule};
@@ -13,15 +15,14 @@ ghost use Rattle.isp1_tml.specs.Message.{pdu, context, header, spelling};
 ghost use Rattle.drill_text.specs.Asks.{ask};
 ghost use Rattle.station_links.specs.Asked.{message_of, unbind_asked, bind_asked, start_asked};
 ghost use Rattle.station_links.specs.Asked.{channel_asked, stop_asked, report_asked, get_asked};
-ghost use Rattle.station_links.specs.Asked.{is_short, IsAsked};
-ghost use Rattle.station_links.specs.declared.ask_fault.AskFault.TheVariants.{NotBuilt};
+ghost use Rattle.station_links.specs.Asked.{cltu_start_asked, cltu_asked, is_short};
 
-use crate::ask_fault::AskFault;
 use ber_core::Writer;
 use ber_shape::Pdu;
 use bind_pdu::{Bind, Unbind};
 use cds_time::Cds;
 use drill_text::AskLine;
+use fcltu_pdu::{CltuStart, CltuTransfer};
 use isp1_tml::head;
 use octet_core::{Memory, Octets};
 use return_pdu::{GetParameter, RafStart, RcfStart, Schedule, Stop};
@@ -36,34 +37,49 @@ const PORT: &[u8] = b"PORT1";
 const PROTOCOL: &[u8] = b"ISP1\0\0\0\x01";
 
 /// The octets of a message, as one piece.
-pub(crate) fn message_of(alloc: Global, line: &AskLine) -> Result<Octets, AskFault>
+pub(crate) fn message_of(alloc: Global, line: &AskLine) -> Result<Octets, Memory>
     requires { ask.Fits line.now }
-    ensures ok { IfOk result (λ octets. IsAsked octets (message_of line.now)) }
-    ensures not_built { IfErr result (λ fault. fault ≡ NotBuilt → message_of line.now ≡ None) }
+    ensures { IfOk result (λ octets. octets ≡ spelling (message_of line.now)) }
 {
     match line {
-        AskLine::Context { interval, factor } => Ok(context_message(alloc, *interval, *factor)?),
+        AskLine::Context { interval, factor } => context_message(alloc, *interval, *factor),
         AskLine::Bind {
             name,
             service,
             version,
             id,
-        } => Ok(bind_message(alloc, name, *service, *version, id)?),
-        AskLine::Unbind => Ok(unbind_message(alloc)?),
+        } => bind_message(alloc, name, *service, *version, id),
+        AskLine::Unbind => unbind_message(alloc),
         AskLine::StartRaf {
             start,
             stop,
             quality,
-        } => Ok(start_message(alloc, *start, *stop, *quality)?),
+        } => start_message(alloc, *start, *stop, *quality),
         AskLine::StartRcf {
             start,
             stop,
             channel,
-        } => Ok(channel_message(alloc, *start, *stop, *channel)?),
-        AskLine::Stop => Ok(stop_message(alloc)?),
-        AskLine::Report(kind) => Ok(report_message(alloc, *kind)?),
-        AskLine::Get { name } => Ok(get_message(alloc, *name)?),
-        _ => Err(AskFault::NotBuilt),
+        } => channel_message(alloc, *start, *stop, *channel),
+        AskLine::StartCltu { first } => cltu_start_message(alloc, *first),
+        AskLine::Stop => stop_message(alloc),
+        AskLine::Report(kind) => report_message(alloc, *kind),
+        AskLine::Get { name } => get_message(alloc, *name),
+        AskLine::Cltu {
+            id,
+            earliest,
+            latest,
+            radiation_delay,
+            wanted,
+            octets,
+        } => cltu_message(
+            alloc,
+            *id,
+            *earliest,
+            *latest,
+            *radiation_delay,
+            *wanted,
+            octets,
+        ),
     }
 }
 
@@ -79,7 +95,7 @@ fn context_message(alloc: Global, interval: u16, factor: u16) -> Result<Octets, 
 
 // A PDU's message is begun: room for so many octets is left.
 fn begin(alloc: Global, length: usize) -> Result<Writer, Memory>
-    requires { length ≤ 65536 }
+    requires { length ≤ 131072 }
     ensures { IfOk result (λ writer. writer ≡ record {
       octets = header 1 length;
       room = length;
@@ -177,6 +193,18 @@ fn channel_message(
     pdu_message(alloc, &sent)
 }
 
+fn cltu_start_message(alloc: Global, first: u32) -> Result<Octets, Memory>
+    ensures { IfOk result (λ octets. octets
+        ≡ spelling (pdu (canonical (start_pdu.tree (cltu_start_asked first))))) }
+{
+    let sent = CltuStart {
+        credentials: Credentials::Unused,
+        invoke: 0,
+        first,
+    };
+    pdu_message(alloc, &sent)
+}
+
 fn stop_message(alloc: Global) -> Result<Octets, Memory>
     ensures { IfOk result (λ octets. octets
         ≡ spelling (pdu (canonical (stop.tree stop_asked)))) }
@@ -208,6 +236,35 @@ fn get_message(alloc: Global, name: u16) -> Result<Octets, Memory>
         credentials: Credentials::Unused,
         invoke: 0,
         name,
+    };
+    pdu_message(alloc, &sent)
+}
+
+#[tactic(auto, using(crate::proofs::Fits::conditional_fits))]
+fn cltu_message(
+    alloc: Global,
+    id: u32,
+    earliest: Option<Cds>,
+    latest: Option<Cds>,
+    radiation_delay: u32,
+    wanted: bool,
+    octets: &Octets,
+) -> Result<Octets, Memory>
+    requires some { 1 ≤ length octets.now }
+    requires few { length octets.now ≤ 65536 }
+    ensures { IfOk result (λ message. message ≡ spelling (pdu (canonical
+        (transfer_pdu.tree
+        (cltu_asked id earliest latest radiation_delay wanted octets.now))))) }
+{
+    let sent = CltuTransfer {
+        credentials: Credentials::Unused,
+        invoke: 0,
+        id,
+        earliest,
+        latest,
+        radiation_delay,
+        wanted,
+        octets: octets.as_slice(),
     };
     pdu_message(alloc, &sent)
 }

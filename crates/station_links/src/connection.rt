@@ -1,14 +1,13 @@
 // A connection of a script.
-ghost use Rattle.std.specs.Prelude.{◌≡◌, IfOk, IfErr, OnErr, OnOk, None};
+ghost use Rattle.std.specs.Prelude.{◌≡◌, IfOk, OnErr, OnOk};
 ghost use Rattle.drill_text.specs.Asks.{ask};
+ghost use Rattle.isp1_tml.specs.Message.{spelling};
 ghost use Rattle.link_model.specs.Steering.{with_piece, shut_behind, broken_next, stalling_for};
 ghost use Rattle.station_config.specs.declared.site.Site.{Site};
-ghost use Rattle.station_links.specs.declared.ask_fault.AskFault.TheVariants.{NotBuilt};
 ghost use Rattle.station_links.specs.Asked.{message_of};
 ghost use Rattle.station_links.specs.Connected.{began, opened};
-ghost use Rattle.station_links.specs.Lives.{Lives, Comes, with_steering};
+ghost use Rattle.station_links.specs.Lives.{Lives, with_steering};
 
-use crate::ask_fault::AskFault;
 use crate::asked::message_of;
 use drill_text::AskLine;
 use link_model::MemoryLink;
@@ -66,16 +65,14 @@ impl Connection {
     }
 
     /// One whole message arrives, as one piece.
-    pub fn ask(&mut self, alloc: Global, line: &AskLine) -> Result<(), AskFault>
+    pub fn ask(&mut self, alloc: Global, line: &AskLine) -> Result<(), Memory>
         requires { ask.Fits line.now }
-        ensures ok { OnOk result (Comes self.old self.new (message_of line.now)) }
-        ensures not_built { IfErr result (λ fault. fault ≡ NotBuilt
-            → message_of line.now ≡ None) }
+        ensures ok { OnOk result (self.new ≡ with_steering self.old
+            (with_piece self.old.steering (spelling (message_of line.now)))) }
         ensures err { OnErr result (self.new ≡ self.old) }
     {
         let message = message_of(alloc, line)?;
-        self.link.arrive(message)?;
-        Ok(())
+        self.link.arrive(message)
     }
 
     /// The peer closes behind the pieces that arrived.

@@ -9,7 +9,6 @@
 // A round costs what it costs its session, and one copy of the octets that it hears and offers.
 #![tactic(auto)]
 
-mod ask_fault;
 mod asked;
 mod connection;
 pub mod laws;
@@ -17,7 +16,6 @@ mod link_line;
 mod steered;
 mod turn;
 
-pub use ask_fault::AskFault;
 pub use connection::Connection;
 pub use link_line::LinkLine;
 pub use turn::Turn;

@@ -9,17 +9,18 @@ use octet_core::{Memory, Octets};
 use record_form::Entries;
 use station_book::Book;
 use station_config::Site;
-use station_links::{AskFault, Connection, LinkLine, Turn, laws};
+use station_links::{Connection, LinkLine, Turn, laws};
 use std::alloc::Global;
 use std::process::Abort;
 
 const SITE: &[u8] = b"\
 peer MOC none sha1 60 000000000000\n\
-raf sagr=1.spack=P.rsl-fg=1.raf=onlc1 MOC complete 1 5 60\n";
+raf sagr=1.spack=P.rsl-fg=1.raf=onlc1 MOC complete 1 5 60\n\
+cltu sagr=1.spack=P.fsl-fg=1.cltu=cltu1 MOC 1000 100 60\n";
 
 // Lines, behind each of which connection 1 makes a round, and what it says. The first has a BIND of
 // MOC to onlc1, version 5, in two pieces, and the second the same by its words.
-const SCRIPTS: [(&str, &str); 5] = [
+const SCRIPTS: [(&str, &str); 6] = [
     (
         "\
 ask 1 context 30 5
@@ -74,6 +75,20 @@ ended 1 unbound
     (
         "\
 ask 1 context 30 5
+ask 1 bind MOC 16 5 sagr=1.spack=P.fsl-fg=1.cltu=cltu1
+ask 1 start 7
+ask 1 cltu 7 none 20000/0/10 0 1 aa0007
+ask 1 cltu 9 none none 0 1 aa0009",
+        "\
+sent 1 0100000000000011bf650e80001a0753544154494f4e800105
+sent 1 0100000000000015a1138000020100a00c800800000000000000008000
+sent 1 0100000000000010ab0e8000020100020108020203e58000
+sent 1 0100000000000013ab118000020100020108020203e5a103810102
+",
+    ),
+    (
+        "\
+ask 1 context 30 5
 break 1",
         "\
 ended 1 fault
@@ -82,7 +97,7 @@ ended 1 fault
 ];
 
 // What a line orders of a connection.
-fn order(alloc: Global, line: &str, connection: &mut Connection) -> Result<(), AskFault> {
+fn order(alloc: Global, line: &str, connection: &mut Connection) -> Result<(), Memory> {
     match parse_line(alloc, line.as_bytes()) {
         Ok(ScriptLine::Ask { ask, .. }) => connection.ask(alloc, &ask),
         Ok(ScriptLine::Piece { octets, .. }) => Ok(connection.arrive(octets)?),
@@ -122,7 +137,7 @@ fn play(
     book: &mut Book,
     lines: &str,
     text: &mut Octets,
-) -> Result<(), AskFault>
+) -> Result<(), Memory>
     requires { IsSite site.now }
 {
     let mut there = Connection::new(alloc, 1, 0)?;
@@ -136,7 +151,7 @@ fn play(
     Ok(())
 }
 
-fn says_at(alloc: Global, site: &Site, lines: &str, text: &str) -> Result<bool, AskFault>
+fn says_at(alloc: Global, site: &Site, lines: &str, text: &str) -> Result<bool, Memory>
     requires { IsSite site.now }
 {
     let mut book = Book::new(alloc, site, Entries::new(alloc), 0)?;
@@ -145,10 +160,10 @@ fn says_at(alloc: Global, site: &Site, lines: &str, text: &str) -> Result<bool, 
     Ok(said.as_slice() == text.as_bytes())
 }
 
-fn says(alloc: Global, lines: &str, text: &str) -> Result<bool, AskFault> {
+fn says(alloc: Global, lines: &str, text: &str) -> Result<bool, Memory> {
     match Site::parse(alloc, SITE) {
         Ok(site) => says_at(alloc, &site, lines, text),
-        Err(_) => Err(AskFault::Memory),
+        Err(_) => Err(Memory),
     }
 }
 
@@ -158,14 +173,6 @@ fn scripts_say_what_they_say(rt: HostRuntime) {
         assert_eq!(rt; says(rt.alloc(), lines, text), Ok(true));
     }
     laws::runs_are_sessions();
-}
-
-#[test]
-fn a_message_that_is_not_built_is_refused(rt: HostRuntime) {
-    assert_eq!(rt;
-        says(rt.alloc(), "ask 1 start 1", ""),
-        Err(AskFault::NotBuilt)
-    );
 }
 
 #[test]

@@ -9,12 +9,15 @@ bind_message-requires c =
     bind_fits c.in-Bind.name c.in-Bind.service c.in-Bind.version c.in-Bind.id
     (subst (λ (a : AskLine). ask.Fits a) c.in-Bind.is c.requires)
 
-pub returns-in_ok-bind_message-in-Bind-clause-ok :
-    goal.returns-in_ok-bind_message-in-Bind-clause-ok
-returns-in_ok-bind_message-in-Bind-clause-ok c =
-    rw (c.in-Bind.is) c.in_ok-bind_message-in-Bind.ensures
+pub returns-in-Bind : goal.returns-in-Bind
+returns-in-Bind c = rw (c.in-Bind.is) c.bind_message.ensures
 
 pub channel_message-requires : goal.channel_message-requires
 channel_message-requires c =
     gvcid_fits c.in-StartRcf.channel
     (subst (λ (a : AskLine). ask.Fits a) c.in-StartRcf.is c.requires).1.1
+
+pub cltu_message-requires : goal.cltu_message-requires
+cltu_message-requires c =
+    let fits = (subst (λ (a : AskLine). ask.Fits a) c.in-Cltu.is c.requires).1.1.1.1.1 in
+    record { some = fits.some; few = fits.few }
