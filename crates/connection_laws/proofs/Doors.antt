@@ -1,7 +1,7 @@
 -- At a door at which nobody is connected no instance is bound, behind any lines of a script.
 use Rattle.std.proofs.Common.{◌≡◌, ◌==◌, ℕ, zero, suc, Bool, true, false, ◌||◌, if◌then◌else◌}
 use Rattle.std.proofs.Common.{Option, Some, None, List, [], ◌∷◌, ◌++◌, replicate, slice_get, set}
-use Rattle.std.proofs.Common.{refl, sym, ap, subst, ◌∙◌, ⊎_elim, arith}
+use Rattle.std.proofs.Common.{refl, sym, ap, subst, ◌∙◌, ⊎_elim, arith, IsTrue}
 use Rattle.std.proofs.lemmas.Bool.Decides.{eqb_tells}
 use Rattle.std.proofs.lemmas.Grind.{common_steps}
 use Rattle.std.proofs.lemmas.Option.{gets}
@@ -10,7 +10,8 @@ use Rattle.archive_terms.specs.Archive.{Entry, is_valid}
 use Rattle.record_form.specs.Entry.{entry_of}
 use Rattle.sle_numbers.specs.RequestedFrameQuality.{number_of}
 use Rattle.station_config.specs.declared.site.Site.{Site}
-use Rattle.station_book.specs.State.{Event, quit}
+use Rattle.station_book.specs.State.{Event, Call, publish, answer, quit, take, done, interrupted}
+use Rattle.station_book.specs.State.{uplink as set_uplink, gone}
 use Rattle.station_book.specs.State as books
 use Rattle.station_book.specs.Doors.{is_by, HasOneForward}
 use Rattle.station_book.specs.Origin.{kinds_of}
@@ -19,16 +20,22 @@ use Rattle.drill_text.specs.declared.end_word.EndWord.{EndWord}
 use Rattle.drill_text.specs.declared.script_line.ScriptLine.{ScriptLine}
 use Rattle.drill_text.specs.declared.script_line.ScriptLine.TheVariants.{Skip, Offer, Desk, Clock}
 use Rattle.drill_text.specs.declared.script_line.ScriptLine.TheVariants.{Crash, Fault, Open}
+use Rattle.drill_text.specs.declared.script_line.ScriptLine.TheVariants.{Take, Done, Uplink}
 use Rattle.session_core.specs.Session.{State as Session, BookAnswer, step_events, before_step}
 use Rattle.session_core.specs.Session.{round_events}
 use Rattle.station_links.specs.Connected.{Connected, opened}
 use Rattle.station_links.specs.Rounds.{round_at, round_of, end_after, stands_after, left_by, quits}
+use Rattle.station_uplink.specs.declared.turn.Turn.{Turn}
+use Rattle.station_uplink.specs.declared.turn.Turn.TheVariants as turns
+use Rattle.station_uplink.specs.Turns.{Turned, events_of}
+use Rattle.station_uplink.specs.Facts.{is_of_antenna, turn_holds}
 use Rattle.station_law.specs.Answer.{Answer, is_wrong}
 use Rattle.station_law.specs.Desk.{desk}
 use Rattle.station_law.specs.Doors.{Act, Doors, act_of, acted, acted_on, anew, opens, ordered}
 use Rattle.station_law.specs.Doors.{rounds_of}
 use Rattle.station_law.specs.Entries.{offer}
-use Rattle.station_law.specs.Lines.{connected, doors_behind, offered, recorded, step, step_read}
+use Rattle.station_law.specs.Lines.{connected, doors_behind, offered, recorded, uplinked, turn_at}
+use Rattle.station_law.specs.Lines.{step, step_read}
 use Rattle.station_law.specs.Orders.{pick_of}
 use Rattle.station_law.specs.Power.{crash_line, fault_line}
 use Rattle.station_law.specs.Standing.{there}
@@ -120,6 +127,17 @@ module _ (site : Site) (c reading : ℕ) where
         (quit_apart (replay b asked) (end_after site l r)))
         (rounds_apart n (replay b o.events) o.next)
 
+-- a call of the antenna's worker is no door's
+no_door : (c : ℕ) (call : Call) → IsTrue (is_of_antenna call) → is_by c call ≡ false
+no_door c (publish entries) own = absurd cc
+no_door c (answer door reading ask want) own = absurd cc
+no_door c (quit door) own = absurd cc
+no_door c (gone worker) own = absurd cc
+no_door c (take reading) own = refl
+no_door c (done run id reading) own = refl
+no_door c (interrupted run id reading) own = refl
+no_door c (set_uplink production status reading) own = refl
+
 -- ---- lines
 
 -- a book of a site with one forward service at most, in which a door at which nobody is connected has no instance
@@ -200,6 +218,23 @@ module _ (laws : Laws) where
     asked_are None = are
     asked_are (Some a) = acts_are a (slice_get d.connections a.c) refl
 
+    turned_are : (o : Option Turned)
+        → ((c : ℕ) → list_any (λ (e : Event). is_by c e.call) (events_of o) ≡ false)
+        → Leaves (uplinked state o)
+    turned_are None apart = are
+    turned_are (Some t) apart = record {
+      one = are.one;
+      stays = later_of d.site d.book t.events are.stays;
+      free = λ c none. laws.others d.book t.events c (apart c) ∙ are.free c none;
+    }
+
+    turn_are : (turn : Turn) → Leaves (uplinked state (turn_at state turn))
+    turn_are turn = turned_are (turn_at state turn) (λ c. turn_holds
+        (λ b h. list_any (λ (e : Event). is_by c e.call) h ≡ false) (λ b. refl)
+        (λ b h k. none_both (λ (e : Event). is_by c e.call) h k)
+        (λ b call own. ap (λ (by : Bool). by || false) (no_door c call own))
+        d.book state.clock state.uplink turn)
+
     valid_are : (entry : Entry) (valid : Bool)
         → Leaves (if valid then offered state entry else is_wrong state)
     valid_are entry true = recorded_are (offer state.store entry)
@@ -214,6 +249,9 @@ module _ (laws : Laws) where
     line_are (Crash k pick) = recorded_are (crash_line state.store k (pick_of pick))
     line_are (Fault k) = recorded_are (fault_line state.store k)
     line_are (Open k) = opens_are k (slice_get d.connections k)
+    line_are (Take fail) = turn_are (turns.Take fail)
+    line_are Done = turn_are turns.Done
+    line_are (Uplink production status) = turn_are (turns.Uplink production status)
     line_are line = asked_are (act_of line)
 
     pub read_are : (line : Option ScriptLine) → Leaves (step_read state line)

@@ -28,7 +28,7 @@ use Rattle.line_events.proofs.Lists.{and_both, told_same, told_nothing, all_long
 
 -- what leads on from a world that rests leads on from the one that shows the view
 pub at_rest : (o : Opening) (v next : View) (w : World) (events : List Event) → (shows : Shows v w)
-    → LeadTo o (resting shows.found shows.kept shows.past shows.life v.clock w.antenna) events next
+    → LeadTo o (resting shows.found shows.kept shows.past shows.life v.clock v.antenna) events next
     → LeadTo o w events next
 at_rest o v next w events shows leads =
     subst (λ (x : World). LeadTo o x events next) (sym shows.is) leads
@@ -39,11 +39,11 @@ pub published_is : (v : View) (w : World) → (shows : Shows v w)
 published_is v w shows = ap (λ (b : books.State). b.published) shows.book_is ∙ shows.one
 
 -- a new life over what a recovery found
-module _ (o : Opening) (v : View) (antenna : List (List ℕ)) (past : List Life) (l : Life)
+module _ (o : Opening) (v : View) (past : List Life) (l : Life)
     (told_is : told_by (past ++ l ∷ []) ≡ v.told) where
   born_shows : (entries there : List Entry) → entries ≡ there
       → Shows (anew o there v)
-      (resting entries [] (past ++ l ∷ []) (born (record o { entries = entries })) v.clock antenna)
+      (resting entries [] (past ++ l ∷ []) (born (record o { entries = entries })) v.clock v.antenna)
   born_shows entries there is = record {
     found = entries;
     kept = [];
@@ -60,7 +60,7 @@ module _ (o : Opening) (v : View) (antenna : List (List ℕ)) (past : List Life)
 
   -- the power fails between two stores
   pub power_leads : (found kept : List Entry) → found ++ kept ≡ v.published
-      → LeadTo o (resting found kept past l v.clock antenna) power_events (anew o v.published v)
+      → LeadTo o (resting found kept past l v.clock v.antenna) power_events (anew o v.published v)
   power_leads found kept is = ((tt, (refl, tt)), born_shows (found ++ kept) v.published is)
 
   -- what may follow the published entries may follow those that are acknowledged
@@ -73,7 +73,7 @@ module _ (o : Opening) (v : View) (antenna : List (List ℕ)) (past : List Life)
   -- it fails in an entry's store
   pub struck_leads : (found kept : List Entry) (e : Entry) (has : Bool)
       → found ++ kept ≡ v.published → may_follow v.published e ≡ true
-      → LeadTo o (resting found kept past l v.clock antenna) (struck_events e has)
+      → LeadTo o (resting found kept past l v.clock v.antenna) (struck_events e has)
       (anew o (found_with has e v) v)
   struck_leads found kept e true is follows = (
     ((refl, follows_so found kept e is follows, tt), ((refl, tt), (tt, (refl, tt)))),
@@ -103,7 +103,7 @@ accepted_entries laws b p e is archive follows =
     (if x then record b { published = b.published ++ e ∷ [] } else b).published) may
     ∙ ap (λ (xs : List Entry). xs ++ e ∷ []) is
 
-module _ (laws : Laws) (o : Opening) (v : View) (antenna : List (List ℕ)) (past : List Life)
+module _ (laws : Laws) (o : Opening) (v : View) (past : List Life)
     (l : Life) (e : Entry) (archive : IsArchive v.published)
     (follows : may_follow v.published e ≡ true) (book_is : book l ≡ v.book)
     (one : v.book.published ≡ v.published) (told_is : told_by (past ++ l ∷ []) ≡ v.told)
@@ -135,7 +135,7 @@ module _ (laws : Laws) (o : Opening) (v : View) (antenna : List (List ℕ)) (pas
       ∙ ap (λ (b : books.State). map (told_of b.published) l.starts) (sym book_is)
 
   shown : (found kept : List Entry) → found ++ kept ≡ p
-      → Shows (with_entry e v) (resting found (kept ++ e ∷ []) past next v.clock antenna)
+      → Shows (with_entry e v) (resting found (kept ++ e ∷ []) past next v.clock v.antenna)
   shown found kept is = record {
     found = found;
     kept = kept ++ e ∷ [];
@@ -161,20 +161,20 @@ module _ (laws : Laws) (o : Opening) (v : View) (antenna : List (List ℕ)) (pas
   )
 
   pub stores_leads : (found kept : List Entry) → found ++ kept ≡ p
-      → LeadTo o (resting found kept past l v.clock antenna) (store_events e) (with_entry e v)
+      → LeadTo o (resting found kept past l v.clock v.antenna) (store_events e) (with_entry e v)
   stores_leads found kept is = (
     (
-      (refl, follows_so o v antenna past l told_is found kept e is follows, tt),
+      (refl, follows_so o v past l told_is found kept e is follows, tt),
       ((refl, tt), ((refl, tt), ((refl, is_next found kept is), tt))),
     ),
     shown found kept is,
   )
 
   pub failed_leads : (found kept : List Entry) (has : Bool) → found ++ kept ≡ p
-      → LeadTo o (resting found kept past l v.clock antenna) (failed_events e has) (with_entry e v)
+      → LeadTo o (resting found kept past l v.clock v.antenna) (failed_events e has) (with_entry e v)
   failed_leads found kept true is = (
     (
-      (refl, follows_so o v antenna past l told_is found kept e is follows, tt),
+      (refl, follows_so o v past l told_is found kept e is follows, tt),
       ((refl, tt), ((refl, tt), ((refl, tt), ((refl, is_next found kept is), tt)))),
     ),
     shown found kept is,
@@ -183,7 +183,7 @@ module _ (laws : Laws) (o : Opening) (v : View) (antenna : List (List ℕ)) (pas
       let again = stores_leads found (kept ++ [])
       (ap (λ (xs : List Entry). found ++ xs) (append-nil kept) ∙ is) in (
         (
-          (refl, follows_so o v antenna past l told_is found kept e is follows, tt),
+          (refl, follows_so o v past l told_is found kept e is follows, tt),
           ((refl, tt), ((refl, tt), ((refl, tt), again.0))),
         ),
         again.1,
@@ -209,7 +209,7 @@ begins_leads o = (
 )
 
 pub clock_leads : (o : Opening) (v : View) (w : World) (moment : ℕ) → (shows : Shows v w)
-    → LeadTo o (resting shows.found shows.kept shows.past shows.life v.clock w.antenna)
+    → LeadTo o (resting shows.found shows.kept shows.past shows.life v.clock v.antenna)
     (clock_events moment) (record v { clock = moment })
 clock_leads o v w moment shows = (
   (tt, tt),
@@ -253,7 +253,7 @@ none_published (e ∷ h) b none =
     let parts = and_parts (not (is_publishing e.call)) (publishes_nothing h) none in
     none_published h (then_after b e) parts.1 ∙ call_publishes e.call b parts.0
 
-called_book : (h : List Answered) (l : Life) → book (all_called h l) ≡ replay (book l) h
+pub called_book : (h : List Answered) (l : Life) → book (all_called h l) ≡ replay (book l) h
 called_book [] l = refl
 called_book (e ∷ h) l =
     called_book h (called e.call l)
@@ -262,12 +262,12 @@ called_book (e ∷ h) l =
 
 pub calls_lead : CallsAreEvents → (o : Opening) (v : View) (w : World) (h : List Answered)
     → (shows : Shows v w) → IsTrue (publishes_nothing h)
-    → LeadTo o (resting shows.found shows.kept shows.past shows.life v.clock w.antenna)
+    → LeadTo o (resting shows.found shows.kept shows.past shows.life v.clock v.antenna)
     (call_events h) (record v { book = replay v.book h })
 calls_lead law o v w h shows none =
     let l : Life = shows.life in
     let m : Life = all_called h l in
-    let rests : World = resting shows.found shows.kept shows.past l v.clock w.antenna in
+    let rests : World = resting shows.found shows.kept shows.past l v.clock v.antenna in
     let leads = law.leads o rests l h refl none in
     let book_is : book m ≡ replay v.book h =
     called_book h l ∙ ap (λ (b : books.State). replay b h) shows.book_is in

@@ -17,11 +17,12 @@ use Rattle.line_events.specs.Shows.{Told, told_of, IsLasting, View, resting, Sho
 use Rattle.line_events.specs.Forms.{starts_in, desk_terms, desk_buffers, start_events, desk_told}
 use Rattle.line_events.specs.Forms.{with_told, LeadTo, LinesAreEvents, power_events, store_events}
 use Rattle.line_events.specs.Forms.{struck_events, failed_events, clock_events, anew, with_entry}
-use Rattle.line_events.specs.Forms.{found_with}
+use Rattle.line_events.specs.Forms.{found_with, with_sent, radiate_events}
 use Rattle.line_events.specs.Laws.{Laws}
 use Rattle.line_events.proofs.Lists.{told_more, all_and}
 use Rattle.line_events.proofs.Forms.{at_rest, published_is, power_leads, struck_leads, stores_leads}
 use Rattle.line_events.proofs.Forms.{failed_leads, begins_leads, clock_leads, calls_lead}
+use Rattle.line_events.proofs.Radiating.{radiates_lead}
 
 length_of : (n now : ℕ) → length (replicate n now) ≡ n
 length_of zero now = refl
@@ -69,13 +70,13 @@ module _ (laws : Laws) (a : Asked) (some : 0 < a.size) (mode : IsFalse (is_onlin
 
   desk_leads : (o : Opening) (v : View) (w : World) → (shows : Shows v w) → v.published ≡ p
       → v.clock ≡ now
-      → LeadTo o (resting shows.found shows.kept shows.past shows.life v.clock w.antenna)
+      → LeadTo o (resting shows.found shows.kept shows.past shows.life v.clock v.antenna)
       (desk_events a (length shows.life.starts) (length p) now (length (desk_buffers a p)))
       (with_told (desk_told a p) v)
   desk_leads o v w shows is clock =
       let l : Life = shows.life in
       let n : ℕ = length (desk_buffers a p) in
-      let rests : World = resting shows.found shows.kept shows.past l v.clock w.antenna in
+      let rests : World = resting shows.found shows.kept shows.past l v.clock v.antenna in
       let published : (book l).published ≡ p = published_is v w shows ∙ is in
       let leads : Leads o rests (desk_events a (length l.starts) (length p) now n)
       (with_now rests (with_start l its)) =
@@ -110,30 +111,33 @@ lines laws = record {
   begins = begins_leads;
   stores = λ o v w e shows archive follows.
       at_rest o v (with_entry e v) w (store_events e) shows
-      (stores_leads laws o v w.antenna shows.past shows.life e archive follows shows.book_is
+      (stores_leads laws o v shows.past shows.life e archive follows shows.book_is
       shows.one shows.told_is shows.lasting shows.found shows.kept shows.acknowledges);
   struck = λ o v w e has shows follows.
       at_rest o v (anew o (found_with has e v) v) w (struck_events e has) shows
-      (struck_leads o v w.antenna shows.past shows.life shows.told_is shows.found shows.kept e has
+      (struck_leads o v shows.past shows.life shows.told_is shows.found shows.kept e has
       shows.acknowledges follows);
   fails = λ o v w e has shows archive follows.
       at_rest o v (with_entry e v) w (failed_events e has) shows
-      (failed_leads laws o v w.antenna shows.past shows.life e archive follows shows.book_is
+      (failed_leads laws o v shows.past shows.life e archive follows shows.book_is
       shows.one shows.told_is shows.lasting shows.found shows.kept has shows.acknowledges);
   power = λ o v w shows.
       at_rest o v (anew o v.published v) w power_events shows
-      (power_leads o v w.antenna shows.past shows.life shows.told_is shows.found shows.kept
+      (power_leads o v shows.past shows.life shows.told_is shows.found shows.kept
       shows.acknowledges);
   clock = λ o v w moment shows.
       at_rest o v (record v { clock = moment }) w (clock_events moment) shows
       (clock_leads o v w moment shows);
   book = λ o v w h shows none.
       at_rest o v _ w _ shows (calls_lead laws.book_calls o v w h shows none);
+  radiates = λ o v w reading run id octets good h shows found none.
+      at_rest o v (with_sent reading good octets h v) w (radiate_events reading good h) shows
+      (radiates_lead o v w shows reading run id octets good found laws.book_calls h none);
   desk = λ o v w a shows some mode.
       at_rest o v (with_told (desk_told a v.published) v) w (start_events a w v.published v.clock)
       shows
       (subst (λ k. LeadTo o
-      (resting shows.found shows.kept shows.past shows.life v.clock w.antenna)
+      (resting shows.found shows.kept shows.past shows.life v.clock v.antenna)
       (desk_events a k (length v.published) v.clock (length (desk_buffers a v.published)))
       (with_told (desk_told a v.published) v)) (starts_so v w shows)
       (desk_leads laws a some mode v.published v.clock o v w shows refl refl));

@@ -6,13 +6,14 @@ use Rattle.archive_terms.specs.Archive.{Entry, IsArchive, may_follow}
 use Rattle.archive_terms.specs.Selection.{picked, is_stop_closed}
 use Rattle.archive_terms.specs.Delivery.{Item, Terms, offline_buffers, is_online}
 use Rattle.archive_terms.specs.Continuity.{told_buffers}
-use Rattle.station_book.specs.State.{Opening, publish, Event as Answered}
+use Rattle.cltu_queue.specs.declared.taken.Taken.TheVariants.{Radiate}
+use Rattle.station_book.specs.State.{Opening, publish, take, took, Event as Answered}
 use Rattle.station_book.specs.State as books
-use Rattle.station_book.specs.History.{after, replay}
+use Rattle.station_book.specs.History.{after, reply_to, replay}
 use Rattle.station_world.specs.File.{Finding, with_batch, without_batch}
 use Rattle.station_world.specs.Life.{Life, Asked, asked_terms}
 use Rattle.station_world.specs.World.{World, before_all, Event, offers, begins_store, ends_store}
-use Rattle.station_world.specs.World.{reopens, calls, reads, loses_power, restarts, after_events}
+use Rattle.station_world.specs.World.{reopens, calls, sends, reads, loses_power, restarts, after_events}
 use Rattle.station_world.specs.Comes.{AllCome}
 use Rattle.station_world.specs.Calls.{publishes_nothing, call_events, desk_events}
 use Rattle.line_events.specs.Shows.{Told, View, Shows}
@@ -55,6 +56,12 @@ power_events = loses_power ∷ restarts without_batch ∷ []
 -- the clock reads a moment
 abbrev pub clock_events : ℕ → List Event
 clock_events moment = reads moment ∷ []
+
+-- ---- what radiates
+
+-- the octets of a take are sent, good or not, and then the book is called
+abbrev pub radiate_events : ℕ → Bool → List Answered → List Event
+radiate_events reading good h = calls (take reading) ∷ sends good ∷ call_events h
 
 -- ---- a START of the desk
 
@@ -108,9 +115,22 @@ anew o entries v = record v { published = entries; book = new_book o entries }
 abbrev pub with_told : Told → View → View
 with_told t v = record v { told = v.told ++ t ∷ [] }
 
+-- a take's octets are sent, good or not, and then the book is called
+abbrev pub with_sent : ℕ → Bool → List ℕ → List Answered → View → View
+with_sent reading good octets h v = record v {
+  book = replay (after v.book (take reading)) h;
+  antenna = if good then v.antenna ++ octets ∷ [] else v.antenna;
+}
+
 -- nothing happened yet
 abbrev pub first_view : Opening → View
-first_view o = record { published = []; book = new_book o []; clock = 0; told = [] }
+first_view o = record {
+  published = [];
+  book = new_book o [];
+  clock = 0;
+  antenna = [];
+  told = [];
+}
 
 -- ---- what is claimed of them
 
@@ -141,6 +161,12 @@ pub record LinesAreEvents : Type 0 where
   pub book : (o : Opening) (v : View) (w : World) (h : List Answered) → Shows v w
       → IsTrue (publishes_nothing h)
       → LeadTo o w (call_events h) (record v { book = replay v.book h })
+  -- a take gives octets to be sent, and the book is called behind the send, good or not
+  pub radiates : (o : Opening) (v : View) (w : World) (reading run id : ℕ) (octets : List ℕ)
+      (good : Bool) (h : List Answered) → Shows v w
+      → reply_to v.book (take reading) ≡ took (Radiate run id octets)
+      → IsTrue (publishes_nothing h)
+      → LeadTo o w (radiate_events reading good h) (with_sent reading good octets h v)
   -- a START of the desk
   pub desk : (o : Opening) (v : View) (w : World) (a : Asked) → Shows v w → 0 < a.size
       → IsFalse (is_online a.mode)

@@ -43,12 +43,13 @@ IsLasting published s =
 
 -- ---- worlds
 
--- the published entries, the book, the moment that the clock reads, and what each START so far has
--- handed over, the first one first
+-- the published entries, the book, the moment that the clock reads, what the antenna was sent, and
+-- what each START so far has handed over, the first one first
 pub record View : Type 0 where
   pub published : List Entry
   pub book : books.State
   pub clock : ℕ
+  pub antenna : List (List ℕ)
   pub told : List Told
 
 -- a world that rests
@@ -62,13 +63,14 @@ resting found kept past life clock antenna = record {
 }
 
 -- It shows this: what is acknowledged is published, in the book of the life that goes on; its clock
--- reads this; and its STARTs, those of past lives first, have handed this over, which stays so.
+-- reads this, and its antenna was sent this; and its STARTs, those of past lives first, have handed
+-- this over, which stays so.
 pub record Shows (v : View) (w : World) : Type 0 where
   pub found : List Entry
   pub kept : List Entry
   pub past : List Life
   pub life : Life
-  pub is : w ≡ resting found kept past life v.clock w.antenna
+  pub is : w ≡ resting found kept past life v.clock v.antenna
   pub acknowledges : found ++ kept ≡ v.published
   pub book_is : book life ≡ v.book
   pub one : v.book.published ≡ v.published

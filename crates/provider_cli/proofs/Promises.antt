@@ -9,6 +9,7 @@ use Rattle.std.specs.List.{flat_map}
 use Rattle.std.specs.Option.{IfSome}
 use Rattle.octet_core.specs.Fault.{last_count, count_up, Rose}
 use Rattle.archive_terms.specs.Archive.{IsArchive}
+use Rattle.station_config.specs.declared.site.Site.{Site}
 use Rattle.station_desk.specs.Start.{moment}
 use Rattle.sle_numbers.specs.RequestedFrameQuality.{number_of}
 use Rattle.station_desk.specs.ToldBuffer.{ToldBuffer, buffer_message}
@@ -30,8 +31,8 @@ use Rattle.provider_cli.specs.Drilled.{GainsAll, GainsSome, HasText, text_by, st
 use Rattle.provider_cli.specs.Drilled.{DrillOutcome, ran, cut_off, given_up, unread, too_long}
 use Rattle.provider_cli.specs.Drilled.{never}
 use Rattle.provider_cli.specs.Drilled.{Drilled, Completes}
-use Rattle.provider_cli.specs.Headline.{HasTranscript, HasWorld, terms_of, IsDelivered, HasRun}
-use Rattle.provider_cli.specs.Headline.{IsSent, sent, IsStreamed, IsReadOf}
+use Rattle.provider_cli.specs.Headline.{HasTranscript, HasWorld, IsRadiated, HasRadiation, terms_of}
+use Rattle.provider_cli.specs.Headline.{IsDelivered, HasRun, IsSent, sent, IsStreamed, IsReadOf}
 use Rattle.provider_cli.specs.Laws.{Laws}
 use Rattle.provider_cli.specs.Lines.{lines_of}
 use Rattle.provider_cli.specs.Outside.{Outside}
@@ -144,6 +145,18 @@ has_transcript laws (Some script) = λ site lines _. laws.told site lines
 pub has_world : Laws → (input : Option (List ℕ)) → HasWorld input
 has_world laws None = tt
 has_world laws (Some script) = λ site first more rest _. laws.world site first more
+
+-- what radiated behind first lines, by the headline at the world of their events
+radiated_so : Laws → (site : Site) (first : List (List ℕ)) → IsRadiated site first
+radiated_so laws site first =
+    let here = laws.world site first [] in
+    let come = subst (AllCome (origin site) before_all) here.begins.1 here.come in
+    let now = here.headline (script_events reading site first) here.begins.0 here.begins come in
+    record { told = here.radiated; sent_good = now.antenna; lawful = now.radiation }
+
+pub has_radiation : Laws → (input : Option (List ℕ)) → HasRadiation input
+has_radiation laws None = tt
+has_radiation laws (Some script) = λ site first rest _. radiated_so laws site first
 
 -- ---- completeness
 

@@ -2,7 +2,7 @@
 -- one fact each.
 use Rattle.std.specs.Prelude.{◌≡◌, ℕ, ◌+◌, IfSome, Option, None, List, [], ◌++◌}
 use Rattle.std.specs.Prelude.{length, map, take}
-use Rattle.std.specs.List.{flat_map}
+use Rattle.std.specs.List.{flat_map, AllByRecursion}
 use Rattle.isp1_tml.specs.Message.{Content, spelling, spellings}
 use Rattle.isp1_tml.specs.Stream.{IsStream}
 use Rattle.archive_terms.specs.Delivery.{Terms, offline, started}
@@ -16,7 +16,10 @@ use Rattle.station_law.specs.Said.{sent_text}
 use Rattle.station_desk.specs.Start.{selection}
 use Rattle.station_law.specs.Lines.{step_text}
 use Rattle.station_law.specs.Runs.{transcript, transcript_from, AreTold}
-use Rattle.script_world.specs.Script.{IsInWorld}
+use Rattle.station_world.specs.Headline.{RadiatesLawfully}
+use Rattle.station_world.specs.Life.{octets_sent}
+use Rattle.station_world.specs.World.{lives}
+use Rattle.script_world.specs.Script.{IsInWorld, radiated_from, world_behind}
 use Rattle.drill_text.specs.Reading.{reading}
 use Rattle.provider_cli.specs.Lines.{lines_of}
 use Rattle.provider_cli.specs.Script.{script_of, runs}
@@ -43,6 +46,21 @@ HasWorld input =
     IfSome input (λ script. (site : Site) (first more rest : List (List ℕ))
     → script_of (lines_of script) ≡ runs site (first ++ more ++ rest)
     → IsInWorld reading site first more)
+
+-- Of first lines, what radiated: the octets of each CLTU that they tell as radiated are those that
+-- the antenna was sent, over power failures too, which are those of the takes whose send was good,
+-- in order, each once. And in each life of the station, from an opening of its archive to a power
+-- failure, CLTUs radiate lawfully: those of each START at most once, in order, within their windows.
+pub record IsRadiated (site : Site) (first : List (List ℕ)) : Type 0 where
+  pub told : radiated_from reading (new_world site) first ≡ (world_behind reading site first).antenna
+  pub sent_good : (world_behind reading site first).antenna
+      ≡ flat_map octets_sent (lives (world_behind reading site first))
+  pub lawful : AllByRecursion RadiatesLawfully (lives (world_behind reading site first))
+
+abbrev pub HasRadiation : Option (List ℕ) → Type 0
+HasRadiation input =
+    IfSome input (λ script. (site : Site) (first rest : List (List ℕ))
+    → script_of (lines_of script) ≡ runs site (first ++ rest) → IsRadiated site first)
 
 -- what a START of the desk asks for, in buffers of two items
 abbrev pub terms_of : ℕ → Start → Terms

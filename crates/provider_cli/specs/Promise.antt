@@ -5,14 +5,14 @@ use Rattle.provider_cli.specs.Command.{code}
 use Rattle.provider_cli.specs.Outside.{Outside}
 use Rattle.provider_cli.specs.Drilled.{ended, HasText, HasReads, HasWrites, HasScript, Completes}
 use Rattle.provider_cli.specs.Start.{EachStart}
-use Rattle.provider_cli.specs.Headline.{HasTranscript, HasWorld, IsDelivered, IsSent, IsStreamed}
-use Rattle.provider_cli.specs.Headline.{IsReadOf}
+use Rattle.provider_cli.specs.Headline.{HasTranscript, HasWorld, HasRadiation, IsDelivered, IsSent}
+use Rattle.provider_cli.specs.Headline.{IsStreamed, IsReadOf}
 use Rattle.provider_cli.specs.Connection.{EachConnection, IsSessionOf, IsLosslessOf, HasHistory}
 
 -- By the status that the exit code is: what was written, which calls failed, what the script is,
 -- and that it ends with its own status. Then where the text of each line stands; that the lines are
 -- events of a world, which has the headline at each moment, so that what each START has handed over
--- is right behind all later ones; and of each START what delivers its buffers, where its messages
+-- is right behind all later ones; what radiated; and of each START what delivers its buffers, where its messages
 -- stand in the output, that they are a stream, and what a user reads of them. And of each
 -- connection: that what is said of it is *Session*, on the script's one book, which loses nothing that
 -- it asks, so that none ends with `aborted 127`.
@@ -26,6 +26,7 @@ pub record IsDrill (before after : Outside) (exit : ℕ) : Type 0 where
   pub complete : Completes before after status
   pub transcript : HasTranscript before.left
   pub world : HasWorld before.left
+  pub radiation : HasRadiation before.left
   pub delivered : EachStart before.left IsDelivered
   pub sent : EachStart before.left (IsSent before after status)
   pub streamed : EachStart before.left IsStreamed

@@ -17,6 +17,7 @@ use Rattle.drill_text.specs.declared.script_line.ScriptLine.{ScriptLine}
 use Rattle.drill_text.specs.declared.script_line.ScriptLine.TheVariants.{Offer, Desk}
 use Rattle.station_config.specs.declared.site.Site.{Site}
 use Rattle.station_law.specs.Store.{Store, blank}
+use Rattle.station_uplink.specs.Turns.{silent}
 use Rattle.station_law.specs.Doors.{Doors, anew}
 use Rattle.station_desk.specs.Start.{moment}
 use Rattle.station_law.specs.State.{State, start}
@@ -39,7 +40,8 @@ store_with published =
     record { capacity = capacity; published = published; unsettled = []; order = None }
 
 abbrev world_with : Doors → List Entry → State
-world_with d published = record { store = store_with published; clock = 0; doors = d }
+world_with d published =
+    record { store = store_with published; clock = 0; doors = d; uplink = silent }
 
 -- doors at whose book an entry was published, and so many frames from one on
 abbrev with_entry : Doors → Entry → Doors
@@ -160,7 +162,12 @@ start_text d n number few = rw (in_order n few) (append-nil (texts (map (handed 
 at_first : (site : Site) → site.capacity ≡ capacity
     → start site ≡ world_with (anew site []) (frames 0)
 at_first site is =
-    ap (λ n. record { store = blank n; clock = 0; doors = anew site [] }) is
+    ap (λ n. record {
+      store = blank n;
+      clock = 0;
+      doors = anew site [];
+      uplink = silent;
+    }) is
 
 module _ (n : ℕ) (some : 1 ≤ n) (few : n ≤ 20000) (site : Site)
     (is : site.capacity ≡ capacity) where

@@ -11,6 +11,8 @@ use Rattle.station_book.specs.State.{Opening}
 use Rattle.station_world.specs.File.{acknowledged, in_store}
 use Rattle.station_world.specs.World.{World, Event, offers, begins_store, after_events}
 use Rattle.station_world.specs.Archives.{StandsForOne}
+use Rattle.station_uplink.specs.declared.turn.Turn.{Turn}
+use Rattle.station_uplink.specs.Turns.{Turned, turn_of}
 use Rattle.drill_text.specs.declared.script_line.ScriptLine.{ScriptLine}
 use Rattle.drill_text.specs.declared.script_line.ScriptLine.TheVariants.{Skip, Offer, Desk, Clock}
 use Rattle.drill_text.specs.declared.script_line.ScriptLine.TheVariants.{Crash, Fault}
@@ -28,7 +30,7 @@ use Rattle.station_law.specs.Said.{Handed}
 use Rattle.station_law.specs.Answer.{is_wrong}
 use Rattle.station_law.specs.Doors.{Acted, act}
 use Rattle.station_law.specs.State.{State}
-use Rattle.station_law.specs.Lines.{offered, connected, step}
+use Rattle.station_law.specs.Lines.{offered, connected, uplinked, turn_at, turned_or_acted, step}
 use Rattle.script_world.specs.Events.{struck_by, stored_under, by_refusal, entry_line, events_of}
 use Rattle.script_world.specs.Script.{view_of, StandsBehind}
 
@@ -146,6 +148,16 @@ module _ (o : Opening) (state : State) (starts : List Handed) (w : World)
   by_act None events may = nothing events may
   by_act (Some a) events may = nothing events may
 
+  by_done : (t : Option Turned) (events : List Event) → May (uplinked state t).given
+      → StandsBehind o w events image
+  by_done None events may = nothing events may
+  by_done (Some t) events may = nothing events may
+
+  by_turn : (line : ScriptLine) (turn : Option Turn) (events : List Event)
+      → May (turned_or_acted state line turn).given → StandsBehind o w events image
+  by_turn line None events may = by_act (act state.doors state.clock line) events may
+  by_turn line (Some turn) events may = by_done (turn_at state turn) events may
+
   pub of_the_file : (line : ScriptLine) → May (step state line).given
       → StandsBehind o w (events_of state w line) image
   of_the_file Skip may = nothing [] may
@@ -154,4 +166,4 @@ module _ (o : Opening) (state : State) (starts : List Handed) (w : World)
   of_the_file (Clock at) may = nothing _ may
   of_the_file (Crash k pick) may = by_now k (pick_of pick) (k == 0) _ may
   of_the_file (Fault k) may = by_none k (k == 0) _ may
-  of_the_file line may = by_act (act state.doors state.clock line) _ may
+  of_the_file line may = by_turn line (turn_of line) _ may

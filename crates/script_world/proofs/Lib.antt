@@ -1,4 +1,5 @@
 pub mod Rounds
 pub mod Lines
+mod Radiated
 pub mod Runs
 pub mod Images

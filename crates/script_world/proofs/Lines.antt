@@ -1,7 +1,7 @@
 -- Each line's events lead where the line does.
 use Rattle.std.proofs.Common.{◌≡◌, ℕ, ◌≤◌, ◌<◌, ◌==◌, Bool, true, false, ◌&&◌, not, nat_lt, IsTrue}
 use Rattle.std.proofs.Common.{if◌then◌else◌, Option, Some, None, List, [], ◌∷◌, ◌++◌, map}
-use Rattle.std.proofs.Common.{refl, sym, subst, arith}
+use Rattle.std.proofs.Common.{refl, sym, ap, subst, arith}
 use Rattle.std.proofs.lemmas.Bool.Decides.{nat_tests}
 use Rattle.cds_time.specs.declared.cds.Cds.{Cds}
 use Rattle.archive_terms.specs.Archive.{Entry, IsArchive, is_valid, is_short, keeps_order}
@@ -9,7 +9,16 @@ use Rattle.archive_terms.specs.Archive.{may_follow}
 use Rattle.disk_model.specs.declared.orders.Pick.{Pick}
 use Rattle.record_form.specs.Entry.{entry_of}
 use Rattle.sle_numbers.specs.RequestedFrameQuality.{number_of}
-use Rattle.station_book.specs.State.{Opening}
+use Rattle.cltu_queue.specs.declared.taken.Taken.{Taken}
+use Rattle.cltu_queue.specs.declared.taken.Taken.TheVariants.{Idle, Waits, Expired, Radiate}
+use Rattle.station_book.specs.State.{Opening, take, took, done, interrupted, uplink}
+use Rattle.station_book.specs.State as books
+use Rattle.station_book.specs.History.{event_at, after}
+use Rattle.station_uplink.specs.declared.aloft.Aloft.{Aloft}
+use Rattle.station_uplink.specs.declared.turn.Turn.{Turn}
+use Rattle.station_uplink.specs.declared.turn.Turn.TheVariants as turns
+use Rattle.station_uplink.specs.Turns.{turn_of, found as finds, taken_by, done_by}
+use Rattle.station_uplink.specs.Turns.{events_of as turned_events}
 use Rattle.station_book.specs.Origin.{opening_of}
 use Rattle.station_world.specs.World.{World, Event}
 use Rattle.station_world.specs.Calls.{call_events, publishes_nothing}
@@ -37,10 +46,11 @@ use Rattle.station_law.specs.Said.{Handed, handed_by, linked, told, refused}
 use Rattle.station_law.specs.Answer.{Answer, says, is_wrong}
 use Rattle.station_law.specs.Doors.{Acted, act}
 use Rattle.station_law.specs.State.{State}
-use Rattle.station_law.specs.Lines.{recorded, offered, connected, step, step_read}
+use Rattle.station_law.specs.Lines.{recorded, offered, connected, uplinked, turn_at}
+use Rattle.station_law.specs.Lines.{turned_or_acted, step, step_read}
 use Rattle.station_law.specs.Connections.{events_of_act}
 use Rattle.script_world.specs.Events.{struck_by, stored_under, by_refusal, entry_line, asked}
-use Rattle.script_world.specs.Events.{events_of, events_read}
+use Rattle.script_world.specs.Events.{take_events, turn_events, events_by, events_of, events_read}
 use Rattle.script_world.specs.Script.{view_of}
 use Rattle.script_world.proofs.Rounds.{doors_publish_nothing}
 
@@ -183,6 +193,51 @@ module _ (law : LinesAreEvents) (hands : HandsOver) (state : State) (starts : Li
     at_doors line = by_act (act state.doors state.clock line)
         (doors_publish_nothing state.doors state.clock line)
 
+    -- ---- turns of the uplink
+
+    abbrev b : books.State
+    b = state.doors.book
+
+    by_send : (fail : Bool) (run id : ℕ) (octets : List ℕ) → finds b state.clock ≡ Radiate run id octets
+        → Leads (take_events b state.clock fail (Radiate run id octets))
+        (uplinked state (Some (taken_by b state.clock fail state.uplink (Radiate run id octets))))
+    by_send false run id octets is =
+        law.radiates o (view_of state starts) w state.clock run id octets true [] shows
+        (ap took is) refl
+    by_send true run id octets is =
+        law.radiates o (view_of state starts) w state.clock run id octets false
+        (event_at (after b (take state.clock)) (interrupted run id state.clock) ∷ []) shows
+        (ap took is) refl
+
+    by_found : (fail : Bool) (taken : Taken) → finds b state.clock ≡ taken
+        → Leads (take_events b state.clock fail taken)
+        (uplinked state (Some (taken_by b state.clock fail state.uplink taken)))
+    by_found fail Idle is = law.book o (view_of state starts) w
+        (event_at b (take state.clock) ∷ []) shows refl
+    by_found fail (Waits until) is = law.book o (view_of state starts) w
+        (event_at b (take state.clock) ∷ []) shows refl
+    by_found fail (Expired id) is = law.book o (view_of state starts) w
+        (event_at b (take state.clock) ∷ []) shows refl
+    by_found fail (Radiate run id octets) is = by_send fail run id octets is
+
+    by_air : (air : Option Aloft)
+        → Leads (call_events (turned_events (done_by b state.clock state.uplink air)))
+        (uplinked state (done_by b state.clock state.uplink air))
+    by_air None = stays
+    by_air (Some a) = law.book o (view_of state starts) w
+        (event_at b (done a.run a.id state.clock) ∷ []) shows refl
+
+    turn_leads : (turn : Turn) → Leads (turn_events state turn) (uplinked state (turn_at state turn))
+    turn_leads (turns.Take fail) = by_found fail (finds b state.clock) refl
+    turn_leads turns.Done = by_air state.uplink.in_air
+    turn_leads (turns.Uplink production status) = law.book o (view_of state starts) w
+        (event_at b (uplink production status state.clock) ∷ []) shows refl
+
+    by_turn : (line : ScriptLine) (turn : Option Turn)
+        → Leads (events_by state line turn) (turned_or_acted state line turn)
+    by_turn line None = at_doors line
+    by_turn line (Some turn) = turn_leads turn
+
     pub line_leads : (line : ScriptLine) → Leads (events_of state w line) (step state line)
     line_leads Skip = stays
     line_leads (Offer entry) = by_valid (entry_of entry) (is_valid (entry_of entry)) refl
@@ -191,7 +246,7 @@ module _ (law : LinesAreEvents) (hands : HandsOver) (state : State) (starts : Li
     line_leads (Clock at) = law.clock o (view_of state starts) w (moment at) shows
     line_leads (Crash k pick) = by_now k (pick_of pick) (k == 0)
     line_leads (Fault k) = by_none k (k == 0)
-    line_leads line = at_doors line
+    line_leads line = by_turn line (turn_of line)
 
     pub read_leads : (line : Option ScriptLine) → Leads (events_read state w line) (step_read state line)
     read_leads None = stays

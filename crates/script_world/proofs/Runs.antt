@@ -21,6 +21,7 @@ use Rattle.script_world.specs.Events.{events_read}
 use Rattle.script_world.specs.Script.{origin, view_of, answers, events_from, script_events}
 use Rattle.script_world.specs.Script.{IsInWorld}
 use Rattle.script_world.proofs.Lines.{HandsOver, read_leads}
+use Rattle.script_world.proofs.Radiated.{sent_behind}
 
 -- ---- lists of events
 
@@ -160,6 +161,8 @@ module _ (law : LinesAreEvents) (hands : HandsOver) (headline : HeadlineLaw) (si
           come = (script_leads (lines ++ more)).0;
           begins = (rest, script_splits lines more);
           shows = (script_leads lines).1;
+          radiated = sym (sent_behind reads lines (start site))
+              ∙ ap (λ (x : World). x.antenna) (sym (script_leads lines).1.is);
           headline = λ events next _ come. headline o events next come;
           stays = λ events next _ come. stays o events next come;
         }

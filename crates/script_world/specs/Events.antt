@@ -1,11 +1,20 @@
 -- The lines of a script as events of a station's world. This product's own.
-use Rattle.std.specs.Prelude.{ℕ, ◌==◌, Bool, nat_lt, if◌then◌else◌, Option, Some, None, List, []}
+use Rattle.std.specs.Prelude.{ℕ, ◌==◌, Bool, true, false, not, nat_lt, if◌then◌else◌, Option, Some}
+use Rattle.std.specs.Prelude.{None, List, [], ◌∷◌}
 use Rattle.cds_time.specs.declared.cds.Cds.{Cds}
 use Rattle.archive_terms.specs.Archive.{Entry, is_valid}
 use Rattle.archive_terms.specs.Selection.{by_quality}
 use Rattle.archive_terms.specs.Delivery.{offline}
 use Rattle.record_form.specs.Entry.{entry_of}
 use Rattle.sle_numbers.specs.RequestedFrameQuality.{number_of}
+use Rattle.cltu_queue.specs.declared.taken.Taken.{Taken}
+use Rattle.cltu_queue.specs.declared.taken.Taken.TheVariants.{Radiate}
+use Rattle.station_book.specs.State.{take, interrupted, Event as Answered}
+use Rattle.station_book.specs.State as books
+use Rattle.station_book.specs.History.{event_at, after}
+use Rattle.station_uplink.specs.declared.turn.Turn.{Turn}
+use Rattle.station_uplink.specs.declared.turn.Turn.TheVariants as turns
+use Rattle.station_uplink.specs.Turns.{turn_of, found, events_of as turned_events}
 use Rattle.drill_text.specs.declared.script_line.ScriptLine.{ScriptLine}
 use Rattle.drill_text.specs.declared.script_line.ScriptLine.TheVariants.{Skip, Offer, Desk, Clock}
 use Rattle.drill_text.specs.declared.script_line.ScriptLine.TheVariants.{Crash, Fault}
@@ -15,7 +24,7 @@ use Rattle.station_world.specs.Life.{Asked}
 use Rattle.station_world.specs.World.{World, Event}
 use Rattle.station_world.specs.Calls.{call_events}
 use Rattle.line_events.specs.Forms.{store_events, struck_events, failed_events, power_events}
-use Rattle.line_events.specs.Forms.{clock_events, start_events}
+use Rattle.line_events.specs.Forms.{clock_events, start_events, radiate_events}
 use Rattle.station_law.specs.declared.order.Order.{Order}
 use Rattle.station_law.specs.declared.order.Strike.{Strike}
 use Rattle.station_law.specs.declared.order.Strike.TheVariants.{Stop, Fail}
@@ -25,6 +34,7 @@ use Rattle.station_law.specs.Orders.{is_hit, leaves_entry}
 use Rattle.station_law.specs.Entries.{refusal}
 use Rattle.station_law.specs.Doors.{act}
 use Rattle.station_law.specs.State.{State}
+use Rattle.station_law.specs.Lines.{turn_at}
 use Rattle.station_law.specs.Connections.{events_of_act}
 
 -- ---- an entry's line
@@ -69,10 +79,34 @@ desk_line state w start stop quality =
     if nat_lt (moment stop) (moment start) then []
     else start_events (asked start stop quality) w state.store.published state.clock
 
+-- ---- turns of the uplink
+
+-- a CLTU whose send fails is interrupted
+abbrev pub interrupts : Bool → books.State → ℕ → ℕ → ℕ → List Answered
+interrupts true b run id reading = event_at b (interrupted run id reading) ∷ []
+interrupts false b run id reading = []
+
+-- what a take gives is sent, or its send fails
+abbrev pub take_events : books.State → ℕ → Bool → Taken → List Event
+take_events b reading fail (Radiate run id octets) = radiate_events reading (not fail)
+    (interrupts fail (after b (take reading)) run id reading)
+take_events b reading fail _ = call_events (event_at b (take reading) ∷ [])
+
+abbrev pub turn_events : State → Turn → List Event
+turn_events state (turns.Take fail) = take_events state.doors.book state.clock fail
+    (found state.doors.book state.clock)
+turn_events state turn = call_events (turned_events (turn_at state turn))
+
+-- of a line that is a turn, or else a connection's
+abbrev pub events_by : State → ScriptLine → Option Turn → List Event
+events_by state line (Some turn) = turn_events state turn
+events_by state line None = call_events (events_of_act (act state.doors state.clock line))
+
 -- ---- lines
 
--- Of a line in a world. A connection's line is its calls of the book; one that changes nothing, or
--- orders something of the disk's later calls, is no event.
+-- Of a line in a world. A connection's line is its calls of the book, and a turn of the uplink its
+-- calls and what it sends; a line that changes nothing, or orders something of the disk's later
+-- calls, is no event.
 abbrev pub events_of : State → World → ScriptLine → List Event
 events_of state w Skip = []
 events_of state w (Offer entry) =
@@ -81,7 +115,7 @@ events_of state w (Desk start stop quality) = desk_line state w start stop (numb
 events_of state w (Clock at) = clock_events (moment at)
 events_of state w (Crash k pick) = if k == 0 then power_events else []
 events_of state w (Fault k) = []
-events_of state w line = call_events (events_of_act (act state.doors state.clock line))
+events_of state w line = events_by state line (turn_of line)
 
 -- none of a line that can't be read
 abbrev pub events_read : State → World → Option ScriptLine → List Event

@@ -1,5 +1,5 @@
 -- A script as a list of events of a station's world, and the headline of it. This product's own.
-use Rattle.std.specs.Prelude.{ℕ, Option, List, [], ◌∷◌, ◌++◌, take}
+use Rattle.std.specs.Prelude.{◌≡◌, ℕ, Option, List, [], ◌∷◌, ◌++◌, take}
 use Rattle.station_book.specs.Origin.{opening_of}
 use Rattle.station_book.specs.State.{Opening}
 use Rattle.station_config.specs.declared.site.Site.{Site}
@@ -13,7 +13,7 @@ use Rattle.station_world.specs.Archives.{StandsForOne}
 use Rattle.line_events.specs.Shows.{Told, View, Shows}
 use Rattle.line_events.specs.Forms.{first_events}
 use Rattle.station_law.specs.State.{State, start}
-use Rattle.station_law.specs.Said.{Handed}
+use Rattle.station_law.specs.Said.{Handed, radiated_by}
 use Rattle.station_law.specs.Answer.{Answer}
 use Rattle.station_law.specs.Lines.{step, step_read}
 use Rattle.station_law.specs.Runs.{after, handed_after}
@@ -35,6 +35,7 @@ view_of state starts = record {
   published = state.store.published;
   book = state.doors.book;
   clock = state.clock;
+  antenna = state.uplink.sent;
   told = told_since starts;
 }
 
@@ -53,6 +54,12 @@ module _ {L : Type 0} (reads : L → Option ScriptLine) where
   -- what a line answers
   abbrev pub answers : State → L → Answer State
   answers state line = step_read state (reads line)
+
+  -- the octets of each CLTU that lines tell as radiated, in order
+  abbrev pub radiated_from : State → List L → List (List ℕ)
+  radiated_from state [] = []
+  radiated_from state (line ∷ lines) =
+      radiated_by (answers state line).said ++ radiated_from (answers state line).next lines
 
   -- the events of lines, one behind the other
   abbrev pub events_from : Opening → State → World → List L → List Event
@@ -73,13 +80,14 @@ module _ {L : Type 0} (reads : L → Option ScriptLine) where
 
   -- Some lines of a script, and further ones: the events of all may come, those of the first lines
   -- first. The state behind these is that of the world behind their events, as is what each START
-  -- has handed over. And at each moment, also within a line, and whatever comes then, the headline
-  -- holds, and what was done stays.
+  -- has handed over; and what they tell as radiated is what its antenna was sent. And at each moment,
+  -- also within a line, and whatever comes then, the headline holds, and what was done stays.
   pub record IsInWorld (site : Site) (lines more : List L) : Type 0 where
     pub come : AllCome (origin site) before_all (script_events site (lines ++ more))
     pub begins : Begins (script_events site lines) (script_events site (lines ++ more))
     pub shows : Shows (view_of (after answers (start site) lines)
         (handed_after answers (start site) [] lines)) (world_behind site lines)
+    pub radiated : radiated_from (start site) lines ≡ (world_behind site lines).antenna
     pub headline : AtEachMoment Headline (origin site) (script_events site (lines ++ more))
     pub stays : AtEachMoment LivesGoOn (origin site) (script_events site (lines ++ more))
 

@@ -3,7 +3,7 @@
 use Rattle.std.proofs.Common.{◌≡◌, ℕ, zero, suc, ◌==◌, Bool, true, false, if◌then◌else◌, Option}
 use Rattle.std.proofs.Common.{Some, None, List, [], ◌∷◌, ◌++◌, map, replicate, slice_get, set}
 use Rattle.std.proofs.Common.{arith, is_some, refl, sym, ap, subst, ◌∙◌, append_assoc, append-nil}
-use Rattle.std.proofs.Common.{⊎_elim}
+use Rattle.std.proofs.Common.{⊎_elim, IsTrue}
 use Rattle.std.proofs.lemmas.Bool.{eq-eqb}
 use Rattle.std.proofs.lemmas.Bool.Decides.{eqb_tells}
 use Rattle.std.proofs.lemmas.Option.{gets}
@@ -14,7 +14,9 @@ use Rattle.cds_time.specs.declared.cds.Cds.{Cds}
 use Rattle.disk_model.specs.declared.orders.Pick.{Pick}
 use Rattle.record_form.specs.Entry.{entry_of}
 use Rattle.station_config.specs.declared.site.Site.{Site}
-use Rattle.station_book.specs.State.{Event, quit}
+use Rattle.station_book.specs.State.{Event, Call, publish, answer, quit, take, done as was_done}
+use Rattle.station_book.specs.State.{interrupted}
+use Rattle.station_book.specs.State.{uplink as set_uplink, gone as worker_gone}
 use Rattle.station_book.specs.State as books
 use Rattle.station_book.specs.Doors.{is_by}
 use Rattle.station_book.specs.History.{replay, then_after, IsLegal, event_at}
@@ -22,6 +24,7 @@ use Rattle.drill_text.specs.declared.end_word.EndWord.{EndWord}
 use Rattle.drill_text.specs.declared.script_line.ScriptLine.{ScriptLine}
 use Rattle.drill_text.specs.declared.script_line.ScriptLine.TheVariants.{Skip, Offer, Desk, Clock}
 use Rattle.drill_text.specs.declared.script_line.ScriptLine.TheVariants.{Crash, Fault, Open}
+use Rattle.drill_text.specs.declared.script_line.ScriptLine.TheVariants.{Take, Done, Uplink}
 use Rattle.session_core.specs.Session.{State as StateOfSession, step_events, round_events}
 use Rattle.session_core.specs.Course.{is_over}
 use Rattle.station_links.specs.declared.link_line.LinkLine.{LinkLine}
@@ -29,6 +32,11 @@ use Rattle.station_links.specs.Connected.{Connected, opened as opened_link}
 use Rattle.station_links.specs.Rounds.{round_at, round_of, end_after, stands_after, left_by, quits}
 use Rattle.station_links.specs.Rounds.{listened_at, told_now}
 use Rattle.station_links.specs.Run.{Order, Deed, said_by, events_by, RunsAreSessions}
+use Rattle.station_uplink.specs.declared.turn.Turn.{Turn}
+use Rattle.station_uplink.specs.declared.turn.Turn.TheVariants as turns
+use Rattle.station_uplink.specs.declared.uplink_line.UplinkLine.{UplinkLine}
+use Rattle.station_uplink.specs.Turns.{Turned, events_of}
+use Rattle.station_uplink.specs.Facts.{is_of_antenna, turn_holds}
 use Rattle.sle_numbers.specs.RequestedFrameQuality.{number_of}
 use Rattle.station_law.specs.Store.{Store}
 use Rattle.station_law.specs.Doors.{Act, Acted, act_of, acted, acted_on, acted_by, opens, Doors}
@@ -36,7 +44,7 @@ use Rattle.station_law.specs.Doors.{Ran, ordered, rounds_of, anew, act}
 use Rattle.station_desk.specs.Start.{moment, told_desk}
 use Rattle.station_law.specs.State.{State}
 use Rattle.station_desk.specs.ToldBuffer.{ToldBuffer}
-use Rattle.station_law.specs.Said.{linked, handed}
+use Rattle.station_law.specs.Said.{linked, uplink, handed}
 use Rattle.station_law.specs.Answer.{Answer, ends, is_wrong}
 use Rattle.station_law.specs.declared.step_done.StepDone.{StepDone}
 use Rattle.station_law.specs.declared.step_done.StepDone.TheVariants.{Fine, WrongState}
@@ -45,9 +53,11 @@ use Rattle.station_law.specs.Entries.{offer}
 use Rattle.station_law.specs.Desk.{desk}
 use Rattle.station_law.specs.Orders.{pick_of}
 use Rattle.station_law.specs.Power.{crash_line, fault_line}
-use Rattle.station_law.specs.Lines.{recorded, offered, connected, step, step_read}
+use Rattle.station_law.specs.Lines.{recorded, offered, connected, uplinked, turn_at, step}
+use Rattle.station_law.specs.Lines.{step_read}
 use Rattle.station_law.specs.Connections.{at_door, turns_of, orders_in, deeds_by, deeds_at, said_at}
-use Rattle.station_law.specs.Connections.{published_by, events_of_act, acted_at, events_at, GoesOn}
+use Rattle.station_law.specs.Connections.{published_by, events_of_act, own_events, events_at}
+use Rattle.station_law.specs.Connections.{GoesOn}
 use Rattle.station_law.specs.Connections.{Life, no_life, life, IsOfSession}
 use Rattle.station_law.proofs.Rounds.{gone}
 
@@ -177,6 +187,18 @@ rounds_are : (site : Site) (k c : ℕ) (same : Bool) → (k == c) ≡ same
 rounds_are site k c same is reading = rounds_hold (λ b h. Are same c h) (λ b. tt)
     (λ b h k. are_both same c h k) site k reading (λ b s. (is, tt)) (λ b. (is, tt))
 
+-- nor is a call of the antenna's worker a door's
+
+none_by : (c : ℕ) (call : Call) → IsTrue (is_of_antenna call) → is_by c call ≡ false
+none_by c (publish entries) own = absurd cc
+none_by c (answer door reading ask want) own = absurd cc
+none_by c (quit door) own = absurd cc
+none_by c (worker_gone worker) own = absurd cc
+none_by c (take reading) own = refl
+none_by c (was_done run id reading) own = refl
+none_by c (interrupted run id reading) own = refl
+none_by c (set_uplink production status reading) own = refl
+
 -- ---- what is said of a door
 
 said_of_lines : (k c : ℕ) (lines : List LinkLine)
@@ -187,6 +209,11 @@ said_of_lines k c (line ∷ lines) = let rest = said_of_lines k c lines in grind
 handed_elsewhere : (c : ℕ) (buffers : List ToldBuffer) → said_at c (map (handed 0) buffers) ≡ []
 handed_elsewhere c [] = refl
 handed_elsewhere c (buffer ∷ buffers) = handed_elsewhere c buffers
+
+-- what a turn of the uplink says is of no door
+uplink_apart : (c : ℕ) (lines : List UplinkLine) → said_at c (map uplink lines) ≡ []
+uplink_apart c [] = refl
+uplink_apart c (line ∷ lines) = uplink_apart c lines
 
 -- no line that concerns what is stored says anything of a door
 offer_apart : (c : ℕ) (store : Store) (entry : Entry) → said_at c (offer store entry).said ≡ []
@@ -207,25 +234,28 @@ fault_apart c store k = grind arith
 
 -- ---- what lines are
 
--- A line does nothing at the doors, concerns what is stored, opens a connection, or asks something
--- of one. What holds of each of these holds of every line.
-module _ (state : State) (P : Option Act → Answer State → Option Acted → Type 0)
+-- A line does nothing at the doors, concerns what is stored, opens a connection, asks something of
+-- one, or is a turn of the uplink. What holds of each of these, with its events of the book but those
+-- that publish, holds of every line.
+module _ (state : State) (P : Option Act → Answer State → List Event → Type 0)
     (still : (done : StepDone) (clock : ℕ)
-    → P None (ends done [] (record state { clock = clock })) None)
+    → P None (ends done [] (record state { clock = clock })) [])
     (stored : (a : Answer Store) → ((c : ℕ) → said_at c a.said ≡ [])
-    → P None (recorded state a) None)
+    → P None (recorded state a) [])
     (opened : (k : ℕ) (o : Option (Option Connected)) → slice_get state.doors.connections k ≡ o
     → P None (connected state (opens state.doors state.clock k o))
-    (opens state.doors state.clock k o))
+    (events_of_act (opens state.doors state.clock k o)))
     (asked : (a : Option Act) → P a (connected state (acted state.doors state.clock a))
-    (acted state.doors state.clock a)) where
+    (events_of_act (acted state.doors state.clock a)))
+    (turned : (turn : Turn) → P None (uplinked state (turn_at state turn))
+    (events_of (turn_at state turn))) where
   by_valid : (entry : Entry) (valid : Bool)
-      → P None (if valid then offered state entry else is_wrong state) None
+      → P None (if valid then offered state entry else is_wrong state) []
   by_valid entry true = stored (offer state.store entry) (λ c. offer_apart c state.store entry)
   by_valid entry false = still WrongState state.clock
 
   pub by_line : (line : ScriptLine)
-      → P (act_of line) (step state line) (act state.doors state.clock line)
+      → P (act_of line) (step state line) (own_events state (Some line))
   by_line Skip = still Fine state.clock
   by_line (Offer entry) = by_valid (entry_of entry) (is_valid (entry_of entry))
   by_line (Desk start stop quality) = stored (desk state.store start stop (number_of quality))
@@ -235,6 +265,9 @@ module _ (state : State) (P : Option Act → Answer State → Option Acted → T
       (λ c. crash_apart c state.store k (pick_of pick))
   by_line (Fault k) = stored (fault_line state.store k) (λ c. fault_apart c state.store k)
   by_line (Open k) = opened k (slice_get state.doors.connections k) refl
+  by_line (Take fail) = turned (turns.Take fail)
+  by_line Done = turned turns.Done
+  by_line (Uplink production status) = turned (turns.Uplink production status)
   by_line line = asked (act_of line)
 
 -- what holds of no events, and of those of rounds, holds of the events of what is asked
@@ -325,6 +358,20 @@ module _ (c : ℕ) (state : State) (l : Connected) (at : at_door state c ≡ Som
       (set_other state.doors.connections k c (Some (opened_link k state.clock)) (λ is. cc))
       refl refl
 
+  -- a turn of the uplink
+  turned_so : (o : Option Turned) → Are false c (events_of o)
+      → MovesBy [] (uplinked state o) (events_of o)
+  turned_so None are = wrong
+  turned_so (Some t) are =
+      stays c state l (uplinked state (Some t)) t.events at refl refl (uplink_apart c t.said)
+      (picked_events false c t.events are)
+
+  turn_so : (turn : Turn)
+      → MovesBy [] (uplinked state (turn_at state turn)) (events_of (turn_at state turn))
+  turn_so turn = turned_so (turn_at state turn) (turn_holds (λ b h. Are false c h) (λ b. tt)
+      (λ b h k. are_both false c h k) (λ b call own. (none_by c call own, tt)) state.doors.book
+      state.clock state.uplink turn)
+
   -- another door
   acts_elsewhere : (a : Act) (o : Option (Option Connected)) → (a.c == c) ≡ false
       → ¬ (a.c ≡ c) → MovesBy [] (connected state (acted_on state.doors state.clock a o))
@@ -387,13 +434,13 @@ module _ (c : ℕ) (state : State) (l : Connected) (at : at_door state c ≡ Som
       (eqb_tells a.c c)
 
   moves : (line : Option ScriptLine) → Moves c state l (deeds_at state c l line)
-      (step_read state line) (events_of_act (acted_at state line))
+      (step_read state line) (own_events state line)
   moves None = wrong c state l at
   moves (Some line) = by_line state
-      (λ asks a done. Moves c state l (deeds_by state.doors state.clock c l asks) a
-      (events_of_act done))
+      (λ asks a own. Moves c state l (deeds_by state.doors state.clock c l asks) a own)
       (λ done clock. stays c state l (ends done [] (record state { clock = clock })) [] at refl refl
-      refl refl) (λ a none. stored c state l at a (none c)) (opens_so c state l at) acts_so line
+      refl refl) (λ a none. stored c state l at a (none c)) (opens_so c state l at) acts_so
+      (turn_so c state l at) line
 
 -- ---- lines
 
@@ -436,7 +483,7 @@ module _ {L : Type 0} (reads : L → Option ScriptLine) (c : ℕ) where
   lived [] state l at = record { says = refl; asks = refl }
   lived (line ∷ lines) state l at =
       let a = step_read state (reads line) in
-      let acted = events_of_act (acted_at state (reads line)) in
+      let acted = own_events state (reads line) in
       let later = life reads c a.next lines in
       let moved = moves c state l at (reads line) in
       rw at (followed state.doors.site l (deeds_at state c l (reads line)) (ran_at c state a acted)
@@ -495,9 +542,19 @@ module _ (state : State) where
     renewed = λ is. absurd cc;
   }
 
+  turned_goes : (o : Option Turned) → IsLegal state.doors.book (events_of o)
+      → Goes (uplinked state o) (events_of o)
+  turned_goes None legal = still WrongState state.clock
+  turned_goes (Some t) legal = record {
+    site = refl;
+    legal = legal;
+    same = λ is. refl;
+    renewed = λ is. absurd cc;
+  }
+
   line_goes : (line : ScriptLine)
-      → Goes (step_read state (Some line)) (events_of_act (acted_at state (Some line)))
-  line_goes = by_line state (λ asks a done. Goes a (events_of_act done)) still
+      → Goes (step_read state (Some line)) (own_events state (Some line))
+  line_goes = by_line state (λ asks a own. Goes a own) still
       (λ a none. recorded_goes a)
       (λ k o slot. acted_goes (opens state.doors state.clock k o)
       (rw (opens_nothing state.doors state.clock k o) tt))
@@ -505,9 +562,11 @@ module _ (state : State) where
       state.doors state.clock tt (λ a l. rounds_hold IsLegal (λ b. tt) legal_both
       state.doors.site a.c state.clock (λ b s. (refl, tt)) (λ b. (refl, tt)) a.rounds
       state.doors.book (Some l)) a))
+      (λ turn. turned_goes (turn_at state turn) (turn_holds IsLegal (λ b. tt) legal_both
+      (λ b call own. (refl, tt)) state.doors.book state.clock state.uplink turn))
 
   goes_read : (line : Option ScriptLine)
-      → Goes (step_read state line) (events_of_act (acted_at state line))
+      → Goes (step_read state line) (own_events state line)
   goes_read None = still WrongState state.clock
   goes_read (Some line) = line_goes line
 

@@ -1,11 +1,12 @@
 -- A world's book has what is stored, behind each call of its parts.
 use Rattle.std.proofs.Common.{◌≡◌, ℕ, Bool, true, false, Option, Some, None, IsTrue, refl, sym}
-use Rattle.std.proofs.Common.{subst}
+use Rattle.std.proofs.Common.{subst, ◌∙◌}
 use Rattle.archive_terms.specs.Archive.{is_valid}
 use Rattle.record_form.specs.Entry.{entry_of}
 use Rattle.record_form.specs.declared.entry.Entry as form
 use Rattle.drill_text.specs.declared.script_line.ScriptLine.{ScriptLine}
 use Rattle.drill_text.specs.declared.script_line.ScriptLine.TheVariants.{Offer}
+use Rattle.station_uplink.specs.Turns.{silent}
 use Rattle.station_law.specs.declared.outcome.Outcome.{Outcome}
 use Rattle.station_law.specs.declared.said.SaidAt.{SaidAt}
 use Rattle.station_law.specs.Store.{Store, Recorded}
@@ -33,7 +34,8 @@ agrees spent store doors ready agree = rw ready at agree
 
 -- the state that a store and doors are, at a reading of the clock
 abbrev state_of : Store → ℕ → Doors → State
-state_of store reading d = record { store = store; clock = reading; doors = d }
+state_of store reading d =
+    record { store = store; clock = reading; doors = d; uplink = silent }
 
 one_of : (store : Store) (reading : ℕ) (doors : DoorsSeen) (agree : Agree store doors)
     → HasOneArchive (state_of store reading agree.stands)
@@ -89,3 +91,19 @@ acted_agrees law store reading line said old new agree does =
     by_case (Some a) None one is = absurd is
     by_case (Some a) (Some s) one is =
         with_doors store new (doors_after agree.stands a) agree.sound is.doors one.same
+
+-- doors of which the book alone changed, which publishes nothing
+pub turned_agrees : (store : Store) (old new : DoorsSeen) → Agree store old
+    → new ≡ record old { book = new.book } → new.book.published ≡ old.book.published
+    → Agree store new
+turned_agrees store old new agree new_is published = record {
+  sound = agree.sound;
+  stands = record agree.stands { book = new.book };
+  are = subst (λ (x : DoorsSeen). AreDoors x (record agree.stands { book = new.book }))
+      (sym new_is) (record {
+        site = agree.are.site;
+        book = refl;
+        at = agree.are.at;
+      });
+  same = published ∙ agree.same;
+}

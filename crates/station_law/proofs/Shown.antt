@@ -6,13 +6,18 @@ use Rattle.archive_terms.specs.Archive.{Entry, IsArchive}
 use Rattle.station_config.specs.declared.site.Site.{Site}
 use Rattle.cltu_queue.specs.declared.ask.Ask.{Ask}
 use Rattle.station_book.specs.State as books
-use Rattle.station_book.specs.History.{replay, is_lost, with_ask, may_publish, moment_at}
+use Rattle.station_book.specs.State.{Call, publish, answer, quit, take, done, interrupted, uplink}
+use Rattle.station_book.specs.State.{gone}
+use Rattle.station_book.specs.History.{replay, after, is_lost, with_ask, may_publish, moment_at}
 use Rattle.drill_text.specs.declared.script_line.ScriptLine.{ScriptLine}
 use Rattle.drill_text.specs.declared.script_line.ScriptLine.TheVariants.{Open}
 use Rattle.drill_text.specs.Reading.{reading}
 use Rattle.session_core.specs.Session as sessions
 use Rattle.session_core.specs.Steps.{ask_of}
 use Rattle.station_links.specs.Connected.{Connected}
+use Rattle.station_uplink.specs.declared.turn.Turn.{Turn}
+use Rattle.station_uplink.specs.Turns.{Turned, events_of}
+use Rattle.station_uplink.specs.Facts.{is_of_antenna, turn_holds}
 use Rattle.station_law.specs.Store.{Store}
 use Rattle.station_law.specs.Doors.{Act, act_of, rounds_of, acted, opens, act, Acted}
 use Rattle.station_law.specs.State.{State, start}
@@ -21,7 +26,8 @@ use Rattle.station_law.specs.Sound.{IsSound, Moves, Keeps}
 use Rattle.station_law.specs.Runs as runs
 use Rattle.station_law.specs.EntriesFacts.{Grows}
 use Rattle.station_law.specs.LinesFacts.{facts, facts_text}
-use Rattle.station_law.specs.Lines.{doors_behind, recorded, connected, step, step_read, step_text}
+use Rattle.station_law.specs.Lines.{doors_behind, recorded, connected, uplinked, turn_at}
+use Rattle.station_law.specs.Lines.{step, step_read, step_text}
 use Rattle.station_law.specs.Shown.{HasWhatIsStored, HasOneArchive}
 use Rattle.station_law.proofs.Rounds.{replay-append}
 use Rattle.station_law.proofs.Lives.{rounds_hold, by_line, by_act, opens_nothing}
@@ -40,6 +46,19 @@ rounds_shown site c reading = rounds_hold (λ b h. (replay b h).published ≡ b.
     (λ b s.
     let ask = ask_of site s.standing (sessions.next_of s) (moment_at b reading) in
     asked_shown b c (moment_at b reading) ask (is_lost b c ask)) (λ b. refl)
+
+-- nor does a turn of the uplink
+
+call_shown : (b : books.State) (call : Call) → IsTrue (is_of_antenna call)
+    → (after b call).published ≡ b.published
+call_shown b (publish entries) own = absurd cc
+call_shown b (answer door reading ask want) own = absurd cc
+call_shown b (quit door) own = absurd cc
+call_shown b (gone worker) own = absurd cc
+call_shown b (take reading) own = refl
+call_shown b (done run id reading) own = refl
+call_shown b (interrupted run id reading) own = refl
+call_shown b (uplink production status reading) own = refl
 
 published_so : (b : books.State) (given : List Entry) (may : Bool) → IsTrue may
     → (if may then record b { published = b.published ++ given } else b).published
@@ -85,11 +104,23 @@ module _ (state : State) (shown : state.doors.book.published ≡ state.store.pub
   door_shown c o = acted_shown (opens state.doors state.clock c o)
       (rw (opens_nothing state.doors state.clock c o) refl)
 
+  turned_shown : (o : Option Turned)
+      → (replay state.doors.book (events_of o)).published ≡ state.doors.book.published
+      → Shows (uplinked state o)
+  turned_shown None same = shown
+  turned_shown (Some t) same = same ∙ shown
+
+  turn_shown : (turn : Turn) → Shows (uplinked state (turn_at state turn))
+  turn_shown turn = turned_shown (turn_at state turn)
+      (turn_holds (λ b h. (replay b h).published ≡ b.published) (λ b. refl)
+      (λ b h k first second. rw (replay-append b h k) (second ∙ first)) call_shown
+      state.doors.book state.clock state.uplink turn)
+
   line_shown : (line : ScriptLine) → Keeps state.store (runs.in_store (step state line))
       → Shows (step state line)
   line_shown = by_line state (λ asks a done. Keeps state.store (runs.in_store a) → Shows a)
       (λ done clock keeps. shown) (λ a none. recorded_shown a) (λ c o slot keeps. door_shown c o)
-      (λ asks keeps. act_shown asks)
+      (λ asks keeps. act_shown asks) (λ turn keeps. turn_shown turn)
 
   pub at_doors_shown : (line : ScriptLine)
       → Shows (connected state (act state.doors state.clock line))

@@ -12,6 +12,8 @@ use Rattle.station_book.specs.History.{replay, IsLegal}
 use Rattle.station_book.specs.Doors.{is_by}
 use Rattle.drill_text.specs.declared.script_line.ScriptLine.{ScriptLine}
 use Rattle.session_core.specs.Session.{at_first}
+use Rattle.station_uplink.specs.declared.turn.Turn.{Turn}
+use Rattle.station_uplink.specs.Turns.{turn_of, events_of}
 use Rattle.station_links.specs.declared.link_line.LinkLine.{LinkLine}
 use Rattle.station_links.specs.Connected.{Connected, draw, opened}
 use Rattle.station_links.specs.Rounds.{round_of}
@@ -21,7 +23,7 @@ use Rattle.station_law.specs.Doors.{Doors, Act, act_of, Acted, act, ordered, ane
 use Rattle.station_law.specs.State.{State}
 use Rattle.station_law.specs.Said.{Said, linked}
 use Rattle.station_law.specs.Standing.{there}
-use Rattle.station_law.specs.Lines.{step_read, publishing}
+use Rattle.station_law.specs.Lines.{turn_at, step_read, publishing}
 
 -- the connection at a door, if one is there
 abbrev pub at_door : State → ℕ → Option Connected
@@ -72,14 +74,19 @@ abbrev pub events_of_act : Option Acted → List Event
 events_of_act None = []
 events_of_act (Some a) = a.events
 
-abbrev pub acted_at : State → Option ScriptLine → Option Acted
-acted_at state None = None
-acted_at state (Some line) = act state.doors state.clock line
+abbrev pub events_by_turn : State → ScriptLine → Option Turn → List Event
+events_by_turn state line (Some turn) = events_of (turn_at state turn)
+events_by_turn state line None = events_of_act (act state.doors state.clock line)
+
+-- those of a turn of the uplink, or of a connection
+abbrev pub own_events : State → Option ScriptLine → List Event
+own_events state None = []
+own_events state (Some line) = events_by_turn state line (turn_of line)
 
 abbrev pub line_events : State → Option ScriptLine → List Event
 line_events state line =
     published_by (step_read state line).recovers state.doors.book (step_read state line).given
-    ++ events_of_act (acted_at state line)
+    ++ own_events state line
 
 -- those of a door
 abbrev pub events_at : ℕ → List Event → List Event

@@ -10,11 +10,14 @@ use Rattle.drill_text.specs.declared.script_line.ScriptLine.TheVariants.{Skip, O
 use Rattle.drill_text.specs.declared.script_line.ScriptLine.TheVariants.{Crash, Fault}
 use Rattle.drill_text.specs.Reading.{reading}
 use Rattle.station_links.specs.declared.link_line.LinkLine.{LinkLine}
+use Rattle.station_uplink.specs.declared.turn.Turn.{Turn}
+use Rattle.station_uplink.specs.declared.uplink_line.UplinkLine.{UplinkLine}
+use Rattle.station_uplink.specs.Turns.{Turned, turn_of}
 use Rattle.sle_numbers.specs.RequestedFrameQuality.{number_of}
 use Rattle.station_law.specs.Store.{Store}
 use Rattle.station_law.specs.Doors.{Acted, act}
 use Rattle.station_law.specs.State.{State}
-use Rattle.station_law.specs.Said.{Handed, handed_by, linked, told_once, buffers_told}
+use Rattle.station_law.specs.Said.{Handed, handed_by, linked, uplink, told_once, buffers_told}
 use Rattle.station_law.specs.Answer.{Answer, says, is_wrong}
 use Rattle.station_law.specs.Sound.{IsSound, Keeps}
 use Rattle.station_law.specs.Runs.{in_store}
@@ -24,7 +27,8 @@ use Rattle.station_law.specs.EntriesFacts as entries
 use Rattle.station_law.specs.DeskFacts as desk
 use Rattle.station_law.specs.Orders.{pick_of}
 use Rattle.station_law.specs.PowerFacts.{crash_facts, fault_facts}
-use Rattle.station_law.specs.Lines.{recorded, offered, connected, step, step_read, step_text}
+use Rattle.station_law.specs.Lines.{recorded, offered, connected, uplinked, turn_at}
+use Rattle.station_law.specs.Lines.{turned_or_acted, step, step_read, step_text}
 
 -- ---- lines that give nothing to a store
 
@@ -55,6 +59,32 @@ at_doors state sound (Some a) =
     leaves_all state.store state.store _ (map (linked a.c) a.said) refl refl
     (none_handed a.c a.said) (none_told a.c a.said) sound
 
+-- nor does what a turn of the uplink says
+
+none_handed_up : (lines : List UplinkLine) (starts : List Handed)
+    → handed_by starts (map uplink lines) ≡ starts
+none_handed_up [] starts = refl
+none_handed_up (line ∷ lines) starts = none_handed_up lines starts
+
+none_told_up : (lines : List UplinkLine) → buffers_told (map uplink lines) ≡ 0
+none_told_up [] = refl
+none_told_up (line ∷ lines) =
+    let sum = sum_by-cons told_once (uplink line) (map uplink lines) in
+    let rest = none_told_up lines in
+    omega (arith, sum, rest)
+
+at_uplink : (state : State) → IsSound state.store → (t : Option Turned)
+    → Keeps state.store (in_store (uplinked state t))
+at_uplink state sound None = wrong state.store sound
+at_uplink state sound (Some t) =
+    leaves_all state.store state.store _ (map uplink t.said) refl refl (none_handed_up t.said)
+    (none_told_up t.said) sound
+
+by_turn : (state : State) (line : ScriptLine) → IsSound state.store → (turn : Option Turn)
+    → Keeps state.store (in_store (turned_or_acted state line turn))
+by_turn state line sound None = at_doors state sound (act state.doors state.clock line)
+by_turn state line sound (Some turn) = at_uplink state sound (turn_at state turn)
+
 -- what is kept of a store is kept of the world
 of_store : (state : State) (a : Answer Store) → Keeps state.store a
     → Keeps state.store (in_store (recorded state a))
@@ -82,7 +112,7 @@ module _ (grows : Grows) where
   facts state (Crash k pick) sound =
       of_store state _ (crash_facts state.store sound k (pick_of pick))
   facts state (Fault k) sound = of_store state _ (fault_facts state.store sound k)
-  facts state line sound = at_doors state sound (act state.doors state.clock line)
+  facts state line sound = by_turn state line sound (turn_of line)
 
   facts_read : (state : State) (line : Option ScriptLine) → IsSound state.store
       → Keeps state.store (in_store (step_read state line))

@@ -1,10 +1,13 @@
--- What an outcome says, and how the line of an entry ends by it.
-use Rattle.std.specs.Prelude.{List, [], ◌∷◌}
+-- What an outcome says, and a turn of the uplink, and how the line ends by it.
+use Rattle.std.specs.Prelude.{List, [], ◌∷◌, map}
+use Rattle.station_uplink.specs.Standing.{said_by}
+use Rattle.station_uplink.specs.declared.turned.Turned.{Turned}
+use Rattle.station_uplink.specs.declared.turned.Turned.TheVariants.{Wrong}
 use Rattle.station_law.specs.declared.outcome.Outcome.{Outcome}
 use Rattle.station_law.specs.declared.outcome.Outcome.TheVariants.{Stored, Refused, Crashed, Failed}
 use Rattle.station_law.specs.declared.step_done.StepDone.{StepDone}
-use Rattle.station_law.specs.declared.step_done.StepDone.TheVariants.{Fine}
-use Rattle.station_law.specs.Said.{Said, told, crash, fault, archive}
+use Rattle.station_law.specs.declared.step_done.StepDone.TheVariants.{Fine, WrongState}
+use Rattle.station_law.specs.Said.{Said, told, uplink, crash, fault, archive}
 use Rattle.station_law.specs.Entries.{notice_of}
 use Rattle.station_law.specs.Entries as entries
 
@@ -17,3 +20,11 @@ said_of (Failed count) = told fault ∷ told (archive count) ∷ []
 abbrev pub done_of : Outcome → StepDone
 done_of (Refused why) = entries.done_of why
 done_of _ = Fine
+
+-- of a turn of the uplink
+abbrev pub said_of_turn : Turned → List Said
+said_of_turn how = map uplink (said_by how)
+
+abbrev pub done_of_turn : Turned → StepDone
+done_of_turn Wrong = WrongState
+done_of_turn _ = Fine

@@ -10,6 +10,8 @@ use Rattle.drill_text.specs.Transcript.{transcript, lines, sent}
 use Rattle.drill_text.specs.Transcript as forms
 use Rattle.station_links.specs.declared.link_line.LinkLine.{LinkLine}
 use Rattle.station_links.specs.LinkLines as links
+use Rattle.station_uplink.specs.declared.uplink_line.UplinkLine.{UplinkLine}
+use Rattle.station_uplink.specs.Turns as turns
 
 -- a line of the transcript that hands nothing over: why an entry or a START is refused; that a
 -- store failed; that the power did; and how many entries the archive has once it is opened again
@@ -31,11 +33,12 @@ says_of crash = (forms.crash, tt)
 says_of (archive entries) = (forms.archive, entries)
 says_of refused = (forms.refused, tt)
 
--- such a line; what a connection says; a START begins on a connection; or an offer of a buffer was
--- taken whole on it. The desk is connection 0.
+-- such a line; what a connection says; what a turn of the uplink says; a START begins on a
+-- connection; or an offer of a buffer was taken whole on it. The desk is connection 0.
 pub data Said : Type 0 where
   told : Notice → Said
   linked : ℕ → LinkLine → Said
+  uplink : UplinkLine → Said
   begun : ℕ → Terms → Said
   handed : ℕ → ToldBuffer → Said
 
@@ -51,6 +54,7 @@ sent_text connection octets = line_text (sent, (connection, octets))
 abbrev pub text_of : Said → List ℕ
 text_of (told notice) = line_text (says_of notice)
 text_of (linked connection says) = line_text (links.says_of connection says)
+text_of (uplink says) = line_text (turns.says_of says)
 text_of (begun connection terms) = []
 text_of (handed connection buffer) = sent_text connection (message_octets buffer)
 
@@ -75,6 +79,7 @@ with_buffer connection buffer (last ∷ earlier) =
 abbrev pub handed_with : List Handed → Said → List Handed
 handed_with starts (told notice) = starts
 handed_with starts (linked connection says) = starts
+handed_with starts (uplink says) = starts
 handed_with starts (begun connection terms) =
     record { connection = connection; terms = terms; buffers = [] } ∷ starts
 handed_with starts (handed connection buffer) = with_buffer connection buffer starts
@@ -93,3 +98,11 @@ told_once _ = 0
 
 abbrev pub buffers_told : List Said → ℕ
 buffers_told said = sum_by told_once said
+
+-- the octets of each CLTU that is told as radiated, in order
+abbrev pub radiated_once : Said → List (List ℕ)
+radiated_once (uplink says) = turns.octets_told says
+radiated_once _ = []
+
+abbrev pub radiated_by : List Said → List (List ℕ)
+radiated_by said = flat_map radiated_once said

@@ -9,7 +9,11 @@ use Rattle.station_links.specs.Lives.{Lives, with_steering}
 use Rattle.station_links.specs.Lives as links
 use Rattle.station_links.specs.Run.{Order, order_in}
 use Rattle.station_links.specs.declared.link_line.LinkLine.{LinkLine}
+use Rattle.station_uplink.specs.Standing.{IsUplink}
+use Rattle.station_uplink.specs.Standing as uplinks
 use Rattle.station_law.specs.declared.doors.Turns.{Turns}
+use Rattle.station_law.specs.declared.outcome.Outcome.{Outcome}
+use Rattle.station_law.specs.declared.outcome.Outcome.TheVariants.{Crashed}
 use Rattle.station_law.specs.declared.said.SaidAt.{SaidAt}
 use Rattle.station_law.specs.Store.{Store, Recorded}
 use Rattle.station_law.specs.Sound.{IsSound}
@@ -116,16 +120,23 @@ abbrev pub AgreeUnless : Bool → Store → DoorsSeen → Type 0
 AgreeUnless true store doors = Unit {0}
 AgreeUnless false store doors = Agree store doors
 
+-- behind what became of an entry, an uplink is seen so
+abbrev pub uplink_seen : Outcome → uplinks.Seen → uplinks.Seen
+uplink_seen (Crashed count) seen = record seen { in_air = None }
+uplink_seen _ seen = seen
+
 -- a world as contracts see it
 pub record Seen : Type 0 where
   pub recorder : Recorded
   pub clock : ℕ
   pub doors : DoorsSeen
+  pub uplink : uplinks.Seen
 
 pub record Stands (seen : Seen) (state : State) : Type 0 where
   pub store : seen.recorder.state ≡ state.store
   pub clock : seen.clock ≡ state.clock
   pub doors : AreDoors seen.doors state.doors
+  pub uplink : IsUplink seen.uplink state.uplink
 
 -- a line was done, all but its text
 pub record HasDone (answer : Answer State) (after : Seen) : Type 0 where

@@ -14,6 +14,8 @@ ghost use Rattle.station_law.specs.Doors.{Doors as Exchange, anew, rounds_of};
 ghost use Rattle.station_law.specs.Doors.{act_of, opens, act};
 ghost use Rattle.station_law.specs.Standing.{Match, IsOpen, AreDoors, IsAsked, IsObeyed};
 ghost use Rattle.station_law.specs.Standing.{HasRan, IsActed, there, is_free, AreLeft, HasGone};
+ghost use Rattle.station_uplink.specs.Standing.{HasTurned, IsUplink};
+ghost use Rattle.station_uplink.specs.Turns.{Uplink as Sent, turned};
 
 use crate::said::SaidAt;
 use crate::shared::{push, share};
@@ -23,6 +25,7 @@ use record_form::{Entries, Entry};
 use station_book::{Book, PublishFault};
 use station_config::Site;
 use station_links::{Connection, Turn};
+use station_uplink::{Turn as UplinkTurn, Turned, Uplink};
 use std::alloc::Global;
 use std::marker::Model;
 use std::mem;
@@ -107,6 +110,18 @@ impl Doors {
             Err((PublishFault::Memory, _)) => Err(Memory),
             Err((PublishFault::Foreign, _)) | Ok(()) => Ok(()),
         }
+    }
+
+    /// Does a turn of the uplink on the book, at a reading of the clock.
+    pub fn turn(&mut self, uplink: &mut Uplink, turn: UplinkTurn, reading: u128) -> Turned
+        requires { reading < MOMENT_END }
+        ensures turned { (u : Sent) → IsUplink uplink.old u
+            → HasTurned result (turned self.old.book reading u turn) self.old.book self.new.book
+            uplink.new u }
+        ensures rest { self.new ≡ record self.old { book = self.new.book } }
+        ensures published { self.new.book.published ≡ self.old.book.published }
+    {
+        uplink.turn(&mut self.book, turn, reading)
     }
 
     /// Does what a line says at the doors, at a reading of the clock, and answers what is said of

@@ -1,12 +1,15 @@
-// What a connection's line says.
-ghost use Rattle.std.specs.Prelude.{◌≡◌, map};
+// What the line of a connection says, and that of a turn of the uplink.
+ghost use Rattle.std.specs.Prelude.{◌≡◌, IfOk, map};
 ghost use Rattle.station_law.specs.Output.{Wrote};
+ghost use Rattle.station_law.specs.Outcomes.{said_of_turn, done_of_turn};
 ghost use Rattle.station_law.specs.Said.{texts, text_of, linked};
 
 use crate::put::put_line;
+use crate::step_done::StepDone;
 use crate::stop::Stop;
 use octet_core::Sink;
 use station_links::LinkLine;
+use station_uplink::Turned;
 use std::alloc::Global;
 
 /// What the line of a connection says, in order.
@@ -47,4 +50,21 @@ fn put_said<O: Sink>(alloc: Global, c: u32, line: &LinkLine, output: &mut O) -> 
         (text_of (linked c line.now)) result }
 {
     put_line(alloc, &line.of_connection(c), output)
+}
+
+/// Writes what is said of a turn of the uplink, and answers how its line ends.
+pub fn put_turn<O: Sink>(alloc: Global, how: &Turned, output: &mut O) -> Result<StepDone, Stop>
+    ensures written { Wrote (O.written output.old) (O.written output.new)
+        (O.faults output.old) (O.faults output.new)
+        (texts (said_of_turn how.now)) result }
+    ensures done { IfOk result (λ done. done ≡ done_of_turn how.now) }
+{
+    match how {
+        Turned::Wrong => Ok(StepDone::WrongState),
+        Turned::Quiet => Ok(StepDone::Fine),
+        Turned::Says(line) => {
+            put_line(alloc, &line.line(), output)?;
+            Ok(StepDone::Fine)
+        }
+    }
 }

@@ -9,7 +9,7 @@ ghost use Rattle.station_config.specs.Validity.{IsSite};
 ghost use Rattle.drill_text.specs.Reading.{Fits, HasValidEntry};
 ghost use Rattle.station_law.specs.State.{State, start};
 ghost use Rattle.station_law.specs.Said.{texts};
-ghost use Rattle.station_law.specs.Standing.{AreDoors, Stands, HasDone};
+ghost use Rattle.station_law.specs.Standing.{AreDoors, Stands, HasDone, uplink_seen};
 ghost use Rattle.station_law.specs.Does.{Steps, Does};
 ghost use Rattle.station_law.specs.Doors.{Doors as Exchange, act, anew};
 ghost use Rattle.sle_numbers.specs.RequestedFrameQuality.{number_of};
@@ -17,6 +17,8 @@ ghost use Rattle.station_law.specs.Desk.{desk};
 ghost use Rattle.station_law.specs.Entries.{offer};
 ghost use Rattle.station_law.specs.IsHeld.{KeepsAllOrNone};
 ghost use Rattle.station_law.specs.Lines.{step, offered, recorded, connected, doors_by};
+ghost use Rattle.station_law.specs.Lines.{turn_at, uplinked, turned_or_acted};
+ghost use Rattle.station_uplink.specs.Turns.{turn_of};
 ghost use Rattle.station_law.specs.Power.{crash_line, fault_line, fails_now};
 ghost use Rattle.station_law.specs.Runs.{in_store};
 ghost use Rattle.station_law.specs.Output.{Wrote};
@@ -30,6 +32,7 @@ use crate::order::{Order, Strike, pick_of};
 use crate::outcome::Outcome;
 use crate::put::put_line;
 use crate::recorder::Recorder;
+use crate::said::put_turn;
 use crate::step_done::StepDone;
 use crate::stop::Stop;
 use cds_time::Cds;
@@ -39,6 +42,7 @@ use octet_core::{Memory, Sink};
 use record_form::Entry;
 use sle_numbers::RequestedFrameQuality;
 use station_config::Site;
+use station_uplink::{Turn, Uplink};
 use std::alloc::Global;
 use std::marker::Model;
 
@@ -52,6 +56,7 @@ pub struct World {
     recorder: Recorder,
     clock: u128,
     doors: Doors,
+    uplink: Uplink,
 }
 
 impl Model for World {
@@ -61,7 +66,12 @@ impl Model for World {
 
     ghost Value = { Seen };
 
-    ghost view = { λ w. record { recorder = w.recorder; clock = w.clock; doors = w.doors } };
+    ghost view = { λ w. record {
+      recorder = w.recorder;
+      clock = w.clock;
+      doors = w.doors;
+      uplink = w.uplink;
+    } };
 
     ghost invariant = { λ w. (w.clock < MOMENT_END)
         × AgreeUnless w.recorder.is_spent w.recorder.state w.doors };
@@ -82,6 +92,7 @@ impl World {
             recorder,
             clock: 0,
             doors,
+            uplink: Uplink::new(alloc),
         })
     }
 
@@ -143,7 +154,7 @@ impl World {
             }
             ScriptLine::Crash { k, pick } => self.crash_line(*k, pick_of(*pick), output),
             ScriptLine::Fault { k } => Ok(self.fault_line(*k)),
-            _ => self.doors_line(line, output),
+            _ => self.other_line(line, output),
         }
     }
 
@@ -180,6 +191,7 @@ impl World {
             return Err(Memory);
         };
         follow(&mut self.recorder, &mut self.doors, outcome, entry)?;
+        follow_air(&mut self.uplink, outcome);
         Ok(outcome)
     }
 
@@ -230,6 +242,7 @@ impl World {
             return Err(Memory);
         };
         renew(&mut self.recorder, &mut self.doors)?;
+        self.uplink.lose_air();
         Ok(outcome)
     }
 
@@ -275,6 +288,33 @@ impl World {
         Ok(StepDone::Fine)
     }
 
+    // Does a line that is a turn of the uplink, or else a connection's.
+    fn other_line<O: Sink>(&mut self, line: &ScriptLine, output: &mut O) -> Result<StepDone, Stop>
+        requires ready { self.old.recorder.is_spent ≡ false }
+        requires fits { Fits line.now }
+        ensures does { Does (λ state. turned_or_acted state line.now (turn_of line.now))
+            self.old self.new (O.written output.old) (O.written output.new)
+            (O.faults output.old) (O.faults output.new) result }
+        ensures disk { self.new.recorder.disk ≡ self.old.recorder.disk }
+    {
+        match Turn::of(line) {
+            Some(turn) => self.uplink_line(turn, output),
+            None => self.doors_line(line, output),
+        }
+    }
+
+    // Does a turn of the uplink, and writes what is said of it.
+    fn uplink_line<O: Sink>(&mut self, turn: Turn, output: &mut O) -> Result<StepDone, Stop>
+        requires ready { self.old.recorder.is_spent ≡ false }
+        ensures does { Does (λ state. uplinked state (turn_at state turn)) self.old self.new
+            (O.written output.old) (O.written output.new)
+            (O.faults output.old) (O.faults output.new) result }
+        ensures disk { self.new.recorder.disk ≡ self.old.recorder.disk }
+    {
+        let how = self.doors.turn(&mut self.uplink, turn, self.clock);
+        put_turn(self.alloc, &how, output)
+    }
+
     // Does a connection's line, and writes what is said of it.
     fn doors_line<O: Sink>(&mut self, line: &ScriptLine, output: &mut O) -> Result<StepDone, Stop>
         requires ready { self.old.recorder.is_spent ≡ false }
@@ -315,6 +355,15 @@ fn follow(
         Outcome::Refused(_) => Ok(()),
         Outcome::Stored | Outcome::Failed { .. } => publish(recorder, doors, entry),
         Outcome::Crashed { .. } => renew(recorder, doors),
+    }
+}
+
+// Nothing is in the air behind a power failure.
+fn follow_air(uplink: &mut Uplink, outcome: Outcome)
+    ensures { uplink.new ≡ uplink_seen outcome uplink.old }
+{
+    if let Outcome::Crashed { .. } = outcome {
+        uplink.lose_air();
     }
 }
 

@@ -1,7 +1,7 @@
 use Rattle.provider_cli.specs.Outside.{Outside, showing}
 use Rattle.provider_cli.proofs.Promises.{delivered, read_of, streamed}
 use Rattle.provider_cli.proofs.Promises.{each_start, each_sent, has_transcript, has_world}
-use Rattle.provider_cli.proofs.Promises.{completes}
+use Rattle.provider_cli.proofs.Promises.{has_radiation, completes}
 use Rattle.provider_cli.proofs.Sessions.{each_connection, is_session, is_lossless, has_history}
 use Rattle.provider_cli.proofs.drill.drill.Goals as goal
 
@@ -24,6 +24,7 @@ returns g c =
       complete = completes before after c.read_and_run.result c.read_and_run.ensures;
       transcript = has_transcript laws before.left;
       world = has_world laws before.left;
+      radiation = has_radiation laws before.left;
       delivered = each_start before.left _ (delivered laws);
       sent = each_sent laws before after c.read_and_run.result c.read_and_run.ensures.text;
       streamed = each_start before.left _ (streamed laws);

@@ -29,16 +29,18 @@ taken : (g : Over) (c : In-Ok g) (said : Option SaidAt) → c.in-Ok.said ≡ sai
       recorder = c.self.inside.recorder;
       clock = c.self.inside.clock;
       doors = c.act.new.self;
+      uplink = c.self.inside.uplink;
     }) (said_by said) (done_by said)
 taken g c said is =
     let seen : Seen = record {
       recorder = c.self.inside.recorder;
       clock = c.self.inside.clock;
       doors = c.self.inside.doors;
+      uplink = c.self.inside.uplink;
     } in
     let new : Seen = record seen { doors = c.act.new.self } in
     let ready : c.self.inside.recorder.is_spent ≡ false = search rules in
-    rw (← c.self.view_is) (acted_taken seen new refl refl ready c.args.line.now c.in-Ok.said said is
+    rw (← c.self.view_is) (acted_taken seen new refl refl ready refl c.args.line.now c.in-Ok.said said is
     c.in-Ok.ensures.acted)
 
 pub returns-in_default-said-clause-does : goal.returns-in_default-said-clause-does

@@ -11,12 +11,17 @@ returns-clause-steps c =
       recorder = c.self.inside.recorder;
       clock = c.self.inside.clock;
       doors = c.self.inside.doors;
+      uplink = c.self.inside.uplink;
     } in
     let new : Seen =
-    record seen { recorder = c.follow.new.recorder; doors = c.follow.new.doors } in
+    record seen {
+      recorder = c.follow.new.recorder;
+      doors = c.follow.new.doors;
+      uplink = c.follow_air.new.uplink;
+    } in
     let taken = offer_taken (entry_of c.args.entry.now) c.in-Ok.outcome seen new c.offer.new.self
     c.in-Ok.ensures.said c.in-Ok.ensures.done c.in-Ok.ensures.next
-    c.in_ok-follow.ensures.followed c.in_ok-follow.ensures.same refl in
+    c.in_ok-follow.ensures.followed c.in_ok-follow.ensures.same refl c.follow_air.ensures in
     record { taken = rw (← c.self.view_is) taken; stopped = tt }
 
 pub invariant_of-self-2 : goal.invariant_of-self-2

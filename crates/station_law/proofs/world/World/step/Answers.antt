@@ -19,6 +19,11 @@ returns-in-Crash-clause-written g c = (does_as (λ state. crash_line_is state c.
     c.in-Crash.k c.in-Crash.pick c.pick_of.result c.in-Crash.is c.pick_of.ensures)
     c.crash_line.ensures.does).written
 
+pub returns-in-Crash-clause-stopped : goal.returns-in-Crash-clause-stopped
+returns-in-Crash-clause-stopped g c = (does_as (λ state. crash_line_is state c.args.line.now
+    c.in-Crash.k c.in-Crash.pick c.pick_of.result c.in-Crash.is c.pick_of.ensures)
+    c.crash_line.ensures.does).stopped
+
 pub returns-in-Crash-clause-images : goal.returns-in-Crash-clause-images
 returns-in-Crash-clause-images g c = λ ready.
     keeps c.args.self.now _ (λ (s : State). (step s c.args.line.now).given) []
@@ -32,7 +37,7 @@ pub returns-in_default : goal.returns-in_default
 returns-in_default g c =
     let does = does_as (λ state. other_line state c.args.line.now c.in_default.not-Skip
     c.in_default.not-Offer c.in_default.not-Desk c.in_default.not-Clock c.in_default.not-Crash
-    c.in_default.not-Fault) c.doors_line.ensures.does in
+    c.in_default.not-Fault) c.other_line.ensures.does in
     record {
       written = does.written;
       done = does.done;
@@ -40,7 +45,7 @@ returns-in_default g c =
       write_fault = does.write_fault;
       stopped = does.stopped;
       images = λ ready. stays c.args.self.now _ (λ (s : State). (step s c.args.line.now).given)
-          c.doors_line.ensures.disk (subst (λ (r : Recorded). HoldsAlone r.disk r.state.published)
+          c.other_line.ensures.disk (subst (λ (r : Recorded). HoldsAlone r.disk r.state.published)
           (ap (λ (seen : Seen). seen.recorder) c.self.view_is)
           (c.is_spent.ensures.alone c.if-is_spent.false));
       spent = λ is. absurd (true≢false (sym is
