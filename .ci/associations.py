@@ -191,8 +191,6 @@ def wrong_states():
         yield b"open 2\n" + line + b"\n", b""
         yield b"open 1\nbreak 1\n" + line + b"\n", b"ended 1 fault\n"
         yield b"open 1\ncrash 0 old\n" + line + b"\n", b"crash\narchive 0\n"
-    for line in [b"ask 1 start 1", b"ask 1 cltu 1 none none 0 1 aa"]:
-        yield b"open 1\n" + line + b"\n", b""
 
 
 # ---- what a site says

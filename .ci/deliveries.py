@@ -108,24 +108,52 @@ class Selection:
 
 # ---- an instance that is bound
 
-class Returning:
+class Reports:
+    """When a bound instance's status reports are due."""
+
+    def __init__(self, is_online):
+        self.is_online = is_online
+        # the seconds of a cycle of reports, when the last one was given, and whether one is asked for
+        self.cycle, self.reported, self.owes_report = None, None, False
+
+    def schedule(self, kind):
+        """Why a SCHEDULE-STATUS-REPORT for "now", "stop" or seconds is refused, or None."""
+        if not self.is_online:
+            return NO_REPORTS_OFFLINE
+        if kind == "stop":
+            if self.cycle is None:
+                return STOPPED_ALREADY
+            self.cycle, self.owes_report = None, False
+            return None
+        if kind != "now":
+            if not 2 <= kind <= 600:
+                return INVALID_CYCLE
+            self.cycle = kind
+        self.owes_report = True
+        return None
+
+    def is_due(self, now):
+        """Whether a report is given now."""
+        if not self.owes_report and (
+                self.cycle is None or now - self.reported < self.cycle * SECOND):
+            return False
+        self.reported, self.owes_report = now, False
+        return True
+
+
+class Returning(Reports):
     """A bound instance of a return service: stopped, or with a START whose picked entries are settled
     one buffer after the other. A buffer's items are BACKLOG, END, and places of the archive."""
 
     def __init__(self, instance):
+        super().__init__(instance.mode != b"offline")
         self.service, self.mode, self.size = instance.service, instance.mode, instance.size
         self.latency, self.timeout = instance.latency, instance.timeout
         self.permitted = instance.channels
         self.asked = None
         # what the last START asked for: all frames of RAF, and no channel yet of RCF
         self.wanted = 2 if self.service == RAF else None
-        # the seconds of a cycle of reports, when the last one was given, and whether one is asked for
-        self.cycle, self.reported, self.owes_report = None, None, False
         self.error_free = self.delivered = 0
-
-    @property
-    def is_online(self):
-        return self.mode != b"offline"
 
     def refusal(self, archive, start, stop, wanted):
         """Why a START is refused, or None. Its times are stamps or None."""
@@ -235,29 +263,10 @@ class Returning:
 
     # ---- reports and parameters
 
-    def schedule(self, kind):
-        """Why a SCHEDULE-STATUS-REPORT for "now", "stop" or seconds is refused, or None."""
-        if not self.is_online:
-            return NO_REPORTS_OFFLINE
-        if kind == "stop":
-            if self.cycle is None:
-                return STOPPED_ALREADY
-            self.cycle, self.owes_report = None, False
-            return None
-        if kind != "now":
-            if not 2 <= kind <= 600:
-                return INVALID_CYCLE
-            self.cycle = kind
-        self.owes_report = True
-        return None
-
     def report(self, archive, now):
         """The numbers of the report that is due, or None."""
-        is_due = self.owes_report or \
-            self.cycle is not None and now - self.reported >= self.cycle * SECOND
-        if not is_due:
+        if not self.is_due(now):
             return None
-        self.reported, self.owes_report = now, False
         counts = [self.error_free, self.delivered] if self.service == RAF else [self.delivered]
         return [*counts, *locks_of(archive), production_of(archive)]
 

@@ -4,8 +4,8 @@ works out each line from the whole archive, and knows neither bounds nor passes.
 from deliveries import closes, continuity, spelled_buffer
 from forms import (channel, element, identifier, moment, name, number, octets, one_of, pdu_message,
                    sent, time)
-from sessions import (CONTEXT_BEGINS, MOST_PIECE, Book, Session, bind_pdu, get_pdu, schedule_pdu,
-                      start_pdu, stop_pdu, unbind_pdu)
+from sessions import (CONTEXT_BEGINS, MOST_PIECE, Book, Session, bind_pdu, cltu_start_pdu, get_pdu,
+                      schedule_pdu, start_pdu, stop_pdu, transfer_pdu, unbind_pdu)
 from sites import head_of
 
 MOST_OCTETS = 16_777_216
@@ -46,7 +46,19 @@ FORMS = {
     b"break": words_of([CONNECTION]),
     b"round": words_of([CONNECTION, within(1_000, 1)]),
     b"stall": words_of([CONNECTION, within(1_000, 1)]),
+    b"done": words_of([]),
+    b"uplink": words_of([within(3), within(3)]),
 }
+
+
+def take(words):
+    """Whether the take's send fails."""
+    if words not in ([], [b"fail"]):
+        raise ValueError
+    return [words == [b"fail"]]
+
+
+FORMS[b"take"] = take
 
 
 def context_message(interval, factor):
@@ -69,14 +81,30 @@ def report(word):
     return word.decode() if word in (b"now", b"stop") else number(word, 65_535)
 
 
-# what is behind `ask C`, and the message that it makes; those of FCLTU aren't built
+def start(words):
+    """A START of FCLTU by one word, else one of RAF or RCF."""
+    return [within(2**32 - 1)(words[0])] if len(words) == 1 else words_of([when, when, wanted])(words)
+
+
+def start_message(*fields):
+    pdu = cltu_start_pdu if len(fields) == 1 else start_pdu
+    return pdu_message(pdu(None, 0, *fields))
+
+
+def is_told(word):
+    return one_of(word, (b"0", b"1")) == b"0"
+
+
+# what is behind `ask C`, and the message that it makes
 ASKS = {
     b"context": (words_of([within(65_535), within(65_535)]), context_message),
     b"bind": (words_of([name, within(65_535), within(65_535, 1), identifier]),
               lambda *fields: pdu_message(bind_pdu(None, fields[0], b"PORT1", *fields[1:]))),
     b"unbind": (words_of([]), lambda: pdu_message(unbind_pdu(None, 0))),
-    b"start": (words_of([when, when, wanted]),
-               lambda *fields: pdu_message(start_pdu(None, 0, *fields))),
+    b"start": (start, start_message),
+    b"cltu": (words_of([within(2**32 - 1), when, when, within(2**32 - 1), is_told,
+                        lambda word: octets(word, 65_536)]),
+              lambda *fields: pdu_message(transfer_pdu(None, 0, *fields))),
     b"stop": (words_of([]), lambda: pdu_message(stop_pdu(None, 0))),
     b"report": (words_of([report]), lambda kind: pdu_message(schedule_pdu(None, 0, kind))),
     b"get": (words_of([within(65_535)]), lambda name: pdu_message(get_pdu(None, 0, name))),
@@ -229,7 +257,9 @@ class Run:
 
     def __init__(self, site):
         self.site, self.archive, self.file = site, [], File()
-        self.clock, self.book, self.sessions = 0, Book(self.archive), {}
+        self.clock, self.book, self.sessions = 0, Book(self.archive, site), {}
+        # the run and the number of the CLTU that was sent last, while it is in the air
+        self.in_air = None
         self.written, self.read, self.full = b"", [], False
 
     def line(self, says):
@@ -246,6 +276,13 @@ class Run:
             self.offer(says)
         elif kind == "open":
             self.open(*fields)
+        elif kind == "take":
+            self.take(*fields)
+        elif kind == "done":
+            self.done()
+        elif kind == "uplink":
+            self.book.moment(self.clock)
+            self.book.queue.set_uplink(*fields)
         else:
             self.on_connection(kind, *fields)
 
@@ -274,7 +311,7 @@ class Run:
 
     def fail_power(self):
         """Connections and the book are new, and the archive is opened by what its file holds."""
-        self.sessions, self.book = {}, Book(self.archive)
+        self.sessions, self.book, self.in_air = {}, Book(self.archive, self.site), None
         self.written += b"crash\narchive %d\n" % len(self.archive)
 
     def start(self, start, stop, quality):
@@ -285,6 +322,24 @@ class Run:
         for buffer in answer(self.archive, start, stop, quality):
             self.written += sent(0, buffer_message(buffer))
             self.read.append([[said(item) for item in buffer]])
+
+    # ---- the antenna
+
+    def take(self, fails):
+        queue, now = self.book.queue, self.book.moment(self.clock)
+        word, *found = queue.take(now)
+        if word == "radiated" and fails:
+            queue.interrupted(queue.run, found[0])
+            word, found = "failed", found[:1]
+        elif word == "radiated":
+            self.in_air, found = (queue.run, found[0]), [found[0], found[1].hex()]
+        self.written += " ".join([word, *map(str, found)]).encode() + b"\n"
+
+    def done(self):
+        if self.in_air is None:
+            raise ValueError
+        self.book.queue.done(*self.in_air, self.book.moment(self.clock))
+        self.in_air = None
 
     # ---- connections
 

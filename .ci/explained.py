@@ -74,8 +74,9 @@ def by_hand(program):
 
 def readable(program, name, text):
     """Each line is read, and numbers that have words are told by them."""
-    # the messages of examples/channels.script are of RCF
-    words = ["explain", "rcf"] if name.startswith("channels.") else ["explain"]
+    # the messages of examples/channels.script are of RCF, those of examples/commands.script of FCLTU
+    service = {"channels": ["rcf"], "commands": ["cltu"]}.get(name.split(".")[0], [])
+    words = ["explain", *service]
     status, output = run(program, words, text)
     meant = output.decode().splitlines()
     check(f"{name}, status", status, 0)

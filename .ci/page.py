@@ -285,8 +285,8 @@ def connections(name, ran, lanes):
         words = line.split(b" ")
         if is_bad(said):
             continue
-        lane = "desk" if words[0] == b"start" else "connection " + words[1].decode()
         if words[0] in (b"start", b"ask"):
+            lane = "desk" if words[0] == b"start" else "connection " + words[1].decode()
             asked[lane] = asked.get(lane, 0) + 1
         for each in said:
             kind, *more = each.split(b" ")

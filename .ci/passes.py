@@ -3,6 +3,7 @@ while entries come, the clock goes on and links stall.
 """
 import random
 
+from commanding import commands_script
 from drills import Run, context_message, line_of
 from forms import DAY_MILLIS, MILLI, SECOND, pdu_message
 from scripts import INSTANCES, PEERS, Entries, Users, entries_script, users_script
@@ -121,6 +122,6 @@ def pass_script(pick):
 def random_script(seed):
     pick = random.Random(seed)
     kind = pick.random()
-    lines = pass_script(pick) if kind < 0.4 else users_script(pick) if kind < 0.75 \
-        else entries_script(pick)
+    lines = pass_script(pick) if kind < 0.3 else commands_script(pick) if kind < 0.55 \
+        else users_script(pick) if kind < 0.8 else entries_script(pick)
     return b"\n".join(lines) + (b"\n" if pick.random() < 0.8 else b"")

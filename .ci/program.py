@@ -131,7 +131,7 @@ def statuses():
         ("bad line, a head of one word", b"site", 3, b"bad line 2\n"),
         ("bad line, a head that isn't first", b"\nsite\nend\n", 3, b"bad line 2\n"),
         ("bad line, behind a head", b"site\nend\nend\n", 3, b"bad line 3\n"),
-        ("bad line, an event that isn't built", b"take\n", 3, b"bad line 1\n"),
+        ("bad line, nothing in the air", b"uplink 2 1\ntake fail\ndone\n", 3, b"idle\nbad line 3\n"),
         ("bad line 5, after a START", FRAMES + START + b"fly\n" + FRAMES, 3, TWO + b"bad line 5\n"),
         ("bad line 4, behind what is refused",
          FRAMES[33:66] + FRAMES[:33] + b"start 20000/2/0 20000/1/0 0\nfly\n", 3,
@@ -349,7 +349,8 @@ def large_files():
 
 def examples():
     folder = os.path.join(os.path.dirname(os.path.dirname(os.path.abspath(__file__))), "examples")
-    for name in ["power-failure", "disk-fault", "two-users", "live-pass", "channels"]:
+    for name in ["power-failure", "disk-fault", "two-users", "live-pass", "channels",
+                 "commands"]:
         with open(f"{folder}/{name}.script", "rb") as script, \
                 open(f"{folder}/{name}.transcript", "rb") as transcript:
             check(f"example {name}", run([b"drill"], script.read()), (0, transcript.read(), b""))

@@ -3,9 +3,9 @@
 Each message is told as what it says; ValueError where it isn't one that the provider sends.
 """
 from forms import PICOS, Elements, element
-from sessions import (BIND_RETURN, GET_RETURN, INTEGER, MEMBERS_0, MEMBERS_1, OCTETS, REPORT,
-                      SCHEDULE_RETURN, SEQUENCE, START_RETURN, STOP_RETURN, TAG_0, TAG_1,
-                      UNBIND_RETURN, VISIBLE, digest)
+from sessions import (BIND_RETURN, CLTU_REPORT, GET_RETURN, INTEGER, MEMBERS_0, MEMBERS_1, NOTICE,
+                      OCTETS, REPORT, SCHEDULE_RETURN, SEQUENCE, START_RETURN, STOP_RETURN, TAG_0,
+                      TAG_1, TRANSFER_RETURN, UNBIND_RETURN, VISIBLE, digest)
 
 BUFFER, FRAME, NOTIFICATION = b"\xa8", b"\xa0", b"\xa1"
 LOSS, PRODUCTION, BACKLOG, END = b"\xa0", b"\x81", b"\x82", b"\x83"
@@ -124,17 +124,94 @@ def read_parameter(fields):
     return name, tag, integer_of(content, 2**32) if content else None
 
 
-def read_report(fields, site):
-    own, numbers = read_own(fields, site), []
-    while fields.rest:
+def read_start(fields):
+    """The time from which CLTUs radiate, of a START of the forward service."""
+    if fields.rest.startswith(TAG_0):
+        fields.null(TAG_0)
+        return None
+    inner = fields.members(MEMBERS_0)
+    stamp = read_stamp(*inner.one_of(TAG_0, TAG_1))
+    inner.null(TAG_0)
+    inner.end()
+    return [stamp]
+
+
+def read_numbers(fields):
+    numbers = []
+    while fields.rest.startswith(INTEGER):
         numbers.append(fields.integer(INTEGER, 0, 2**32 - 1))
+    return numbers
+
+
+def read_report(fields, site):
+    """Of a return service; the return of THROW-EVENT has the same tag, and a choice at its end."""
+    own, numbers = read_own(fields, site), read_numbers(fields)
+    if fields.rest:
+        return "throw", own, *numbers, read_refusal(fields)
     return "report", own, *numbers
 
 
+def read_refusal(fields):
+    """A diagnostic, or None."""
+    tag, content = fields.one_of(TAG_0, MEMBERS_1)
+    if tag == TAG_0:
+        return None
+    inner = Elements(content)
+    diagnostic = inner.integer(TAG_1, 0, 127)
+    inner.end()
+    return diagnostic
+
+
+def read_transfer(fields, site):
+    return "transfer", read_own(fields, site), *read_numbers(fields), read_refusal(fields)
+
+
+def read_processed(fields):
+    """The last CLTU processed: its number, when it began, and what became of it."""
+    tag, content = fields.one_of(TAG_0, MEMBERS_1)
+    if tag == TAG_0:
+        return None
+    inner, began = Elements(content), None
+    number = inner.integer(INTEGER, 0, 2**32 - 1)
+    tag, content = inner.one_of(TAG_0, MEMBERS_1)
+    if tag == MEMBERS_1:
+        began = read_stamp(*Elements(content).one_of(TAG_0, TAG_1))
+    status = inner.integer(INTEGER, 0, 4)
+    inner.end()
+    return number, began, status
+
+
+def read_ok(fields):
+    """The last CLTU radiated: its number, and when it ended."""
+    tag, content = fields.one_of(TAG_0, MEMBERS_1)
+    if tag == TAG_0:
+        return None
+    inner = Elements(content)
+    number = inner.integer(INTEGER, 0, 2**32 - 1)
+    ended = read_stamp(*inner.one_of(TAG_0, TAG_1))
+    inner.end()
+    return number, ended
+
+
+def read_notice(fields, site):
+    own = read_own(fields, site)
+    tag, content = fields.one_of(*(bytes([0x80 + kind]) for kind in range(6)))
+    if content:
+        raise ValueError("content")
+    return "notice", own, tag[0] - 0x80, read_processed(fields), read_ok(fields), *read_numbers(fields)
+
+
+def read_commands(fields, site):
+    """A report of the forward service."""
+    own = read_own(fields, site)
+    return "commands", own, read_processed(fields), read_ok(fields), *read_numbers(fields)
+
+
 PDUS = [(BUFFER, read_buffer), (BIND_RETURN, read_bind_return), (UNBIND_RETURN, read_unbind_return),
-        (START_RETURN, returning("start")), (STOP_RETURN, returning("stop")),
+        (START_RETURN, returning("start", read_start)), (STOP_RETURN, returning("stop")),
         (SCHEDULE_RETURN, returning("schedule")), (GET_RETURN, returning("get", read_parameter)),
-        (REPORT, read_report)]
+        (REPORT, read_report), (TRANSFER_RETURN, read_transfer), (NOTICE, read_notice),
+        (CLTU_REPORT, read_commands)]
 
 
 def read_message(octets, site):

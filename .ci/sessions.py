@@ -5,6 +5,8 @@ Each round reads the octets that a connection holds anew, from their front.
 """
 import hashlib
 
+from commands import (Commanding, Queue, report_of, spelled_conditional, spelled_notice,
+                      spelled_report, stamp_at)
 from deliveries import Returning, channel_fields, spelled_buffer, spelled_parameter, time_element
 from forms import (ATTRIBUTES, DAY_MILLIS, MILLI, PICOS, SECOND, Elements, element, integer,
                    moment, pdu_message, sent)
@@ -25,6 +27,9 @@ PEER_ABORT = b"\x9f\x68"
 START, START_RETURN, STOP, STOP_RETURN = b"\xa0", b"\xa1", b"\xa2", b"\xa3"
 SCHEDULE, SCHEDULE_RETURN, GET, GET_RETURN = b"\xa4", b"\xa5", b"\xa6", b"\xa7"
 REPORT = b"\xa9"
+# of the forward service
+THROW, THROW_RETURN, TRANSFER, TRANSFER_RETURN = b"\xa8", b"\xa9", b"\xaa", b"\xab"
+NOTICE, CLTU_REPORT = b"\xac", b"\xad"
 
 # inner tags
 SEQUENCE, SET, INTEGER, VISIBLE = b"\x30", b"\x31", b"\x02", b"\x1a"
@@ -36,8 +41,9 @@ ATTRIBUTE_ARC = bytes.fromhex("2b7004030102")
 ACCESS_DENIED, NO_SERVICE, NO_VERSION, NO_INSTANCE = 0, 1, 2, 3
 BOUND_ALREADY, OF_ANOTHER, OTHER_SERVICE = 4, 5, 6
 ABORT_DENIED, PROTOCOL_ERROR, COMMUNICATIONS_FAILURE, ENCODING_ERROR = 0, 3, 4, 5
-# of GET-PARAMETER
+# of GET-PARAMETER, and of THROW-EVENT
 UNKNOWN_PARAMETER = 0
+NOT_SUPPORTED = 0
 
 
 # ---- the stream of transport messages
@@ -259,6 +265,31 @@ def get_fields(fields):
     return *stop_fields(fields), fields.integer(INTEGER, 0, 65_535)
 
 
+def cltu_start_fields(fields):
+    return *stop_fields(fields), fields.integer(INTEGER, 0, 2**32 - 1)
+
+
+def throw_fields(fields):
+    read = *stop_fields(fields), fields.integer(INTEGER, 0, 2**32 - 1)
+    fields.integer(INTEGER, 0, 65_535)
+    if len(fields.content(OCTETS)) > 1_024:
+        raise ValueError("qualifier")
+    return read
+
+
+def transfer_fields(fields):
+    """With the CLTU as the queue has it."""
+    credentials, invoke = stop_fields(fields)
+    number = fields.integer(INTEGER, 0, 2**32 - 1)
+    earliest, latest = read_conditional(fields), read_conditional(fields)
+    delay = fields.integer(INTEGER, 0, 2**32 - 1)
+    wanted = fields.integer(INTEGER, 0, 1) == 0
+    octets = fields.content(OCTETS)
+    if not 1 <= len(octets) <= 65_536:
+        raise ValueError("CLTU")
+    return credentials, invoke, (number, earliest, latest, delay, wanted, octets)
+
+
 def abort_fields(octets):
     """The diagnostic of a PEER-ABORT, or None where it doesn't decode."""
     try:
@@ -296,15 +327,26 @@ def unbind_pdu(credentials, reason):
     return element(UNBIND, spelled_credentials(credentials) + integer(reason))
 
 
-def spelled_conditional(stamp):
-    return element(TAG_0, b"") if stamp is None else element(MEMBERS_1, time_element(stamp))
-
-
 def start_pdu(credentials, invoke, start, stop, wanted):
     """Of RAF with a quality, of RCF with a channel."""
     asked = integer(wanted) if isinstance(wanted, int) else element(SEQUENCE, channel_fields(wanted))
     return element(START, spelled_credentials(credentials) + integer(invoke)
                    + spelled_conditional(start) + spelled_conditional(stop) + asked)
+
+
+def cltu_start_pdu(credentials, invoke, first):
+    return element(START, spelled_credentials(credentials) + integer(invoke) + integer(first))
+
+
+def throw_pdu(credentials, invoke, number, event, qualifier):
+    return element(THROW, spelled_credentials(credentials) + integer(invoke) + integer(number)
+                   + integer(event) + element(OCTETS, qualifier))
+
+
+def transfer_pdu(credentials, invoke, number, earliest, latest, delay, wanted, octets):
+    return element(TRANSFER, spelled_credentials(credentials) + integer(invoke) + integer(number)
+                   + spelled_conditional(earliest) + spelled_conditional(latest) + integer(delay)
+                   + integer(0 if wanted else 1) + element(OCTETS, octets))
 
 
 def stop_pdu(credentials, invoke):
@@ -346,10 +388,13 @@ class Link:
 
 
 class Book:
-    """What is published, which door has an instance, and the latest moment."""
+    """What is published, which door has an instance, the queue of CLTUs, and the latest moment."""
 
-    def __init__(self, archive):
+    def __init__(self, archive, site):
         self.archive, self.doors, self.latest = archive, {}, 0
+        forward = site.forward()
+        self.forward = None if forward is None else forward.identifier
+        self.queue = Queue(forward.room, forward.longest) if forward is not None else Queue(0, 0)
 
     def moment(self, reading):
         self.latest = max(self.latest, reading)
@@ -360,6 +405,8 @@ class Book:
         return self.doors.setdefault(identifier, door) == door
 
     def free(self, door):
+        if self.forward is not None and self.doors.get(self.forward) == door:
+            self.queue.stop()
         self.doors = {instance: owner for instance, owner in self.doors.items() if owner != door}
 
 
@@ -372,7 +419,7 @@ class Session:
         self.site, self.door, self.link = site, door, Link()
         self.held, self.block, self.buffer = b"", [], None
         self.is_opening, self.peer, self.closing = True, None, None
-        self.service, self.is_active = None, False
+        self.service, self.commands, self.is_active = None, None, False
         self.interval = self.factor = 0
         self.sent = self.heard = entered
         self.number = (1 + door) % 2**31
@@ -395,10 +442,12 @@ class Session:
         was_active = self.is_active
         end = self.act(heard, blocked, book, now)
         if end is None and not blocked:
-            if self.closing is None and self.service is not None:
+            if self.closing is None and self.commands is not None:
+                self.tell(book.queue, now)
+            elif self.closing is None and self.service is not None:
                 self.report(book.archive, now)
-            if was_active and self.is_active and self.service.step(book.archive, now):
-                self.fix(book.archive, now)
+                if was_active and self.is_active and self.service.step(book.archive, now):
+                    self.fix(book.archive, now)
             end = self.speak(told, book.archive, now)
         return told, end
 
@@ -442,6 +491,17 @@ class Session:
             own = self.own_at_all(now)
             pdu = element(REPORT, own_credentials(own) + b"".join(map(integer, numbers)))
             self.block.append((("report", own, *numbers), pdu_message(pdu)))
+
+    def tell(self, queue, now):
+        """A report that is due, and then the next notice of a started run."""
+        if self.commands.is_due(now):
+            own, numbers = self.own_at_all(now), report_of(queue)
+            pdu = element(CLTU_REPORT, own_credentials(own) + spelled_report(numbers))
+            self.block.append((("commands", own, *numbers), pdu_message(pdu)))
+        if queue.is_started and queue.notices:
+            own, notice = self.own_at_all(now), queue.notices.pop(0)
+            pdu = element(NOTICE, own_credentials(own) + spelled_notice(notice))
+            self.block.append((("notice", own, *notice), pdu_message(pdu)))
 
     def fix(self, archive, now):
         """The buffer that is due, with credentials for each of its items where the peer wants them."""
@@ -509,12 +569,18 @@ class Session:
         return answer(*said, book, now) if in_place else b"aborted %d" % PROTOCOL_ERROR
 
     def bound_pdu(self, octets):
-        """What a bound user's PDU says, whether it is in place, and what answers it. Of FCLTU nothing
-        is built, and nothing decodes."""
+        """What a bound user's PDU says, whether it is in place, and what answers it."""
         known = [(UNBIND, unbind_fields, not self.is_active, self.unbind)]
         if self.service is not None:
             known += [(START, start_fields(self.service.service), not self.is_active, self.start),
                       (STOP, stop_fields, self.is_active, self.stop),
+                      (SCHEDULE, schedule_fields, True, self.schedule),
+                      (GET, get_fields, True, self.parameter)]
+        if self.commands is not None:
+            known += [(START, cltu_start_fields, not self.is_active, self.start_run),
+                      (STOP, stop_fields, self.is_active, self.stop_run),
+                      (TRANSFER, transfer_fields, self.is_active, self.transfer),
+                      (THROW, throw_fields, True, self.throw),
                       (SCHEDULE, schedule_fields, True, self.schedule),
                       (GET, get_fields, True, self.parameter)]
         for tag, read, in_place, answer in known:
@@ -542,7 +608,9 @@ class Session:
         if diagnostic is not None:
             return self.answer_bind(own, "refused", diagnostic)
         self.peer = peer
-        if service != CLTU:
+        if service == CLTU:
+            self.commands = Commanding(instance)
+        else:
             self.service = Returning(instance)
         return self.answer_bind(own, "bound", version)
 
@@ -580,16 +648,55 @@ class Session:
     def schedule(self, credentials, invoke, kind, book, now):
         if self.is_false(credentials, now):
             return b"aborted %d" % ABORT_DENIED
-        return self.answer("schedule", SCHEDULE_RETURN, invoke, self.service.schedule(kind), now)
+        refusal = (self.service or self.commands).schedule(kind)
+        return self.answer("schedule", SCHEDULE_RETURN, invoke, refusal, now)
 
     def parameter(self, credentials, invoke, name, book, now):
         if self.is_false(credentials, now):
             return b"aborted %d" % ABORT_DENIED
-        found = self.service.parameter(name)
+        found = (self.service or self.commands).parameter(name)
         if found is None:
             return self.answer("get", GET_RETURN, invoke, UNKNOWN_PARAMETER, now)
         told = element(MEMBERS_0, spelled_parameter(name, *found))
         return self.answer("get", GET_RETURN, invoke, None, now, told, name, *found)
+
+    # ---- the forward service's
+
+    def start_run(self, credentials, invoke, first, book, now):
+        if self.is_false(credentials, now):
+            return b"aborted %d" % ABORT_DENIED
+        refusal, stamp = book.queue.start(first), stamp_at(now)
+        self.is_active = refusal is None
+        told = element(MEMBERS_0, time_element(stamp) + spelled_conditional(None))
+        return self.answer("start", START_RETURN, invoke, refusal, now, told, stamp)
+
+    def stop_run(self, credentials, invoke, book, now):
+        if self.is_false(credentials, now):
+            return b"aborted %d" % ABORT_DENIED
+        book.queue.stop()
+        self.is_active = False
+        return self.answer("stop", STOP_RETURN, invoke, None, now)
+
+    def transfer(self, credentials, invoke, cltu, book, now):
+        if self.is_false(credentials, now):
+            return b"aborted %d" % ABORT_DENIED
+        refusal = book.queue.transfer(cltu, now)
+        return self.answer_with("transfer", TRANSFER_RETURN, invoke,
+                                (book.queue.told_next(), book.queue.free()), refusal, now)
+
+    def throw(self, credentials, invoke, number, book, now):
+        if self.is_false(credentials, now):
+            return b"aborted %d" % ABORT_DENIED
+        return self.answer_with("throw", THROW_RETURN, invoke, (number,), NOT_SUPPORTED, now)
+
+    def answer_with(self, word, tag, invoke, numbers, refusal, now):
+        """A return with numbers before what became of it."""
+        own = self.own_at_all(now)
+        told = element(TAG_0, b"") if refusal is None else element(MEMBERS_1, integer(refusal, TAG_1))
+        pdu = element(tag, own_credentials(own) + integer(invoke)
+                      + b"".join(map(integer, numbers)) + told)
+        self.block = [((word, own, invoke, *numbers, refusal), pdu_message(pdu))]
+        return None
 
     def answer(self, word, tag, invoke, refusal, now, told=element(TAG_0, b""), *value):
         """A return: what was asked is done, and told so, or why it is refused."""

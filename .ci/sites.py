@@ -31,6 +31,9 @@ class Instance:
     latency: int = 0
     timeout: int = 0
     channels: list = field(default_factory=list)
+    # of the forward service, the octets that may wait and those of the longest CLTU
+    room: int = 0
+    longest: int = 0
 
 
 @dataclass
@@ -48,6 +51,10 @@ class Site:
 
     def instance(self, identifier):
         return next((each for each in self.instances if each.identifier == identifier), None)
+
+    def forward(self):
+        """The instance of the forward service, or None."""
+        return next((each for each in self.instances if each.service == CLTU), None)
 
 
 # ---- what the words behind a line's first one say
@@ -85,10 +92,8 @@ def returning(service):
 
 def forward(words):
     which, whose, room, longest, timeout = words
-    number(room, 16_777_216, 1)
-    number(longest, 65_536, 1)
-    number(timeout, 600, 1)
-    return Instance(identifier(which), owner(whose), CLTU)
+    return Instance(identifier(which), owner(whose), CLTU, room=number(room, 16_777_216, 1),
+                    longest=number(longest, 65_536, 1), timeout=number(timeout, 600, 1))
 
 
 # how many words stand behind the first one, and what they say
