@@ -23,7 +23,7 @@ from control_centre import (Station, User, cds, check, cltu_start, elements, fra
                             programs, site, start, started, told_at, told_counts, transfer)
 
 programs.update(station=os.path.abspath(sys.argv[1]), provider=os.path.abspath(sys.argv[2]))
-ROUNDS = int(sys.argv[3]) if len(sys.argv) > 3 else 20
+ROUNDS = int(sys.argv[3]) if len(sys.argv) > 3 else 100
 SEED = int(sys.argv[4]) if len(sys.argv) > 4 else random.SystemRandom().randrange(1_000_000)
 ROUNDS_AN_ARCHIVE = 10
 COMMANDS = "sagr=1.spack=P.fsl-fg=1.cltu=cltu1"
