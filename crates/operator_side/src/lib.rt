@@ -1,9 +1,9 @@
 // The operator's side of a station's adapters: a stop, asked for at a port and seen by all that share
 // it, and lines of a report.
 //
-// `Stop` says whether a stop was asked for, and `StopPort` is the port at which one is. `WatchedTime`
+// `Stop` says whether a stop was asked for, and looks for one at its port, a `StopPort`. `WatchedTime`
 // is the machine's time, whose readings look there, and `wake` connects to a listener whose call
-// waits, so that it looks too. `report` writes a line whole, and `Stamped` writes on standard error,
+// waits, so that it sees the stop. `report` writes a line whole, and `Stamped` writes on standard error,
 // with the time. Trusted is what std and the system do: no clause says that a stop is heard, that a
 // call comes back, or that a line is written.
 //

@@ -45,6 +45,11 @@ impl StopPort {
         })
     }
 
+    /// Where it listens: with the system's port where it was told port 0.
+    pub fn address(&self) -> io::Result<SocketAddr> {
+        self.listener.local_addr()
+    }
+
     /// Looks, without waiting, and answers from where a stop was asked for, once.
     pub fn look(&mut self) -> Option<SocketAddr> {
         if self.is_asked {

@@ -2,7 +2,7 @@
 ghost use Rattle.std.specs.Prelude.{None};
 
 use crate::stamping::Stamped;
-use crate::{Stop, StopPort, report, wake};
+use crate::{Stop, wake};
 use cds_time::UnixTime;
 use std::alloc::Global;
 use std::io::Eprint;
@@ -10,30 +10,41 @@ use std::net::{Net, SocketAddr, TcpListener, TcpStream};
 use std::rt::Clock;
 use std::time::Duration;
 
-/// What is looked at, and what comes of a stop that is asked for there.
+/// The stop that is looked for, and what comes of it.
 #[derive(Drop)]
 pub struct Watch {
-    /// The port.
-    pub port: StopPort,
-    /// The stop, which all that share it see.
-    pub stop: Stop,
-    /// Where calls may wait for a connection, which are woken.
-    pub waiting: Vec<SocketAddr>,
+    stop: Stop,
+    waiting: Vec<SocketAddr>,
+    is_told: bool,
 }
 
 impl Watch {
-    // Looks, and where a stop is asked for, reports it, tells it and wakes the calls that wait.
+    /// A watch for this stop. The calls that may wait for a connection at these addresses are woken
+    /// once it was asked for.
+    pub fn new(stop: Stop, waiting: Vec<SocketAddr>) -> Watch {
+        Watch {
+            stop,
+            waiting,
+            is_told: false,
+        }
+    }
+
+    /// The stop that is looked for.
+    pub fn stop(&self) -> &Stop {
+        &self.stop
+    }
+
+    // Looks, and wakes the calls that wait where the stop was asked for, here or elsewhere.
     fn look<R: Net<Stream = TcpStream, Listener = TcpListener> + Eprint + Clock>(
         &mut self,
         rt: &R,
         alloc: Global,
     ) {
-        let Some(peer) = self.port.look() else {
+        self.stop.look(alloc, &mut Stamped::new(rt, alloc));
+        if self.is_told || !self.stop.is_asked() {
             return;
-        };
-        let line = format!(in alloc; "stop: asked for by {peer}\n");
-        report(&mut Stamped::new(rt, alloc), line);
-        self.stop.ask();
+        }
+        self.is_told = true;
         for address in &self.waiting {
             wake(rt, *address);
         }

@@ -152,7 +152,7 @@ fn run_watched<
     requires { IsInRange plan.now }
 {
     let ports = plan.ports.as_slice();
-    let stop = watch.as_ref().map(|watch| &watch.stop);
+    let stop = watch.as_ref().map(Watch::stop);
     let Ok(mut doors) = doors_of(rt, alloc, place.address, ports, stop) else {
         return MEMORY;
     };

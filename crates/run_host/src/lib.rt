@@ -7,9 +7,9 @@
 // and what fails are told on standard error, a line each with its time.
 //
 // Where the place has a port for that, a stop is asked for there. Then the doors give no further
-// link, the links that are out and the source come to an end, and so the run does. The antenna's
-// worker looks, at each reading of its clock: it is the last one to go, and rests for milliseconds
-// alone.
+// link, the links that are out and the source come to an end, and so the run does. The source of
+// entries looks at each call, and so does the antenna's worker at each reading of its clock: it is
+// the last one to go, and looks also where a fault has ended the recorder, which calls the source.
 #![tactic(auto)]
 
 mod files;

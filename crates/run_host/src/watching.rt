@@ -53,9 +53,6 @@ pub(crate) fn watch_of<R: Net<Stream = TcpStream, Listener = TcpListener> + rt::
             return Err(WatchFault::Port);
         }
     };
-    Ok(Some(Watch {
-        port,
-        stop: Stop::new(alloc)?,
-        waiting: places_of(alloc, place.address, ports)?,
-    }))
+    let stop = Stop::at(alloc, port)?;
+    Ok(Some(Watch::new(stop, places_of(alloc, place.address, ports)?)))
 }

@@ -9,7 +9,7 @@ use operator_side::Stop;
 use recorder::Feed;
 use std::alloc::Global;
 use std::io;
-use std::io::{ErrorKind, Read};
+use std::io::{ErrorKind, Read, Write};
 use std::marker::Model;
 use std::net::{SocketAddr, TcpListener, TcpStream};
 
@@ -113,6 +113,13 @@ impl Heard {
             None if self.is_over => Ok(Some(self.end())),
             None if self.is_stopped() => Ok(Some(Feed::End)),
             None => self.hear(),
+        }
+    }
+
+    /// Looks for the stop, and reports it where it is asked for now.
+    pub fn look<W: Write>(&self, reports: &mut W) {
+        if let Some(stop) = &self.stop {
+            stop.look(self.alloc, reports);
         }
     }
 

@@ -60,7 +60,8 @@ impl<W: Write + Send + Drop> TcpFeed<W> {
         })
     }
 
-    /// Has it end at this stop, and go on with the next connection where one ends before.
+    /// Has it look for this stop at each call and end at it, and go on with the next connection
+    /// where one ends before.
     pub fn end_at(&mut self, stop: Stop)
         ensures { self.new ≡ self.old }
     {
@@ -141,8 +142,9 @@ impl<W: Write + Send + Drop> FrameSource for TcpFeed<W> {
 
     ghost faults = { λ feed. feed.faults };
 
-    /// The entry of the next line that says one, where it has come whole.
+    /// The entry of the next line that says one, where it has come whole. It looks for a stop first.
     fn next(&mut self) -> Feed {
+        self.heard.look(&mut self.reports);
         let answer = next_of(&mut self.heard);
         tell(self.alloc, &mut self.heard, &mut self.reports);
         match answer {

@@ -1,6 +1,6 @@
 // A port that is taken, and a second connection.
 use crate::loopback::{answers, open};
-use operator_side::Stop;
+use operator_side::{Stop, StopPort};
 use recorder::{Feed, FrameSource};
 use std::io;
 use std::io::{Read, Write};
@@ -59,5 +59,22 @@ fn a_source_ends_at_a_stop(rt: HostRuntime) -> Result<(), Fail> {
     }
     stop.ask();
     assert!(rt; matches!(feed.next(), Feed::End));
+    Ok(())
+}
+
+// A call of the source looks at the stop's port itself.
+#[test]
+fn a_source_hears_a_stop_at_its_port(rt: HostRuntime) -> Result<(), Fail> {
+    let port = StopPort::open(&rt, "127.0.0.1:0".parse()?)?;
+    let address = port.address()?;
+    let stop = Stop::at(rt.alloc(), port)?;
+    let mut feed = open(&rt, rt.alloc(), "127.0.0.1:0".parse()?)?;
+    feed.end_at(stop.share()?);
+    let mut operator = TcpStream::connect(&rt, address)?;
+    assert!(rt; is_early(&mut feed) && !stop.is_asked());
+    operator.write_all(b"stop\n")?;
+    assert!(rt; matches!(feed.next(), Feed::End) && stop.is_asked());
+    let told = format!(in rt.alloc(); "stop: asked for by {}\n", operator.local_addr()?)?;
+    assert_eq!(rt; feed.reports().as_slice(), told.as_bytes());
     Ok(())
 }
