@@ -20,3 +20,4 @@ mod Fits
 mod FcltuServed
 mod Asks
 mod Advance
+mod Bare

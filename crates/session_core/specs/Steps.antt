@@ -192,6 +192,16 @@ with_heartbeat s =
 abbrev pub unasked : Site → Replied → Standing → Standing
 unasked site r s = with_heartbeat (with_notice site (with_report site s r) r.notice)
 
+-- what a round leaves in which no message is held
+abbrev pub with_none : Standing → Next → Standing
+with_none s (Err fault) = ended_by s (Broken fault)
+with_none s (Ok next) = if has_closed s.arrival then ended_by s PeerClosed else s
+
+-- the whole step of a session with no service, where no message is held: it asks nothing, and
+-- whatever the book replied comes to this
+abbrev pub bare_step : Standing → Next → ℕ → Standing
+bare_step s next now = with_heartbeat (timed (with_none (at_moment s now) next))
+
 -- the whole step of a session that hasn't ended, at a moment, where the book replied so
 abbrev pub after_step : Site → Standing → Next → ℕ → Replied → Standing
 after_step site s next now r =

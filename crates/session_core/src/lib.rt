@@ -11,7 +11,8 @@
 // `Session` does that, one method for each step. It takes its memory when it is made, and holds no
 // history: the octets that were not handled yet, the space of a poll, and how it stands. A round
 // costs what its octets and its message cost: a message is decoded in one pass, credentials that
-// are asked for cost a digest each, and a BIND goes over the site once.
+// are asked for cost a digest each, and a BIND goes over the site once. A round without
+// a message costs little more than the book's answer where no service is bound.
 #![tactic(auto)]
 
 mod arrival;

@@ -23,7 +23,7 @@ use link_model::{Link, Poll};
 use octet_core::Offer;
 
 // Whether a whole message is held.
-fn holds_message(feeder: &Feeder) -> bool
+pub(crate) fn holds_message(feeder: &Feeder) -> bool
     ensures { result ≡ has_message (next_held feeder.now) }
 {
     feeder.has_message()

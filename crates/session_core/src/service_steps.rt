@@ -4,7 +4,7 @@
 // invocation, the status report that is due, how a notice is told, and its message behind the block.
 // Its returns are signed by `Standing::sign_bound`, become the block by `Block::put`, and are added
 // to it by `Block::add`.
-ghost use Rattle.std.specs.Prelude.{◌≡◌, ◌<◌, ◌≤◌, None, IsTrue, length, option_copied};
+ghost use Rattle.std.specs.Prelude.{◌≡◌, ◌<◌, ◌≤◌, None, IsTrue, IsFalse, length, option_copied};
 ghost use Rattle.cds_time.specs.declared.cds.TheConstants.{MOMENT_END};
 ghost use Rattle.frame_select.specs.Want.{want_of};
 ghost use Rattle.frame_select.specs.Glimpse.{glimpse_of};
@@ -16,9 +16,9 @@ ghost use Rattle.session_core.specs.ServiceSteps.{with_report, reported, noticed
 ghost use Rattle.session_core.specs.ServiceSteps.{is_active, may_serve, has_outgoing, with_fixed};
 ghost use Rattle.session_core.specs.ServiceSteps.{fixed, with_service, spelled, after_stall};
 ghost use Rattle.session_core.specs.ServiceSteps.{after_send};
-ghost use Rattle.session_core.specs.Served.{reported_by, fixed_by, dropped_by};
+ghost use Rattle.session_core.specs.Served.{reported_by, fixed_by, dropped_by, unserved};
 ghost use Rattle.session_core.specs.Returns.{bound_peer};
-ghost use Rattle.session_core.specs.Steps.{running_want, with_want, may_send, unasked};
+ghost use Rattle.session_core.specs.Steps.{running_want, with_want, may_send, unasked, is_idle};
 
 use crate::course::Course;
 use crate::fcltu_served::{fcltu_asked, view_due};
@@ -196,6 +196,15 @@ impl Standing {
         ensures { result ≡ is_active self.now.association }
     {
         matches!(self.association.state(), State::Active(_))
+    }
+
+    // Whether the session goes on with no service, in a round that isn't blocked.
+    pub(crate) fn is_bare(&self) -> bool
+        ensures service { IsTrue result → self.now.service ≡ unserved }
+        ensures active { IsTrue result → IsFalse (is_active self.now.association) }
+        ensures idle { IsTrue result → IsFalse (is_idle self.now) }
+    {
+        matches!(self.service, ServiceState::Nothing) && !self.is_active() && !self.is_idle()
     }
 
     // Whether the service takes its step, where it was started before the message or not.

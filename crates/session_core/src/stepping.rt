@@ -1,28 +1,34 @@
 // The second call of a round.
-ghost use Rattle.std.specs.Prelude.{◌≡◌, ◌<◌, IfOk, OnOk, OnErr, Some, not, IsTrue};
+ghost use Rattle.std.specs.Prelude.{◌≡◌, ◌<◌, IfOk, OnOk, OnErr, Some, not, IsTrue, IsFalse};
 ghost use Rattle.cds_time.specs.declared.cds.TheConstants.{MOMENT_END};
 ghost use Rattle.isp1_tml.specs.Feeding.{next_of as next_held, after_next as after_given};
 ghost use Rattle.isp1_tml.specs.Given.{content_of};
 ghost use Rattle.return_core.specs.Item.{are_of_archive};
 ghost use Rattle.station_config.specs.Validity.{IsSite};
 ghost use Rattle.station_book.specs.History.{after, moment_at, replay};
+ghost use Rattle.cltu_queue.specs.declared.ask.Ask.TheVariants.{Nothing};
 ghost use Rattle.session_core.specs.Inquiry.{call_of, answer_of, reply_in, inquiry_of, replied_of};
+ghost use Rattle.session_core.specs.Inquiry.{only_asks};
+ghost use Rattle.session_core.specs.Served.{unserved};
+ghost use Rattle.session_core.specs.ServiceSteps.{is_active};
 ghost use Rattle.session_core.specs.SessionState.{feeder_after, asked, told_now, told_by};
 ghost use Rattle.session_core.specs.SessionState.{kept_after, own_events, Acts};
 ghost use Rattle.session_core.specs.Lists.{GoesStep};
 ghost use Rattle.session_core.specs.Outcome.{has_ended, Spends, Repeats};
 ghost use Rattle.session_core.specs.Steps.{inquiry_entered, acted, with_want};
 ghost use Rattle.session_core.specs.Steps.{message_ask, with_message, idle_ask, next_ask};
-ghost use Rattle.session_core.specs.Steps.{with_next};
+ghost use Rattle.session_core.specs.Steps.{with_next, has_message, is_idle, with_none, bare_step};
 
 use crate::bind_places::places_of;
 use crate::ended::Ended;
 use crate::handling::{said_ask, service_made, stays_running};
 use crate::inquiry::Inquiry;
+use crate::listening::holds_message;
 use crate::replied::Replied;
 use crate::session::Session;
 use crate::standing::Standing;
 use crate::user_message::UserMessage;
+use frame_select::Want;
 use isp1_tml::{Feeder, Message, laws};
 use octet_core::Memory;
 use return_core::laws::looks_are_of_archive;
@@ -173,8 +179,69 @@ fn act(
     take_message(feeder, standing, book, asking)
 }
 
+// Asks the book nothing, and wants nothing of it.
+fn ask_nothing(book: &mut Book, door: u32, reading: u128) -> Result<(), Memory>
+    requires { reading < MOMENT_END }
+    ensures after { OnOk result (book.new
+        ≡ after book.old (call_of door reading (only_asks Nothing))) }
+    ensures err { OnErr result (book.new ≡ book.old) }
+{
+    let _told = book.answer(door, reading, &Ask::Nothing, &Want::Nothing)?;
+    Ok(())
+}
+
+// Ends a session by its stream's fault, or by a close, where no message is held.
+fn take_none(feeder: &mut Feeder, standing: &mut Standing)
+    requires { IsFalse (has_message (next_held feeder.old)) }
+    ensures feeder { feeder.new ≡ after_given feeder.old }
+    ensures standing { standing.new ≡ with_none standing.old (next_held feeder.old) }
+{
+    match feeder.next_message() {
+        Err(fault) => standing.end(Ended::Broken(fault)),
+        Ok(_) => standing.end_if_closed(),
+    }
+}
+
+// The step of a session with no service that holds no message, as the most rounds are: nothing is
+// made that the book has no use for.
 impl Session {
-    // The step of a session that hasn't ended.
+    // Whether it is such a step.
+    fn is_bare(&self) -> bool
+        ensures service { IsTrue result → self.now.standing.service ≡ unserved }
+        ensures active { IsTrue result → IsFalse (is_active self.now.standing.association) }
+        ensures idle { IsTrue result → IsFalse (is_idle self.now.standing) }
+        ensures none { IsTrue result → IsFalse (has_message (next_held self.now.feeder)) }
+    {
+        self.standing.is_bare() && !holds_message(&self.feeder)
+    }
+
+    // Takes it.
+    fn rest(&mut self, book: &mut Book, reading: u128) -> Result<(), Memory>
+        requires reading { reading < MOMENT_END }
+        requires none { IsFalse (has_message (next_held self.old.feeder)) }
+        ensures book { OnOk result (book.new
+            ≡ after book.old (call_of self.old.door reading (only_asks Nothing))) }
+        ensures kept { OnOk result (self.new ≡ record self.old {
+          feeder = after_given self.old.feeder;
+          standing =
+              bare_step self.old.standing (next_held self.old.feeder)
+              (moment_at book.old reading);
+        }) }
+        ensures err { OnErr result (book.new ≡ book.old) }
+    {
+        self.standing.enter(book.peek(reading));
+        ask_nothing(book, self.door, reading)?;
+        take_none(&mut self.feeder, &mut self.standing);
+        self.standing.look_at_timer();
+        self.standing.put_heartbeat();
+        Ok(())
+    }
+}
+
+impl Session {
+    // The step of any session that hasn't ended. It stands apart, so that one with no service
+    // doesn't pay for the room that a service's answers take.
+    #[inline(never)]
     fn advance(&mut self, site: &Site, book: &mut Book, reading: u128) -> Result<(), Memory>
         requires site { IsSite site.now }
         requires reading { reading < MOMENT_END }
@@ -199,6 +266,22 @@ impl Session {
         Ok(())
     }
 
+    // The step of a session that hasn't ended.
+    fn go_on(&mut self, site: &Site, book: &mut Book, reading: u128) -> Result<(), Memory>
+        requires site { IsSite site.now }
+        requires reading { reading < MOMENT_END }
+        ensures book { OnOk result (book.new ≡ after book.old
+            (call_of self.old.door reading (asked site.now self.old book.old reading))) }
+        ensures kept { OnOk result (self.new
+            ≡ kept_after site.now self.old (Some (told_now site.now self.old book.old reading))) }
+        ensures err { OnErr result (book.new ≡ book.old) }
+    {
+        if self.is_bare() {
+            return self.rest(book, reading);
+        }
+        self.advance(site, book, reading)
+    }
+
     // The step of any session. Want of memory spends it.
     fn take_step(&mut self, site: &Site, book: &mut Book, reading: u128) -> Result<(), Memory>
         requires site { IsSite site.now }
@@ -217,7 +300,7 @@ impl Session {
         if self.standing.is_spent() {
             return Err(Memory);
         }
-        let Ok(()) = self.advance(site, book, reading) else {
+        let Ok(()) = self.go_on(site, book, reading) else {
             self.standing.spend();
             return Err(Memory);
         };
