@@ -103,7 +103,7 @@ none_once : (block : List ℕ) (answer : Offer) → polls_in (offered_once block
 none_once [] answer = refl
 none_once (x ∷ block) answer = refl
 
-none_offered : (o : OutboxState) (first second : Offer) → polls_in (offered_by o first second) ≡ []
+pub none_offered : (o : OutboxState) (first second : Offer) → polls_in (offered_by o first second) ≡ []
 none_offered o offer.Whole second =
     let p = left_once o offer.Whole in
     polls_both (offered_once o.block offer.Whole) (offered_once p.block second)

@@ -1,4 +1,5 @@
 pub mod Told
+pub mod Octets
 pub mod Handed
 pub mod Turned
 pub mod Running

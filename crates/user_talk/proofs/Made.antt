@@ -6,11 +6,12 @@ use Rattle.std.specs.Prelude.{IsTrue, IsFalse}
 use Rattle.cds_time.specs.declared.cds.Cds.{Cds}
 use Rattle.link_model.specs.declared.call.Call.{Call}
 use Rattle.link_model.specs.declared.call.Heard.{Heard}
-use Rattle.link_model.specs.Calls.{Tells}
+use Rattle.link_model.specs.Calls.{Tells, octets_heard}
 use Rattle.octet_core.specs.Fault.{Rose}
 use Rattle.octet_core.specs.Told.{CountsWhere}
 use Rattle.octet_core.specs.Written.{Gains, GainsFront}
 use Rattle.user_core.specs.Hearing.{Hearing}
+use Rattle.user_core.specs.Laws.{AreOctets}
 use Rattle.user_core.specs.declared.status.Status.{Status}
 use Rattle.user_talk.specs.Ending.{end_by, end_at, hears_close}
 use Rattle.user_talk.specs.Outbox.{offered, any_failed}
@@ -24,6 +25,7 @@ use Rattle.user_talk.specs.declared.end.End.TheVariants as end
 use Rattle.user_talk.specs.declared.outbox.Answers.{Answers}
 use Rattle.user_talk.specs.declared.turn.Stop.{Stop}
 use Rattle.user_talk.specs.declared.turn.Stop.TheVariants as stop
+use Rattle.user_talk.proofs.Octets.{none_are, calls_give, turn_gives}
 use Rattle.user_talk.proofs.Told.{tells_both}
 
 module _ {L C O : Type 0} (calls : L → Option (List Call)) (link_faults : L → ℕ)
@@ -51,6 +53,7 @@ module _ {L C O : Type 0} (calls : L → Option (List Call)) (link_faults : L �
   module _ (s t : TalkState) (now : ℕ) (h : Option Heard) (answers : Answers)
       (old new : World L C O) (before : L) (made : Made s t now (hearing_in h) answers old new)
       (told : Tells (calls before) (calls old.link) (poll_calls h))
+      (octets : AreOctets (octets_heard (poll_calls h)))
       (same : link_faults old.link ≡ link_faults before) where
     abbrev the_round : Round
     the_round = record { heard = h; now = now; answers = answers }
@@ -65,6 +68,9 @@ module _ {L C O : Type 0} (calls : L → Option (List Call)) (link_faults : L �
         (tells_both (calls before) (calls old.link) (calls new.link) (poll_calls h)
         (offered (queued_at s now (hearing_in h)) answers) told made.told)
 
+    its_octets : AreOctets (octets_heard (calls_of s the_round ++ []))
+    its_octets = calls_give (calls_of s the_round) [] (turn_gives s the_round octets) none_are
+
     its_lines : Gains (written old.output) (written new.output) (lines_of s the_round ++ [])
     its_lines = subst (λ l. Gains (written old.output) (written new.output) l)
         (sym (append-nil (lines_of s the_round))) made.printed
@@ -78,6 +84,7 @@ module _ {L C O : Type 0} (calls : L → Option (List Call)) (link_faults : L �
       ran = record {
         state = made.state;
         told = its_calls;
+        octets = its_octets;
         reads = made.reads;
         printed = its_lines;
         goes_through =
@@ -103,6 +110,7 @@ module _ {L C O : Type 0} (calls : L → Option (List Call)) (link_faults : L �
       ended = record {
         told = subst (λ l. Tells (calls before) (calls new.link) l)
             (sym (append-nil (calls_of s the_round ++ []))) its_calls;
+        octets = calls_give (calls_of s the_round ++ []) [] its_octets none_are;
         reads = made.reads;
         printed = printed;
         goes_through = tt;
@@ -156,23 +164,26 @@ module _ {L C O : Type 0} (calls : L → Option (List Call)) (link_faults : L �
       → closed ≡ hears_close hearing
       → TurnsOn calls link_faults readings written output_faults hearing
       (end_by status answers closed) s t old new
-  made_on s t now hearing answers status closed old new made is hears h before heard told same =
+  made_on s t now hearing answers status closed old new made is hears h before heard told octets
+      same =
       made_by s t now h answers old new before
-      (subst (λ x. Made s t now x answers old new) (sym heard) made) told same status closed is
+      (subst (λ x. Made s t now x answers old new) (sym heard) made) told octets same status closed is
       (hears ∙ ap hears_close (sym heard))
 
   stopped_by : (s : TalkState) (now : ℕ) (h : Option Heard) (why : Stop) (old new : World L C O)
       (before : L) → Stopped s now (hearing_in h) why old new
       → Tells (calls before) (calls old.link) (poll_calls h)
+      → AreOctets (octets_heard (poll_calls h))
       → WasLast calls link_faults readings written output_faults h (end_at why) s
       (world before old.clock old.output) new
-  stopped_by s now h stop.WriteFault old new before stopped told = record {
+  stopped_by s now h stop.WriteFault old new before stopped told octets = record {
     rounds = [];
     tail = broken h now;
     is = refl;
     unspent = λ e. absurd cc;
     ended = record {
       told = subst (λ l. Tells (calls before) (calls l) (poll_calls h)) (sym stopped.link) told;
+      octets = octets;
       reads = stopped.reads;
       printed = stopped.printed;
       goes_through = tt;
@@ -182,13 +193,14 @@ module _ {L C O : Type 0} (calls : L → Option (List Call)) (link_faults : L �
       output_kept = inl refl;
     };
   }
-  stopped_by s now h stop.Memory old new before stopped told = record {
+  stopped_by s now h stop.Memory old new before stopped told octets = record {
     rounds = [];
     tail = broken h now;
     is = refl;
     unspent = λ e. absurd cc;
     ended = record {
       told = subst (λ l. Tells (calls before) (calls l) (poll_calls h)) (sym stopped.link) told;
+      octets = octets;
       reads = stopped.reads;
       printed = stopped.printed;
       goes_through = tt;
@@ -203,6 +215,6 @@ module _ {L C O : Type 0} (calls : L → Option (List Call)) (link_faults : L �
       (old new : World L C O) → Stopped s now hearing why old new
       → TurnsOn calls link_faults readings written output_faults hearing (Some (end_at why)) s t old
       new
-  stopped_on s t now hearing why old new stopped h before heard told same =
+  stopped_on s t now hearing why old new stopped h before heard told octets same =
       stopped_by s now h why old new before
-      (subst (λ x. Stopped s now x why old new) (sym heard) stopped) told
+      (subst (λ x. Stopped s now x why old new) (sym heard) stopped) told octets

@@ -8,13 +8,14 @@ use Rattle.link_model.specs.declared.call.Call.{Call}
 use Rattle.link_model.specs.declared.call.Call.TheVariants.{Polled}
 use Rattle.link_model.specs.declared.call.Heard.{Heard}
 use Rattle.link_model.specs.declared.call.Heard.TheVariants.{Failed}
-use Rattle.link_model.specs.Calls.{Tells}
+use Rattle.link_model.specs.Calls.{Tells, arrived_at}
 use Rattle.octet_core.specs.Fault.{Rose}
 use Rattle.octet_core.specs.Writing.{gains-none}
 use Rattle.user_core.specs.Hearing.{Hearing, nothing}
+use Rattle.user_core.specs.Laws.{AreOctets}
 use Rattle.user_task.specs.declared.task.Task.{Task}
 use Rattle.user_talk.specs.Readings.{Reads}
-use Rattle.user_talk.specs.Rounds.{TalkState, Round, begun, hearing_in}
+use Rattle.user_talk.specs.Rounds.{TalkState, Round, begun, hearing_in, calls_in}
 use Rattle.user_talk.specs.Running.{World, world, WentOn, WasLast, Turns, TurnsOn, IsTurn}
 use Rattle.user_talk.specs.Running.{Tail, whole, unheard, broken, tail_count, tail_polled, is_polled}
 use Rattle.user_talk.specs.Running.{GoesOn, Ends, Polls, Talked, PollsBehindFirst}
@@ -22,6 +23,7 @@ use Rattle.user_talk.specs.declared.end.End.{End}
 use Rattle.user_talk.specs.declared.end.End.TheVariants as end
 use Rattle.user_talk.specs.declared.rounds.TheConstants.{PIECE_OCTETS}
 use Rattle.user_talk.proofs.Running.{ran_both, ended_both, all_both, reads_none, through_but_last}
+use Rattle.user_talk.proofs.Octets.{none_are, poll_gives, calls_give}
 use Rattle.user_talk.proofs.Told.{tells_none}
 
 -- one turn, in which a poll was heard
@@ -88,6 +90,7 @@ module _ {L C O : Type 0} (calls : L → Option (List Call)) (link_faults : L �
       spent = λ e. absurd cc;
       ended = record {
         told = told;
+        octets = none_are;
         reads = reads_none (readings clock);
         printed = gains-none (written output);
         goes_through = tt;
@@ -128,12 +131,13 @@ module _ {L C O : Type 0} (calls : L → Option (List Call)) (link_faults : L �
   pub polls_on : (h : Heard) (hearing : Hearing) (e : Option End) (s t : TalkState) (link mid : L)
       (clock : C) (output : O) (new : World L C O) → hearing_in (Some h) ≡ hearing
       → Tells (calls link) (calls mid) (Polled PIECE_OCTETS h ∷ [])
-      → link_faults mid ≡ link_faults link
+      → AreOctets (arrived_at h) → link_faults mid ≡ link_faults link
       → TurnsOn calls link_faults readings written output_faults hearing e s t
       (world mid clock output) new
       → Polls calls link_faults readings written output_faults e s t (world link clock output) new
-  polls_on h hearing e s t link mid clock output new is told same turns =
-      polls_by h e s t (world link clock output) new (turns (Some h) link is told same)
+  polls_on h hearing e s t link mid clock output new is told are same turns =
+      polls_by h e s t (world link clock output) new
+      (turns (Some h) link is told (poll_gives h are) same)
 
   pub goes_none : (s : TalkState) (link : L) (clock : C) (output : O)
       → s.user.course.status ≡ None
@@ -146,6 +150,7 @@ module _ {L C O : Type 0} (calls : L → Option (List Call)) (link_faults : L �
     ran = record {
       state = refl;
       told = tells_none (calls link);
+      octets = none_are;
       reads = reads_none (readings clock);
       printed = gains-none (written output);
       goes_through = tt;
@@ -207,6 +212,7 @@ module _ {L C O : Type 0} (calls : L → Option (List Call)) (link_faults : L �
     spent = λ is. first.counted;
     ended = record {
       told = subst (λ l. Tells (calls p.link) (calls q.link) l) (sym (append-nil _)) first.ran.told;
+      octets = calls_give (calls_in s first.rounds) [] first.ran.octets none_are;
       reads = subst (λ l. Reads (readings p.clock) (readings q.clock) l) (sym (append-nil _))
           first.ran.reads;
       printed = first.ran.printed;

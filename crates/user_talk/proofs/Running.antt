@@ -7,10 +7,11 @@ use Rattle.std.proofs.lemmas.List.{map-append}
 use Rattle.std.specs.List.{list_all}
 use Rattle.cds_time.specs.declared.cds.Cds.{Cds}
 use Rattle.link_model.specs.declared.call.Call.{Call}
-use Rattle.link_model.specs.Calls.{Tells}
+use Rattle.link_model.specs.Calls.{Tells, octets_heard}
 use Rattle.octet_core.specs.Fault.{Rose}
 use Rattle.octet_core.specs.Written.{Gains, GainsFront}
 use Rattle.octet_core.specs.Writing.{gains-append, gains_front-append}
+use Rattle.user_core.specs.Laws.{AreOctets}
 use Rattle.user_core.specs.declared.status.Status.TheVariants as status
 use Rattle.user_talk.specs.Readings.{Reads, moment_shown}
 use Rattle.user_talk.specs.Rounds.{TalkState, Round, after_rounds, calls_in, lines_in, moments}
@@ -20,6 +21,7 @@ use Rattle.user_talk.specs.Running.{GoesThrough, but_last, before_polls}
 use Rattle.user_talk.specs.Running.{tail_moments, tail_lines, EndsBy, PrintsTo, LastIs}
 use Rattle.user_talk.specs.declared.end.End.{End}
 use Rattle.user_talk.specs.declared.end.End.TheVariants as end
+use Rattle.user_talk.proofs.Octets.{calls_give}
 use Rattle.user_talk.proofs.Told.{tells_both}
 
 pub after_both : (s : TalkState) (a b : List Round)
@@ -154,6 +156,9 @@ module _ {L C O : Type 0} (calls : L → Option (List Call)) (link_faults : L �
         (ap (λ x. calls_in s a ++ calls_in x b) first.state ∙ sym (calls_both s a b))
         (tells_both (calls p.link) (calls q.link) (calls r.link) (calls_in s a) (calls_in t b)
         first.told second.told);
+    octets = subst (λ l. AreOctets (octets_heard l))
+        (ap (λ x. calls_in s a ++ calls_in x b) first.state ∙ sym (calls_both s a b))
+        (calls_give (calls_in s a) (calls_in t b) first.octets second.octets);
     reads = subst (λ l. Reads (readings p.clock) (readings r.clock) l) (sym (moments_both a b))
         (reads_both (readings p.clock) (readings q.clock) (readings r.clock) (moments a)
         (moments b) first.reads second.reads);
@@ -173,13 +178,18 @@ module _ {L C O : Type 0} (calls : L → Option (List Call)) (link_faults : L �
   ended_both a b tail e s t p q r first second =
       let state : after_rounds t b ≡ after_rounds s (a ++ b) =
       ap (λ x. after_rounds x b) first.state ∙ sym (after_both s a b) in
+      let joined : calls_in s a ++ (calls_in t b ++ tail_calls tail)
+      ≡ calls_in s (a ++ b) ++ tail_calls tail =
+      sym (append_assoc (calls_in s a) (calls_in t b) (tail_calls tail))
+      ∙ ap (λ l. l ++ tail_calls tail)
+      (ap (λ x. calls_in s a ++ calls_in x b) first.state ∙ sym (calls_both s a b)) in
       record {
-        told = subst (λ l. Tells (calls p.link) (calls r.link) l)
-            (sym (append_assoc (calls_in s a) (calls_in t b) (tail_calls tail))
-            ∙ ap (λ l. l ++ tail_calls tail)
-            (ap (λ x. calls_in s a ++ calls_in x b) first.state ∙ sym (calls_both s a b)))
+        told = subst (λ l. Tells (calls p.link) (calls r.link) l) joined
             (tells_both (calls p.link) (calls q.link) (calls r.link) (calls_in s a)
             (calls_in t b ++ tail_calls tail) first.told second.told);
+        octets = subst (λ l. AreOctets (octets_heard l)) joined
+            (calls_give (calls_in s a) (calls_in t b ++ tail_calls tail) first.octets
+            second.octets);
         reads = subst (λ l. Reads (readings p.clock) (readings r.clock) l)
             (sym (append_assoc (moments a) (moments b) (tail_moments tail))
             ∙ ap (λ l. l ++ tail_moments tail) (sym (moments_both a b)))

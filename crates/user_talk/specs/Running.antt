@@ -7,10 +7,11 @@ use Rattle.link_model.specs.declared.call.Call.{Call}
 use Rattle.link_model.specs.declared.call.Call.TheVariants.{Polled}
 use Rattle.link_model.specs.declared.call.Heard.{Heard}
 use Rattle.link_model.specs.declared.call.Heard.TheVariants.{Failed}
-use Rattle.link_model.specs.Calls.{Tells}
+use Rattle.link_model.specs.Calls.{Tells, octets_heard}
 use Rattle.octet_core.specs.Fault.{Rose}
 use Rattle.octet_core.specs.Written.{Gains, GainsFront}
 use Rattle.user_core.specs.Hearing.{Hearing}
+use Rattle.user_core.specs.Laws.{AreOctets}
 use Rattle.user_task.specs.declared.task.Task.{Task}
 use Rattle.user_talk.specs.Ending.{hears_close}
 use Rattle.user_talk.specs.Outbox.{any_failed}
@@ -137,10 +138,12 @@ IsTurn h rounds tail = ⊥
 
 module _ {L C O : Type 0} (calls : L → Option (List Call)) (link_faults : L → ℕ)
     (readings : C → Option (List Cds)) (written : O → Option (List ℕ)) (output_faults : O → ℕ) where
-  -- These turns were made, nothing failed in them, and the user goes on.
+  -- These turns were made, nothing failed in them, and the user goes on. What the polls gave are
+  -- octets.
   pub record Ran (rounds : List Round) (s t : TalkState) (old new : World L C O) : Type 0 where
     pub state : t ≡ after_rounds s rounds
     pub told : Tells (calls old.link) (calls new.link) (calls_in s rounds)
+    pub octets : AreOctets (octets_heard (calls_in s rounds))
     pub reads : Reads (readings old.clock) (readings new.clock) (moments rounds)
     pub printed : Gains (written old.output) (written new.output) (lines_in s rounds)
     pub goes_through : GoesThrough s rounds
@@ -148,10 +151,11 @@ module _ {L C O : Type 0} (calls : L → Option (List Call)) (link_faults : L �
     pub output_well : output_faults new.output ≡ output_faults old.output
 
   -- These turns were made, with this behind them, and so the talk ended. Before each poll the user
-  -- went on.
+  -- went on, and what the polls gave are octets.
   pub record Ended (rounds : List Round) (tail : Tail) (e : End) (s : TalkState)
       (old new : World L C O) : Type 0 where
     pub told : Tells (calls old.link) (calls new.link) (calls_in s rounds ++ tail_calls tail)
+    pub octets : AreOctets (octets_heard (calls_in s rounds ++ tail_calls tail))
     pub reads : Reads (readings old.clock) (readings new.clock)
         (moments rounds ++ tail_moments tail)
     pub printed : PrintsTo e (written old.output) (written new.output) (lines_in s rounds)
@@ -183,12 +187,13 @@ module _ {L C O : Type 0} (calls : L → Option (List Call)) (link_faults : L �
   Turns h None s t old new = WentOn h s t old new
   Turns h (Some e) s t old new = WasLast h e s old new
 
-  -- so it does whatever the poll's call was by which this was heard
+  -- so it does whatever the poll's call was by which this was heard, where that gave octets
   abbrev pub TurnsOn : Hearing → Option End → TalkState → TalkState → World L C O → World L C O
       → Type 0
   TurnsOn hearing e s t old new =
       (h : Option Heard) (before : L) → hearing_in h ≡ hearing
       → Tells (calls before) (calls old.link) (poll_calls h)
+      → AreOctets (octets_heard (poll_calls h))
       → link_faults old.link ≡ link_faults before
       → Turns h e s t (world before old.clock old.output) new
 

@@ -1,10 +1,11 @@
 // The rounds of a talk: one poll each.
 ghost use Rattle.std.specs.Prelude.{◌≡◌, ◌<◌, [], ◌∷◌, Some, None, false, IfSome, OnSome, IfNone, length};
 ghost use Rattle.cds_time.specs.declared.cds.TheConstants.{MOMENT_END};
-ghost use Rattle.link_model.specs.Calls.{heard_of, IsWithin};
+ghost use Rattle.link_model.specs.Calls.{heard_of, arrived_at, IsWithin};
 ghost use Rattle.link_model.specs.Counts.{poll_failed};
 ghost use Rattle.link_model.specs.declared.poll.Poll.TheVariants as Poll;
 ghost use Rattle.user_core.specs.Hearing.{hearing_of};
+ghost use Rattle.user_core.specs.Laws.{AreOctets};
 ghost use Rattle.user_talk.specs.Ending.{end_by, end_at, hears_close};
 ghost use Rattle.user_talk.specs.Readings.{Reads};
 ghost use Rattle.user_talk.specs.Rounds.{hearing_in};
@@ -30,10 +31,12 @@ pub(crate) fn read<C: Clock>(clock: &mut C) -> u128
 }
 
 // What a poll heard; none where it failed.
+#[tactic(auto, using(crate::proofs::Octets::arrived_are))]
 fn heard_in<'a>(poll: Poll, piece: &'a [u8]) -> Option<Heard<'a>>
     requires { IsWithin poll (length piece.now) }
     ensures heard { IfSome result (λ heard. hearing_in (Some (heard_of poll piece.now))
         ≡ hearing_of heard) }
+    ensures octets { AreOctets (arrived_at (heard_of poll piece.now)) }
     ensures well { OnSome result (poll_failed poll ≡ false) }
     ensures failed { IfNone result (poll ≡ Poll.Failed) }
 {

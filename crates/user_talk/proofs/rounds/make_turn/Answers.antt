@@ -6,7 +6,7 @@ use Rattle.user_talk.proofs.Made.{made_on, stopped_on}
 use Rattle.user_talk.proofs.rounds.make_turn.Goals as goal
 
 pub returns-in-Ok : goal.returns-in-Ok
-returns-in-Ok g c h before heard told same =
+returns-in-Ok g c h before heard told octets same =
     let old = world c.args.link.now c.args.clock.now c.args.output.now in
     let new = world c.turn.new.link c.read-now.new.clock c.turn.new.output in
     subst (λ e. Turns g.L.Link.calls g.L.Link.faults g.C.Clock.readings g.O.Sink.written
@@ -21,10 +21,11 @@ returns-in-Ok g c h before heard told same =
       reads = c.read-now.ensures.told;
       printed = c.in-Ok.ensures.printed;
       kept = ⊎_elim (λ is. absurd cc) (λ same. same) c.in-Ok.ensures.kept;
-    }) (sym c.in-Ok.ensures.status) c.hears_close.ensures h before heard told same)
+    }) (sym c.in-Ok.ensures.status) c.hears_close.ensures h before heard told octets
+    same)
 
 pub returns-in-Err : goal.returns-in-Err
-returns-in-Err g c h before heard told same =
+returns-in-Err g c h before heard told octets same =
     let old = world c.args.link.now c.args.clock.now c.args.output.now in
     let new = world c.turn.new.link c.read-now.new.clock c.turn.new.output in
     subst (λ e. WasLast g.L.Link.calls g.L.Link.faults g.C.Clock.readings g.O.Sink.written
@@ -39,4 +40,4 @@ returns-in-Err g c h before heard told same =
       rose = λ is. c.in-Err.ensures.rose (ap (λ e. Err e) is);
       kept = ⊎_elim (λ is. inl (let same : c.in-Err.stop ≡ stop.WriteFault = cc in same))
           (λ same. inr same) c.in-Err.ensures.kept;
-    }) h before heard told same)
+    }) h before heard told octets same)

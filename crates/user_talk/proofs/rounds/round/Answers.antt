@@ -17,7 +17,7 @@ returns-in-Some-clause-polls g c =
     (world c.make_turn.new.link c.make_turn.new.clock c.make_turn.new.output)
     c.in-Some.ensures.heard
     (subst (λ n. Tells (g.L.Link.calls c.args.link.now) (g.L.Link.calls c.poll-poll.new.self)
-    (Polled n heard ∷ [])) c.requires.piece c.poll-poll.ensures.told)
+    (Polled n heard ∷ [])) c.requires.piece c.poll-poll.ensures.told) c.in-Some.ensures.octets
     (c.poll-poll.ensures.faults.kept (search c.in-Some.ensures.well)) c.make_turn.ensures
 
 pub returns-in-None-clause-polls : goal.returns-in-None-clause-polls

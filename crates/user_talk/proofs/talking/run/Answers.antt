@@ -1,5 +1,6 @@
 use Rattle.std.proofs.Common.{◌≡◌, None, refl, subst}
 use Rattle.user_talk.specs.Running.{world, WentOn, WasLast}
+use Rattle.user_talk.proofs.Octets.{none_are}
 use Rattle.user_talk.proofs.Polled.{first_ends, first_goes}
 use Rattle.user_talk.proofs.Told.{tells_none}
 use Rattle.user_talk.proofs.talking.run.Goals as goal
@@ -13,13 +14,13 @@ returns-in-Some g c =
     (subst (λ s. WasLast g.L.Link.calls g.L.Link.faults g.C.Clock.readings g.O.Sink.written
     g.O.Sink.faults None c.in-Some.end s old new) c.new-talk.ensures
     (c.in-Some.ensures None c.args.link.now refl (tells_none (g.L.Link.calls c.args.link.now))
-    refl))
+    none_are refl))
 
 pub rounds-requires-after_bounds : goal.rounds-requires-after_bounds
 rounds-requires-after_bounds g c =
     let goes : c.make_turn.new.talk.user.course.status ≡ None =
     (c.in-None.ensures None c.args.link.now refl (tells_none (g.L.Link.calls c.args.link.now))
-    refl).goes in
+    none_are refl).goes in
     search goes
 
 pub returns : goal.returns
@@ -32,4 +33,4 @@ returns g c =
     (subst (λ s. WentOn g.L.Link.calls g.L.Link.faults g.C.Clock.readings g.O.Sink.written
     g.O.Sink.faults None s c.make_turn.new.talk old mid) c.new-talk.ensures
     (c.in-None.ensures None c.args.link.now refl (tells_none (g.L.Link.calls c.args.link.now))
-    refl)) c.rounds.ensures
+    none_are refl)) c.rounds.ensures
