@@ -31,6 +31,7 @@ use Rattle.user_service.specs.Causes.{is_peer_end}
 use Rattle.user_core.specs.declared.course.Awaited.{Awaited}
 use Rattle.user_lines.specs.declared.tag.Tag.{Tag}
 use Rattle.user_service.specs.Causes.{unbound}
+use Rattle.user_service.specs.Streams.{IsAnswered}
 use Rattle.user_service.proofs.Answered.{Fine, both_none, first_is_bind, heard_fine, opened_fine}
 use Rattle.user_service.proofs.Answered.{turn_fine, new_fine}
 use Rattle.user_task.specs.Invocation.{bind}
@@ -89,67 +90,51 @@ told_brings st task d t none is = after_brings st task.work (event_of t) d.cours
 
 -- ---- where all is done, the last return was told
 
-closes_awaits : (came : Bool) (c : Course) → (closes came c).awaited ≡ c.awaited
-closes_awaits true c = refl
-closes_awaits false c = refl
-
-aborted_awaits : (reads : Bool) (c : Course) → (aborted reads c).awaited ≡ c.awaited
-aborted_awaits true c = refl
-aborted_awaits false c = refl
-
 and_true : (a : Bool) → a ≡ true → (a && true) ≡ true
 and_true true is = refl
 and_true false is = absurd cc
 
--- the awaited return is no longer awaited, and so it was told
-cleared_by : (fits refused : Bool) (c : Course) (t : Tag) (invoke : Option ℕ) (a : Awaited)
-    → is_awaited (Some a) t invoke ≡ fits → c.awaited ≡ Some a
-    → (answered fits refused c).status ≡ None → (answered fits refused c).awaited ≡ None
-    → (is_awaited (Some a) t invoke && not refused) ≡ true
-cleared_by false refused c t invoke a fits awaits goes none = absurd cc
-cleared_by true true c t invoke a fits awaits goes none = absurd cc
-cleared_by true false c t invoke a fits awaits goes none =
-    and_true (is_awaited (Some a) t invoke) fits
+-- where all was said, the return of UNBIND is awaited
+abbrev AwaitsLast : Work → Course → Type 0
+AwaitsLast work c = invocation_at work c.said ≡ None → c.awaited ≡ Some unbound
 
-cleared : (work : Work) (event : Event) (c : Course) → c.awaited ≡ Some unbound
-    → (after work event c).status ≡ None → (after work event c).awaited ≡ None
+-- and where it isn't any more, it was told
+answered_done : (work : Work) (fits refused : Bool) (c : Course) (t : Tag) (invoke : Option ℕ)
+    → is_awaited c.awaited t invoke ≡ fits → AwaitsLast work c
+    → (answered fits refused c).status ≡ None → IsAnswered work (answered fits refused c)
+    → (is_awaited (Some unbound) t invoke && not refused) ≡ true
+answered_done work false refused c t invoke fits last goes done =
+    let awaits = last done.0 in absurd cc
+answered_done work true true c t invoke fits last goes done = absurd cc
+answered_done work true false c t invoke fits last goes done =
+    and_true (is_awaited (Some unbound) t invoke)
+    (subst (λ x. is_awaited x t invoke ≡ true) (last done.0) fits)
+
+closed_undone : (work : Work) (came : Bool) (c : Course) → AwaitsLast work c
+    → IsAnswered work (closes came c) → ⊥
+closed_undone work true c last done = let awaits = last done.0 in cc
+closed_undone work false c last done = let awaits = last done.0 in cc
+
+aborted_undone : (work : Work) (reads : Bool) (c : Course) → AwaitsLast work c
+    → IsAnswered work (aborted reads c) → ⊥
+aborted_undone work true c last done = let awaits = last done.0 in cc
+aborted_undone work false c last done = let awaits = last done.0 in cc
+
+cleared : (work : Work) (event : Event) (c : Course) → AwaitsLast work c
+    → (after work event c).status ≡ None → IsAnswered work (after work event c)
     → brings_by Done event ≡ true
 unfolding after
-cleared work Nothing c awaits goes none = absurd cc
-cleared work (Returned t invoke refused) c awaits goes none =
-    cleared_by (is_awaited c.awaited t invoke) refused c t invoke unbound
-    (ap (λ x. is_awaited x t invoke) (sym awaits)) awaits goes none
-cleared work Halted c awaits goes none =
-    let same = closes_awaits (has_begun c.said) c in absurd cc
-cleared work EndOfData c awaits goes none =
-    let same = closes_awaits (has_begun c.said) c in absurd cc
-cleared work (Emptied last_ok) c awaits goes none =
-    let same = closes_awaits (was_last (cltus_of work) c.said last_ok) c in absurd cc
-cleared work Aborted c awaits goes none =
-    let same = aborted_awaits (is_show work) c in absurd cc
-
-answered_said : (fits refused : Bool) (c : Course) → (answered fits refused c).said ≡ c.said
-answered_said false refused c = refl
-answered_said true true c = refl
-answered_said true false c = refl
-
-closes_said : (came : Bool) (c : Course) → (closes came c).said ≡ c.said
-closes_said true c = refl
-closes_said false c = refl
-
-aborted_said : (reads : Bool) (c : Course) → (aborted reads c).said ≡ c.said
-aborted_said true c = refl
-aborted_said false c = refl
-
-after_said : (work : Work) (event : Event) (c : Course) → (after work event c).said ≡ c.said
-unfolding after
-after_said work Nothing c = refl
-after_said work (Returned t invoke refused) c =
-    answered_said (is_awaited c.awaited t invoke) refused c
-after_said work Halted c = closes_said (has_begun c.said) c
-after_said work EndOfData c = closes_said (has_begun c.said) c
-after_said work (Emptied last_ok) c = closes_said (was_last (cltus_of work) c.said last_ok) c
-after_said work Aborted c = aborted_said (is_show work) c
+cleared work Nothing c last goes done = let awaits = last done.0 in absurd cc
+cleared work (Returned t invoke refused) c last goes done =
+    answered_done work (is_awaited c.awaited t invoke) refused c t invoke refl last goes done
+cleared work Halted c last goes done =
+    absurd (closed_undone work (has_begun c.said) c last done)
+cleared work EndOfData c last goes done =
+    absurd (closed_undone work (has_begun c.said) c last done)
+cleared work (Emptied last_ok) c last goes done =
+    absurd (closed_undone work (was_last (cltus_of work) c.said last_ok) c last done)
+cleared work Aborted c last goes done =
+    absurd (aborted_undone work (is_show work) c last done)
 
 -- what is told, with what stands there then
 record Told_so (task : Task) (d e : Talk) (t : Told) : Type 0 where
@@ -187,14 +172,11 @@ done_brings : (st : Status) (task : Task) (now : ℕ) (d e : Talk) (t : Told) (o
     → invocation_at task.work e.course.said ≡ o
     → (next_said task now e o).course.status ≡ Some st → brings_told st (Some t) ≡ true
 done_brings st task now d e t None so f none goes awaits at is =
-    let same : e.course.said ≡ d.course.said =
-    ap (λ (c : Course). c.said) so.course ∙ after_said task.work (event_of t) d.course in
     let done : st ≡ Done = finished_status st (is_show task.work) e.course goes is in
     subst (λ x. brings_told x (Some t) ≡ true) (sym done)
-    (cleared task.work (event_of t) d.course
-    (f.last none (ap (invocation_at task.work) (sym same) ∙ at))
+    (cleared task.work (event_of t) d.course (f.last none)
     (sym (ap (λ (c : Course). c.status) so.course) ∙ goes)
-    (sym (ap (λ (c : Course). c.awaited) so.course) ∙ awaits))
+    (subst (IsAnswered task.work) so.course (at, awaits)))
 done_brings st task now d e t (Some s) so f none goes awaits at is =
     absurd
     (let no_status : None ≡ Some st = sym goes ∙ (sym (some_status task now e s) ∙ is) in cc)

@@ -352,7 +352,8 @@ module _ {L C O : Type 0} (calls : L → Option (List Call)) (link_faults : L �
             (λ is. unbroken s rounds tail
             (went_on e rounds tail t (inl (spent_by e (own (λ x. cc) ∙ is))) its.ends))
             (λ is. unbroken s rounds tail
-            (went_on e rounds tail t (inr (failed_by e (own (λ x. cc) ∙ is))) its.ends)));
+            (went_on e rounds tail t (inr (failed_by e (own (λ x. cc) ∙ is))) its.ends)))
+            its.octets;
         caused = is_caused b c fb fc (line_of e) (ending_of e) ended (service_of task.work)
             (new_user task) (turns_of s rounds) talked.closes
             (caused_by e task rounds tail invokes its.ends);

@@ -11,7 +11,7 @@ use Rattle.octet_core.specs.declared.offer.Offer.{Offer}
 use Rattle.octet_core.specs.declared.offer.Offer.TheVariants as offer
 use Rattle.sle_numbers.specs.declared.service_type.ServiceType.{ServiceType}
 use Rattle.user_core.specs.declared.course.Course.{Course}
-use Rattle.user_core.specs.Laws.{Turn, after_turns, offers, printed, octets_in, Says, AreOctets}
+use Rattle.user_core.specs.Laws.{Turn, after_turns, offers, printed, octets_in, Says}
 use Rattle.user_core.specs.Turn.{new_user}
 use Rattle.user_lines.specs.Shown.{lines}
 use Rattle.user_show.specs.declared.ending.Ending.{Ending}
@@ -78,8 +78,8 @@ module _ {L C O : Type 0} (calls : L → Option (List Call)) (written : O → Op
         (printed (new_user task) (turns ++ broken) ++ last)
     pub text : (BreaksOff ended → ⊥) → Gains (written old.output) (written new.output)
         (printed (new_user task) (turns ++ broken) ++ last)
-    pub prints : AreOctets (octets_heard own) → Prints (service_of task.work) (octets_heard own)
-        ended (printed (new_user task) (turns ++ broken))
+    pub prints : Prints (service_of task.work) (octets_heard own) ended
+        (printed (new_user task) (turns ++ broken))
     pub caused : IsCaused ended (service_of task.work) (new_user task) turns
     pub done : ended ≡ ending.Done
         → IsAnswered task.work (after_turns (new_user task) turns).course
