@@ -1,7 +1,7 @@
 -- What was taken once is taken again, where the archive that was opened is as it was.
-use Rattle.std.proofs.Common.{◌≡◌, inl, inr, ◌-◌, true, Option, Some, None, is_some, IfSome}
-use Rattle.std.proofs.Common.{List, [], ◌∷◌, ◌++◌, take, Result, Ok, Err, IfOk, refl, sym, ap}
-use Rattle.std.proofs.Common.{subst, ◌∙◌, arith}
+use Rattle.std.proofs.Common.{◌≡◌, inl, inr, ℕ, ◌+◌, ◌-◌, Bool, true, Option, Some, None, is_some}
+use Rattle.std.proofs.Common.{IfSome, List, [], ◌∷◌, ◌++◌, length, take, Result, Ok, Err, IfOk, refl}
+use Rattle.std.proofs.Common.{sym, ap, subst, ◌∙◌, arith}
 use Rattle.std.specs.List.{fold}
 use Rattle.std.proofs.lemmas.List.{append-nil}
 use Rattle.std.proofs.lemmas.List.Sums.{fold_push}
@@ -14,12 +14,13 @@ use Rattle.frame_archive.specs.State.{wanted}
 use Rattle.frame_archive.specs.Acknowledges.{Acknowledges}
 use Rattle.frame_archive.specs.Run.{Keeps}
 use Rattle.frame_archive.specs.declared.fault.OfferFault.{OfferFault}
-use Rattle.recorder.specs.declared.dropped.Dropped.{Dropped}
 use Rattle.recorder.specs.declared.recorded.Recorded.{Recorded}
 use Rattle.recorder.specs.declared.record_fault.RecordFault.{RecordFault}
-use Rattle.recorder.specs.Offers.{Offered, offered, by_refusal, after_offer, after_offers}
+use Rattle.recorder.specs.Feeds.{Answer}
+use Rattle.recorder.specs.Polling.{IsPolled}
+use Rattle.recorder.specs.Offers.{Dropped, Offered, offered, by_refusal, after_offer, after_offers}
 use Rattle.recorder.specs.Offers.{offered_to, none_dropped}
-use Rattle.recorder.specs.Steps.{Tells, TellsOffered, Reopened, IsMended}
+use Rattle.recorder.specs.Steps.{Tells, TellsOffered, Reopened, IsMended, IsStored}
 use Rattle.recorder.proofs.NoRoom.{more_after}
 
 -- an archive that holds as many entries, in as many octets, as another
@@ -153,3 +154,26 @@ module _ {D : Type 0} (pending : D → Option Pending) (makes : D → Call → D
   mended_taken broken new (Ok recorded) is keeps mended = λ entries was.
       told_so broken new recorded entries is was (keeps entries was) mended
   mended_taken broken new (Err fault) is keeps mended = mended
+
+  -- what a step answers that was mended
+  pub mended_answer : (fails : D → Call → D → Type 0) (told now : Option (List Answer))
+      (last : Bool) (new : ArchiveState D) (result : Result Recorded RecordFault) (total : ℕ)
+      → IsPolled last polled told now → IfOk result (λ recorded. recorded.last ≡ last)
+      → total ≡ length polled
+      → IfOk result (λ recorded. length recorded.entries + recorded.refused + recorded.full ≡ total)
+      → IfOk result (λ recorded. IsStored pending makes fails recorded.reopened first new recorded)
+      → IfOk result (λ recorded. (entries : List Entry) → Acknowledges pending start entries
+      → TellsOffered first recorded)
+      → IfOk result (λ recorded. (all : List Entry) × IsPolled recorded.last all told now
+      × (length recorded.entries + recorded.refused + recorded.full ≡ length all)
+      × IsStored pending makes fails recorded.reopened (offered_to start all) new recorded
+      × ((entries : List Entry) → Acknowledges pending start entries
+      → TellsOffered (offered_to start all) recorded))
+  mended_answer fails told now last new (Ok recorded) total is same all counted stored taken = (
+    polled,
+    subst (λ (b : Bool). IsPolled b polled told now) (sym same) is,
+    counted ∙ all,
+    stored,
+    taken,
+  )
+  mended_answer fails told now last new (Err fault) total is same all counted stored taken = stored

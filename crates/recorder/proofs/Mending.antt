@@ -1,7 +1,7 @@
 -- What a store that failed and the reopen behind it come to, by what the calls ensure.
 use Rattle.std.proofs.Common.{◌≡◌, ◌⊎◌, inl, inr, true, false, ℕ, ◌+◌, ◌-◌, List, [], ◌∷◌, ◌++◌}
-use Rattle.std.proofs.Common.{length, take, Option, Some, None, IfSome, Result, Ok, Err, IsSome}
-use Rattle.std.proofs.Common.{IfOk, IfErr, OnErr, IsErrOf, refl, sym, ap, subst, ◌∙◌}
+use Rattle.std.proofs.Common.{◌<◌, ◌≤◌, length, take, drop, Option, Some, None, IfSome, Result, Ok}
+use Rattle.std.proofs.Common.{Err, IsSome, IfOk, IfErr, OnErr, refl, sym, ap, subst, ◌∙◌, arith}
 use Rattle.std.proofs.lemmas.List.{append-nil}
 use Rattle.archive_terms.specs.Archive.{Entry}
 use Rattle.octet_core.specs.Fault.{Rose}
@@ -9,16 +9,20 @@ use Rattle.disk_model.specs.Images.{Pending}
 use Rattle.disk_model.specs.Calls.{AllMade, FailedAtOne}
 use Rattle.disk_model.specs.declared.call.Call.{Call}
 use Rattle.gate_journal.specs.JournalState.{appending, recovering}
-use Rattle.frame_archive.specs.State.{ArchiveState, with_failed, at_rest, times_of, wanted}
+use Rattle.frame_archive.specs.State.{ArchiveState, with_stored, with_failed, at_rest, times_of}
+use Rattle.frame_archive.specs.State.{wanted}
 use Rattle.frame_archive.specs.Acknowledges.{Acknowledges, Uses}
 use Rattle.frame_archive.specs.Run.{Adds, Keeps}
-use Rattle.recorder.specs.declared.dropped.Dropped.{Dropped}
 use Rattle.recorder.specs.declared.recorded.Recorded.{Recorded}
 use Rattle.recorder.specs.declared.record_fault.RecordFault.{RecordFault}
 use Rattle.recorder.specs.declared.record_fault.RecordFault.TheVariants as faults
-use Rattle.recorder.specs.Offers.{Offered, offered, after_offers, offered_to, IsCutShort}
+use Rattle.recorder.specs.Feeds.{Answer}
+use Rattle.recorder.specs.Polling.{Gave}
+use Rattle.recorder.specs.Offers.{Dropped, dropped_of, Offered, offered, after_offers, offered_to}
+use Rattle.recorder.specs.Offers.{IsCutShort}
 use Rattle.recorder.specs.Steps.{storing, Stores, StoreFails, Reopened, IsMended, IsStored}
-use Rattle.recorder.specs.Steps.{IsUnmended, IsLeft, IsLeftBroken}
+use Rattle.recorder.specs.Steps.{FailsAgain, IsLostShort, IsUnmended, IsLeft, IsLeftBroken}
+use Rattle.recorder.proofs.Landing.{some_lost}
 
 -- an answer that is an error isn't Ok
 pub not_so : false ≡ true → ⊥
@@ -37,6 +41,29 @@ pub store_failed : {D : Type 0} (makes fails : D → Call → D → Type 0) (arc
 store_failed makes fails archive broken some failed =
     subst (λ (calls : List Call). FailedAtOne makes fails archive.disk calls broken)
     (sym (storing_some archive.used archive.waiting some)) failed
+
+-- a store that is Ok made the calls that append what waits, or none where nothing does
+store_made : {D : Type 0} (makes : D → Call → D → Type 0) (used : ℕ) (waiting : List Entry)
+    (old new : D) → (1 ≤ length waiting → AllMade makes old (appending (used - 1) waiting) new)
+    → (waiting ≡ [] → new ≡ old) → AllMade makes old (storing used waiting) new
+store_made makes used [] old new some none = none refl
+store_made makes used (entry ∷ entries) old new some none = some (omega arith)
+
+pub stores_so : {D : Type 0} (makes : D → Call → D → Type 0) (old new : ArchiveState D)
+    (dropped : Dropped) (recorded : Recorded) → new ≡ with_stored old new.disk
+    → (1 ≤ length old.waiting
+    → AllMade makes old.disk (appending (old.used - 1) old.waiting) new.disk)
+    → (old.waiting ≡ [] → new ≡ old) → recorded.entries ≡ old.waiting
+    → dropped_of recorded ≡ dropped → Stores makes (offered old dropped) new recorded
+stores_so {D} makes old new dropped recorded state calls nothing entries drops = record {
+  state = state;
+  calls = store_made makes old.used old.waiting old.disk new.disk calls
+      (λ none. ap (λ (a : ArchiveState D). a.disk) (nothing none));
+  told = record {
+    stored = entries;
+    dropped_are = drops;
+  };
+}
 
 -- ---- what is acknowledged
 
@@ -86,72 +113,73 @@ opened_so pending makes old opened landed landed_is calls state found used adds 
       (entries ++ es)) landed_is (adds entries was);
 }
 
--- what was lost is stored
-pub lost_mended : {D : Type 0} (pending : D → Option Pending) (makes : D → Call → D → Type 0)
-    (dropped : Dropped) (old opened new : ArchiveState D) (lost : List Entry)
-    (result : Result Recorded RecordFault) → lost ≡ old.waiting
-    → Reopened pending makes old opened → opened.count ≡ old.count
-    → IfOk result (λ recorded. Stores makes (after_offers (offered opened dropped) lost) new
-    recorded)
-    → IfOk result (λ recorded. recorded.reopened ≡ Some opened.count)
-    → IfOk result (λ recorded. IsMended pending makes dropped old new recorded)
-lost_mended {D} pending makes dropped old opened new lost (Ok recorded) all reopened count stores
-    counted =
-    inr (record {
-      opened = opened;
-      reopened = reopened;
-      counted = counted;
-      count = count;
-      stores = subst (λ (es : List Entry). Stores makes (after_offers (offered opened dropped) es)
-          new recorded) all stores;
-    })
-lost_mended pending makes dropped old opened new lost (Err fault) all reopened count stores
-    counted = counted
+-- All that waited was lost, and is to be offered once more.
+pub record IsLost {D : Type 0} (pending : D → Option Pending) (makes : D → Call → D → Type 0)
+    (old opened : ArchiveState D) (lost : List Entry) : Type 0 where
+  pub reopened : Reopened pending makes old opened
+  pub count : opened.count ≡ old.count
+  pub all : lost ≡ old.waiting
+  pub keeps : Keeps pending old opened
 
--- or isn't, and why
+pub lost_so : {D : Type 0} (pending : D → Option Pending) (makes : D → Call → D → Type 0)
+    (old opened : ArchiveState D) (landed lost : List Entry)
+    → landed ≡ take (opened.count - old.count) old.waiting
+    → lost ≡ drop (opened.count - old.count) old.waiting
+    → (opened.count ≡ old.count) ⊎ (opened.count ≡ old.count + old.failed)
+    → old.failed ≡ length old.waiting → 0 < length lost → Reopened pending makes old opened
+    → Adds pending old opened landed → IsLost pending makes old opened lost
+lost_so pending makes old opened landed lost landed_is lost_is whole failed some reopened adds =
+    let all = some_lost old.waiting old.count opened.count old.failed whole failed
+    (omega (arith, some, ap length lost_is)) in record {
+      reopened = reopened;
+      count = all.0;
+      all = lost_is ∙ all.1;
+      keeps = keeps_none pending old opened landed adds (landed_is ∙ all.2);
+    }
+
+-- it is stored, or isn't, and why
+module _ {D : Type 0} (pending : D → Option Pending) (faults_of : D → ℕ)
+    (makes fails : D → Call → D → Type 0) (fails_to_read : D → D → Type 0) (dropped : Dropped)
+    (old opened : ArchiveState D) (lost : List Entry) (is : IsLost pending makes old opened lost)
+    (new : ArchiveState D) (before : Offered D) where
+  pub lost_mended : (recorded : Recorded) → before ≡ after_offers (offered opened dropped) lost
+      → recorded.reopened ≡ Some opened.count → Stores makes before new recorded
+      → IsMended pending makes dropped old new recorded
+  lost_mended recorded same counted stores = inr (record {
+    opened = opened;
+    reopened = is.reopened;
+    counted = counted;
+    count = is.count;
+    stores = subst (λ (o : Offered D). Stores makes o new recorded)
+        (same ∙ ap (after_offers (offered opened dropped)) is.all) stores;
+  })
+
+  pub lost_twice : before ≡ after_offers (offered opened dropped) lost
+      → Rose (faults_of opened.disk) (faults_of new.disk)
+      → StoreFails makes fails before.archive new.disk → new ≡ with_failed before.archive new.disk
+      → FailsAgain pending faults_of makes fails dropped old new
+  lost_twice same rose failed state =
+      let all = same ∙ ap (after_offers (offered opened dropped)) is.all in record {
+        opened = opened;
+        reopened = is.reopened;
+        count = is.count;
+        cause = rose;
+        failed = subst (λ (o : Offered D). StoreFails makes fails o.archive new.disk) all failed;
+        state = subst (λ (o : Offered D). new ≡ with_failed o.archive new.disk) all state;
+      }
+
+  pub lost_short : IsCutShort (offered opened dropped) lost new
+      → IsLostShort pending faults_of makes fails fails_to_read dropped old new
+  lost_short short = record {
+    opened = opened;
+    reopened = is.reopened;
+    count = is.count;
+    offered_again = subst (λ (es : List Entry). IsCutShort (offered opened dropped) es new) is.all
+        short;
+  }
+
 module _ {D : Type 0} (pending : D → Option Pending) (faults_of : D → ℕ)
     (makes fails : D → Call → D → Type 0) (fails_to_read : D → D → Type 0) where
-  pub lost_left : (dropped : Dropped) (old opened new : ArchiveState D) (lost : List Entry)
-      (result : Result Recorded RecordFault) → lost ≡ old.waiting
-      → Reopened pending makes old opened → opened.count ≡ old.count
-      → IfErr result (λ fault. (fault ≡ faults.DiskFault) ⊎ (fault ≡ faults.Memory))
-      → (IsErrOf result faults.DiskFault
-      → StoreFails makes fails (after_offers (offered opened dropped) lost).archive new.disk)
-      → (IsErrOf result faults.DiskFault
-      → new ≡ with_failed (after_offers (offered opened dropped) lost).archive new.disk)
-      → (IsErrOf result faults.DiskFault → Rose (faults_of opened.disk) (faults_of new.disk))
-      → (IsErrOf result faults.Memory → IsCutShort (offered opened dropped) lost new)
-      → IfErr result (λ fault. IsUnmended pending faults_of makes fails fails_to_read fault dropped
-      old new)
-  lost_left dropped old opened new lost (Ok recorded) all reopened count cause failed state rose
-      short = cause
-  lost_left dropped old opened new lost (Err fault) all reopened count (inr is) failed state rose
-      short =
-      let wants : IsErrOf {T = Recorded} (Err fault) faults.Memory = cc in
-      subst (λ (f : RecordFault). IsUnmended pending faults_of makes fails fails_to_read f dropped
-      old new) (sym is) (inr (record {
-        opened = opened;
-        reopened = reopened;
-        count = count;
-        offered_again = subst (λ (es : List Entry). IsCutShort (offered opened dropped) es new) all
-            (short wants);
-      }))
-  lost_left dropped old opened new lost (Err fault) all reopened count (inl is) failed state rose
-      short =
-      let broke : IsErrOf {T = Recorded} (Err fault) faults.DiskFault = cc in
-      subst (λ (f : RecordFault). IsUnmended pending faults_of makes fails fails_to_read f dropped
-      old new) (sym is) (inr (record {
-        opened = opened;
-        reopened = reopened;
-        count = count;
-        cause = rose broke;
-        failed = subst (λ (es : List Entry). StoreFails makes fails
-            (after_offers (offered opened dropped) es).archive new.disk) all (failed broke);
-        state = subst (λ (es : List Entry). new
-            ≡ with_failed (after_offers (offered opened dropped) es).archive new.disk) all
-            (state broke);
-      }))
-
   -- ---- behind a store that failed
 
   stored_by : (count : Option ℕ) (before : Offered D) (new : ArchiveState D) (recorded : Recorded)
@@ -187,21 +215,25 @@ module _ {D : Type 0} (pending : D → Option Pending) (faults_of : D → ℕ)
   left_by faults.DiskFault old polled new is = is
   left_by (faults.Refused fault) old polled new is = is
 
-  pub unmended_left : (old : ArchiveState D) (polled : List Entry) (broken new : ArchiveState D)
-      (result : Result Recorded RecordFault)
-      → broken ≡ with_failed (offered_to old polled).archive broken.disk
+  pub unmended_left : (told now : Option (List Answer)) (old : ArchiveState D)
+      (polled : List Entry) (broken new : ArchiveState D) (result : Result Recorded RecordFault)
+      → Gave polled told now → broken ≡ with_failed (offered_to old polled).archive broken.disk
       → StoreFails makes fails (offered_to old polled).archive broken.disk
       → Rose (faults_of (offered_to old polled).archive.disk) (faults_of broken.disk)
       → IfErr result (λ fault. IsUnmended pending faults_of makes fails fails_to_read fault
       (offered_to old polled).dropped broken new)
-      → IfErr result (λ fault. IsLeft pending faults_of makes fails fails_to_read fault old polled
-      new)
-  unmended_left old polled broken new (Ok recorded) state failed rose unmended = unmended
-  unmended_left old polled broken new (Err fault) state failed rose unmended =
-      left_by fault old polled new (
-        broken.disk,
-        failed,
-        rose,
-        subst (λ (a : ArchiveState D). IsUnmended pending faults_of makes fails fails_to_read fault
-            (offered_to old polled).dropped a new) state unmended,
-      )
+      → IfErr result (λ fault. (entries : List Entry) × Gave entries told now
+      × IsLeft pending faults_of makes fails fails_to_read fault old entries new)
+  unmended_left told now old polled broken new (Ok recorded) gave state failed rose unmended =
+      unmended
+  unmended_left told now old polled broken new (Err fault) gave state failed rose unmended = (
+    polled,
+    gave,
+    left_by fault old polled new (
+      broken.disk,
+      failed,
+      rose,
+      subst (λ (a : ArchiveState D). IsUnmended pending faults_of makes fails fails_to_read fault
+          (offered_to old polled).dropped a new) state unmended,
+    ),
+  )

@@ -1,10 +1,10 @@
 -- Entries that are offered one after another: one more of them.
 use Rattle.std.proofs.Common.{◌≡◌, ℕ, ◌+◌, ◌<◌, Bool, true, false, IsTrue, List, [], ◌∷◌, ◌++◌}
 use Rattle.std.proofs.Common.{length, take, get_or, refl, sym, ap, ◌∙◌, not, nat_le, nat_lt, arith}
-use Rattle.std.proofs.Common.{if◌then◌else◌, Option, Some, None, Result, Ok, Err, OnOk}
+use Rattle.std.proofs.Common.{if◌then◌else◌, Option, Some, None, subst}
 use Rattle.std.specs.List.{fold, list_all}
 use Rattle.std.proofs.lemmas.List.{take_more, map_push}
-use Rattle.std.proofs.lemmas.List.Folds.{list_all-map, list_all_at}
+use Rattle.std.proofs.lemmas.List.Folds.{list_all-map, list_all_at, list_all-append}
 use Rattle.std.proofs.lemmas.List.Sums.{fold_push}
 use Rattle.archive_terms.specs.Archive as terms
 use Rattle.archive_terms.specs.Archive.{is_valid, is_in_order, is_short}
@@ -14,9 +14,9 @@ use Rattle.frame_archive.specs.declared.fault.OfferFault.{OfferFault}
 use Rattle.frame_archive.specs.declared.fault.OfferFault.TheVariants as offers
 use Rattle.record_form.specs.declared.entry.Entry.{Entry}
 use Rattle.record_form.specs.Entry.{entry_of, entries_of}
-use Rattle.recorder.specs.declared.dropped.Dropped.{Dropped}
+use Rattle.recorder.specs.declared.recorded.Recorded.{Recorded}
 use Rattle.recorder.specs.Offers.{Offered, offered, by_refusal, after_offer, after_offers}
-use Rattle.recorder.specs.Offers.{with_refusal}
+use Rattle.recorder.specs.Offers.{with_refusal, dropped_of, with_dropped, Dropped}
 
 one_more : (entries : List Entry) (i : ℕ) (entry : Entry) → i < length entries
     → entry ≡ get_or entries i entry
@@ -85,15 +85,27 @@ pub offer_dropped : {D : Type 0} (old new : ArchiveState D) (before after : Drop
 offer_dropped old new before after entry fault is other same added =
     dropped_by old new before after entry fault (refusal old entry) is other same added
 
--- the same of a call that counts it, where memory isn't refused
-pub offer_counted : {D T E : Type 0} (result : Result T E) (old new : ArchiveState D)
-    (before after : Dropped) (entry : terms.Entry) (fault : OfferFault)
-    → IsRefusal (refusal old entry) fault → OnOk result (fault ≡ offers.Memory → ⊥) → new ≡ old
-    → OnOk result (after ≡ with_refusal before fault)
-    → OnOk result (offered new after ≡ after_offer (offered old before) entry)
-offer_counted (Ok done) old new before after entry fault is other same added =
-    offer_dropped old new before after entry fault is other same added
-offer_counted (Err wants) old new before after entry fault is other same added = added
+-- what waits stays valid
+pub valid_more : (waiting : List terms.Entry) (entry : terms.Entry)
+    → IsTrue (list_all is_valid waiting) → IsTrue (is_valid entry)
+    → IsTrue (list_all is_valid (waiting ++ entry ∷ []))
+valid_more waiting entry all one = list_all-append is_valid waiting (entry ∷ []) ∙ rw (all, one) refl
+
+-- an archive to which more was offered has the same file
+pub same_file : {D : Type 0} (start old new : ArchiveState D) (entry : terms.Entry)
+    → old ≡ record start { times = old.times; waiting = old.waiting } → new ≡ with_waiting old entry
+    → new ≡ record start { times = new.times; waiting = new.waiting }
+same_file {D} start old new entry was is =
+    subst (λ (a : ArchiveState D). a ≡ record start { times = a.times; waiting = a.waiting })
+    (sym is) (ap (λ (a : ArchiveState D). with_waiting a entry) was)
+
+-- a step that dropped more has told no other thing
+pub told_so : (start old new : Recorded) (dropped : Dropped)
+    → old ≡ with_dropped start (dropped_of old) → new ≡ with_dropped old dropped
+    → new ≡ with_dropped start (dropped_of new)
+told_so start old new dropped was is =
+    subst (λ (r : Recorded). r ≡ with_dropped start (dropped_of r)) (sym is)
+    (ap (λ (r : Recorded). with_dropped r dropped) was)
 
 not_waiting : (a b w l : Bool) (n f : ℕ) (fault : OfferFault) → w ≡ false
     → IsRefusal (if a then Some offers.Backward else if b then Some offers.TooLong

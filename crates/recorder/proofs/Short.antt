@@ -1,8 +1,9 @@
 -- What is left where memory was wanted.
-use Rattle.std.proofs.Common.{◌≡◌, ◌⊎◌, inl, inr, ℕ, List, [], take, drop, Option, refl, sym, ap}
-use Rattle.std.proofs.Common.{subst, ◌∙◌}
+use Rattle.std.proofs.Common.{◌≡◌, ◌⊎◌, inl, inr, ℕ, Bool, true, false, List, [], ◌∷◌, map, take}
+use Rattle.std.proofs.Common.{drop, Option, refl, sym, ap, subst, ◌∙◌, arith}
 use Rattle.std.proofs.lemmas.List.{take-append-drop, append-nil, map-append}
 use Rattle.archive_terms.specs.Archive as terms
+use Rattle.octet_core.specs.Told.{Tells}
 use Rattle.disk_model.specs.Images.{Pending}
 use Rattle.disk_model.specs.declared.call.Call.{Call}
 use Rattle.frame_archive.specs.State.{ArchiveState}
@@ -11,8 +12,22 @@ use Rattle.record_form.specs.Entry.{entry_of, entries_of}
 use Rattle.recorder.specs.declared.record_fault.RecordFault.{RecordFault}
 use Rattle.recorder.specs.declared.record_fault.RecordFault.TheVariants as faults
 use Rattle.recorder.specs.Offers.{Offered, offered, after_offers, none_dropped, IsCutShort}
+use Rattle.recorder.specs.Feeds.{Answer, gave, not_yet, at_end}
+use Rattle.recorder.specs.Polling.{IsPolled, Gave}
 use Rattle.recorder.specs.Steps.{IsLeft}
 use Rattle.recorder.proofs.OneMore.{offers_none}
+
+-- the source gave what was polled
+pub polled_gave : (last : Bool) (entries : List terms.Entry) (before after : Option (List Answer))
+    → IsPolled last entries before after → Gave entries before after
+polled_gave true entries before after is = (at_end ∷ [], omega arith, is.1)
+polled_gave false entries before after (inl is) = (not_yet ∷ [], omega arith, is.1)
+polled_gave false entries before after (inr is) = (
+  [],
+  omega arith,
+  subst (λ (answers : List Answer). Tells before after answers)
+      (sym (append-nil (map gave entries))) is.1,
+)
 
 -- none was offered
 pub none_offered : {D : Type 0} (start : Offered D) (entries : List terms.Entry)

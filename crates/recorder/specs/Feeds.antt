@@ -2,8 +2,8 @@
 use Rattle.std.specs.Prelude.{Bool, true, false, IsTrue}
 use Rattle.archive_terms.specs.Archive.{Entry, is_valid}
 use Rattle.record_form.specs.Entry.{entry_of}
-use Rattle.recorder.specs.declared.feed.Feed.{Feed}
-use Rattle.recorder.specs.declared.feed.Feed.TheVariants as feed
+use Rattle.recorder.specs.declared.frame_source.Feed.{Feed}
+use Rattle.recorder.specs.declared.frame_source.Feed.TheVariants as feed
 
 -- an answer: an entry, none yet, none any more, a fault, or want of memory
 pub data Answer : Type 0 where

@@ -1,13 +1,25 @@
 -- What becomes of entries that are offered to an archive one after another. This product's own
 -- rule.
 use Rattle.std.specs.Prelude.{ℕ, ◌≡◌, ◌⊎◌, ◌+◌, ◌-◌, ◌<◌, ◌≤◌, Option, Some, None, List, ◌++◌, length}
-use Rattle.std.specs.List.{fold}
-use Rattle.archive_terms.specs.Archive.{Entry}
+use Rattle.std.specs.Prelude.{IsTrue}
+use Rattle.std.specs.List.{fold, list_all}
+use Rattle.archive_terms.specs.Archive.{Entry, is_valid}
 use Rattle.record_form.specs.Spelling.{entry_octets}
 use Rattle.frame_archive.specs.State.{ArchiveState, refusal, with_waiting}
 use Rattle.frame_archive.specs.declared.fault.OfferFault.{OfferFault}
 use Rattle.frame_archive.specs.declared.fault.OfferFault.TheVariants.{Backward, TooLong, Full}
-use Rattle.recorder.specs.declared.dropped.Dropped.{Dropped}
+use Rattle.recorder.specs.declared.recorded.Recorded.{Recorded}
+
+-- entries that may be stored as one batch
+abbrev pub IsBatch : List Entry → Type 0
+IsBatch entries = (length entries ≤ 256) × IsTrue (list_all is_valid entries)
+
+-- how many of the entries that were offered were dropped as backward or too long, how many as full,
+-- and why the last one
+pub record Dropped : Type 0 where
+  pub refused : ℕ
+  pub full : ℕ
+  pub refusal : Option OfferFault
 
 abbrev pub none_dropped : Dropped
 none_dropped = record { refused = 0; full = 0; refusal = None }
@@ -34,6 +46,22 @@ with_refusal dropped fault = record {
 -- how many entries were dropped
 abbrev pub how_many : Dropped → ℕ
 how_many dropped = dropped.refused + dropped.full
+
+-- what a step says it dropped
+abbrev pub dropped_of : Recorded → Dropped
+dropped_of recorded = record {
+  refused = recorded.refused;
+  full = recorded.full;
+  refusal = recorded.refusal;
+}
+
+-- the same, of a step that dropped these
+abbrev pub with_dropped : Recorded → Dropped → Recorded
+with_dropped recorded dropped = record recorded {
+  refused = dropped.refused;
+  full = dropped.full;
+  refusal = dropped.refusal;
+}
 
 -- an archive to which entries were offered, and what was dropped of them
 pub record Offered (D : Type 0) : Type 0 where

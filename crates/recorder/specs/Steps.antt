@@ -14,12 +14,11 @@ use Rattle.frame_archive.specs.Acknowledges.{Uses}
 use Rattle.frame_archive.specs.Run.{Adds}
 use Rattle.frame_archive.specs.Faults.{RefusesReopen}
 use Rattle.frame_archive.specs.declared.fault.ArchiveFault.{ArchiveFault}
-use Rattle.recorder.specs.declared.dropped.Dropped.{Dropped}
 use Rattle.recorder.specs.declared.recorded.Recorded.{Recorded}
 use Rattle.recorder.specs.declared.record_fault.RecordFault.{RecordFault}
 use Rattle.recorder.specs.declared.record_fault.RecordFault.TheVariants as faults
-use Rattle.recorder.specs.Offers.{Offered, offered, after_offers, offered_to, none_dropped}
-use Rattle.recorder.specs.Offers.{IsCutShort}
+use Rattle.recorder.specs.Offers.{Dropped, dropped_of, Offered, offered, after_offers, offered_to}
+use Rattle.recorder.specs.Offers.{none_dropped, IsCutShort}
 
 -- ---- a store
 
@@ -31,14 +30,6 @@ storing used (entry ∷ entries) = appending (used - 1) (entry ∷ entries)
 -- the counted calls that store all that waits in an archive
 abbrev pub store_of : {D : Type 0} → ArchiveState D → List Call
 store_of archive = storing archive.used archive.waiting
-
--- what a step says it dropped
-abbrev pub dropped_of : Recorded → Dropped
-dropped_of recorded = record {
-  refused = recorded.refused;
-  full = recorded.full;
-  refusal = recorded.refusal;
-}
 
 -- a step tells these entries as stored, and these as dropped
 pub record Tells (entries : List Entry) (dropped : Dropped) (recorded : Recorded) : Type 0 where

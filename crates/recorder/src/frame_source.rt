@@ -1,9 +1,24 @@
-// Where the entries of an archive come from.
+// Where the entries of an archive come from, and what it answers.
 ghost use Rattle.std.specs.Prelude.{[], ◌∷◌, ℕ, List, Option};
 ghost use Rattle.octet_core.specs.Told.{Tells, CountsWhere};
 ghost use Rattle.recorder.specs.Feeds.{Answer, answer_of, IsValidFeed, is_failed};
 
-use crate::Feed;
+use record_form::Entry;
+
+/// An answer of a source of entries. A clone of an entry shares its octets.
+#[derive(Clone, Debug, Drop)]
+pub enum Feed {
+    /// The next entry, which is valid. A frame may be longer than an archive takes.
+    Entry(Entry),
+    /// None has come yet.
+    NotYet,
+    /// None comes any more.
+    End,
+    /// The source failed, and the count of its faults rose.
+    Failed,
+    /// Memory was wanted and refused.
+    Memory,
+}
 
 /// Where received frames and the other entries of an archive come from. A source can move to a
 /// worker's thread.

@@ -2,8 +2,7 @@
 //
 // A `FrameSource` gives the entries of an archive one by one. It has a count of faults: it answers
 // `Failed` exactly where it makes that count go up by one. A source that tells has one list of its
-// answers, and may stop telling. `MemoryFrames` is a source in memory, which fails at the calls of
-// a list.
+// answers, and may stop telling. `MemoryFrames` is one in memory, with a list of failing calls.
 //
 // `record_step` polls a source until 256 entries came or an answer is none, and stores what came as
 // one batch. It answers what the archive has acknowledged with it, what was dropped and why, and
@@ -14,19 +13,14 @@
 // perhaps. No octets are copied but into the batch.
 #![tactic(auto)]
 
-mod dropped;
-mod feed;
 mod frame_source;
 pub mod laws;
 mod memory_frames;
-mod offering;
-mod polling;
 mod record_fault;
 mod recorded;
 mod step;
 
-pub use feed::Feed;
-pub use frame_source::FrameSource;
+pub use frame_source::{Feed, FrameSource};
 pub use memory_frames::MemoryFrames;
 pub use record_fault::RecordFault;
 pub use recorded::Recorded;

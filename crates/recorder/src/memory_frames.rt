@@ -1,12 +1,11 @@
 // A source of entries in memory.
-ghost use Rattle.std.specs.Prelude.{◌≡◌, ◌∷◌, ◌++◌, [], Some, true, false, IsTrue, OnOk, OnErr};
-ghost use Rattle.std.specs.Prelude.{option_copied, IfOk};
-ghost use Rattle.octet_core.specs.FailingCalls.{after_call};
+ghost use Rattle.std.specs.Prelude.{◌≡◌, ◌∷◌, [], true, IsTrue, OnOk, OnErr, option_copied};
 ghost use Rattle.octet_core.specs.Told.{Tells, CountsWhere};
 ghost use Rattle.archive_terms.specs.Archive.{is_valid};
 ghost use Rattle.record_form.specs.Entry.{entry_of};
 ghost use Rattle.recorder.specs.Feeds.{answer_of, IsValidFeed, is_failed};
-ghost use Rattle.recorder.specs.MemoryFrames.{answers_of, answer_by, left_by, next_of, rest_of};
+ghost use Rattle.recorder.specs.MemoryFrames.{answers_of, answer_by, before_any, after_next};
+ghost use Rattle.recorder.specs.MemoryFrames.{with_entry};
 
 use crate::{Feed, FrameSource};
 use octet_core::{FailingCalls, Faults, Memory};
@@ -30,11 +29,7 @@ pub struct MemoryFrames {
 }
 
 impl Model for MemoryFrames {
-    ghost use Rattle.std.specs.Prelude.{IsTrue};
-    ghost use Rattle.std.specs.List.{All};
-    ghost use Rattle.archive_terms.specs.Archive.{is_valid};
-    ghost use Rattle.record_form.specs.Entry.{entry_of};
-    ghost use Rattle.recorder.specs.MemoryFrames.{FramesState, told_of};
+    ghost use Rattle.recorder.specs.MemoryFrames.{FramesState, told_of, AreValid};
 
     ghost Value = { FramesState };
 
@@ -46,20 +41,13 @@ impl Model for MemoryFrames {
       faults = frames.faults;
     } };
 
-    ghost invariant = { λ frames. All (λ entry. IsTrue (is_valid (entry_of entry)))
-        frames.waiting.items };
+    ghost invariant = { λ frames. AreValid frames.waiting.items };
 }
 
 impl MemoryFrames {
     /// A source to which no entry came yet, and whose calls of this list fail, counted from 1.
     pub fn new(alloc: Global, failing_calls: Vec<u64>) -> MemoryFrames
-        ensures { result ≡ record {
-          waiting = [];
-          is_ended = false;
-          failing = record { failing = failing_calls.items; made = 0 };
-          told = Some [];
-          faults = 0;
-        } }
+        ensures { result ≡ before_any failing_calls.items }
     {
         MemoryFrames {
             waiting: VecDeque::new(alloc),
@@ -74,9 +62,7 @@ impl MemoryFrames {
     /// An entry comes.
     pub fn arrive(&mut self, entry: Entry) -> Result<(), Memory>
         requires { IsTrue (is_valid (entry_of entry)) }
-        ensures ok { OnOk result (self.new ≡ record self.old {
-          waiting = self.old.waiting ++ entry ∷ [];
-        }) }
+        ensures ok { OnOk result (self.new ≡ with_entry self.old entry) }
         ensures err { OnErr result (self.new ≡ self.old) }
     {
         self.waiting.push_back(entry)?;
@@ -104,42 +90,18 @@ impl MemoryFrames {
         self.faults.count()
     }
 
-    // Keeps an answer.
+    // Keeps an answer, and hands it back.
     #[tactic(auto, using(std::proofs::lemmas::List::map_push))]
-    fn keep(&mut self, answer: &Feed)
-        ensures told { Tells (answers_of self.old) (answers_of self.new)
-            (answer_of answer.now ∷ []) }
+    fn keep(&mut self, answer: Feed) -> Feed
+        ensures same { result ≡ answer }
+        ensures told { Tells (answers_of self.old) (answers_of self.new) (answer_of answer ∷ []) }
         ensures rest { self.new ≡ record self.old { told = self.new.told } }
     {
-        let Ok(copy) = second(answer) else {
-            self.tells = false;
-            return;
-        };
-        if self.told.push(copy).is_err() {
-            self.tells = false;
+        match answer.clone() {
+            Ok(copy) => self.tells &= self.told.push(copy).is_ok(),
+            Err(_) => self.tells = false,
         }
-    }
-
-    // Answers a call.
-    fn answer(&mut self) -> Feed
-        ensures answer { result ≡ answer_by self.old }
-        ensures valid { IsValidFeed result }
-        ensures faults { CountsWhere (is_failed result) self.old.faults self.new.faults }
-        ensures rest { self.new ≡ record self.old {
-          waiting = left_by self.old;
-          failing = after_call self.old.failing;
-          faults = self.new.faults;
-        } }
-    {
-        if self.failing.count_call() {
-            let _ = self.faults.fail::<()>();
-            return Feed::Failed;
-        }
-        match self.waiting.pop_front() {
-            Some(entry) => Feed::Entry(entry),
-            None if self.is_ended => Feed::End,
-            None => Feed::NotYet,
-        }
+        answer
     }
 }
 
@@ -157,28 +119,16 @@ impl FrameSource for MemoryFrames {
 
         // The answer, and what the calls behind it will be answered.
         ensures answer { result ≡ answer_by self.old }
-        ensures rest { self.new ≡ record self.old {
-          waiting = left_by self.old;
-          failing = after_call self.old.failing;
-          told = self.new.told;
-          faults = self.new.faults;
-        } }
+        ensures rest { self.new ≡ after_next self.old self.new.told self.new.faults }
     {
-        let answer = self.answer();
-        self.keep(&answer);
-        answer
-    }
-}
-
-// An answer whose entry shares its octets with the first one's.
-fn second(answer: &Feed) -> Result<Feed, Memory>
-    ensures { IfOk result (λ second. second ≡ answer.now) }
-{
-    match answer {
-        Feed::Entry(entry) => Ok(Feed::Entry(entry.clone()?)),
-        Feed::NotYet => Ok(Feed::NotYet),
-        Feed::End => Ok(Feed::End),
-        Feed::Failed => Ok(Feed::Failed),
-        Feed::Memory => Ok(Feed::Memory),
+        if self.failing.count_call() {
+            let _ = self.faults.fail::<()>();
+            return self.keep(Feed::Failed);
+        }
+        match self.waiting.pop_front() {
+            Some(entry) => self.keep(Feed::Entry(entry)),
+            None if self.is_ended => self.keep(Feed::End),
+            None => self.keep(Feed::NotYet),
+        }
     }
 }

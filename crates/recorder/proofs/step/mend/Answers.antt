@@ -1,74 +1,179 @@
-use Rattle.std.proofs.Common.{inl, ap, ◌∙◌, arith, length, Some}
-use Rattle.recorder.proofs.Landing.{some_lost, none_lost}
-use Rattle.recorder.proofs.Mending.{keeps_none, adds_behind, keeps_behind, lost_mended, lost_left}
-use Rattle.recorder.proofs.Mending.{opened_so}
+use Rattle.std.proofs.Common.{◌≡◌, Err, inl, inr, refl, sym, ap, subst, ◌∙◌, arith, length, Some, []}
+use Rattle.std.proofs.Common.{List, ◌++◌, rules}
+use Rattle.std.proofs.lemmas.Result.{err_from_is_err_and}
+use Rattle.archive_terms.specs.Archive.{Entry}
+use Rattle.octet_core.specs.Fault.{Rose}
+use Rattle.frame_archive.specs.State.{ArchiveState}
+use Rattle.frame_archive.specs.Acknowledges.{Acknowledges}
+use Rattle.recorder.specs.declared.recorded.Recorded.{Recorded}
+use Rattle.recorder.specs.Offers.{offered, after_offers, dropped_of, IsCutShort}
+use Rattle.recorder.proofs.Landing.{none_lost}
+use Rattle.recorder.proofs.Mending.{opened_so, lost_so, lost_mended, lost_twice, lost_short}
+use Rattle.recorder.proofs.Mending.{stores_so, store_failed, not_so}
+use Rattle.recorder.proofs.Short.{all_offered}
 use Rattle.recorder.proofs.step.mend.Goals as goal
 
-pub returns-then-len-gt0-clause-mended : goal.returns-then-len-gt0-clause-mended
-returns-then-len-gt0-clause-mended g c =
+pub returns-then-len-eq0-clause-mended : goal.returns-then-len-eq0-clause-mended
+returns-then-len-eq0-clause-mended g c =
     let old = c.args.archive.now in
     let opened = c.reopen.new.self in
     let is = c.in-Ok.ensures in
-    let all = some_lost old.waiting old.count opened.count old.failed is.whole c.requires.failed
-    (omega (arith, c.if-len-gt0.true, c.len.ensures, ap length is.lost)) in
-    lost_mended g.D.Disk.pending g.D.Disk.makes c.args.dropped old opened c.store_again.new.archive
-    c.in-Ok.landing.lost c.store_again.result (is.lost ∙ all.1)
-    (opened_so g.D.Disk.pending g.D.Disk.makes old opened c.in-Ok.landing.landed is.landed
-    is.calls is.reopened is.found is.used is.acknowledged) all.0
-    c.store_again.ensures.stored c.store_again.ensures.reopened
-
-pub returns-then-len-gt0-clause-acknowledged : goal.returns-then-len-gt0-clause-acknowledged
-returns-then-len-gt0-clause-acknowledged g c =
-    let old = c.args.archive.now in
-    let opened = c.reopen.new.self in
-    let is = c.in-Ok.ensures in
-    let all = some_lost old.waiting old.count opened.count old.failed is.whole c.requires.failed
-    (omega (arith, c.if-len-gt0.true, c.len.ensures, ap length is.lost)) in
-    adds_behind g.D.Disk.pending old opened c.store_again.new.archive c.store_again.result
-    (keeps_none g.D.Disk.pending old opened c.in-Ok.landing.landed is.acknowledged
-    (is.landed ∙ all.2)) c.store_again.ensures.acknowledged
-
-pub returns-then-len-gt0-clause-still : goal.returns-then-len-gt0-clause-still
-returns-then-len-gt0-clause-still g c =
-    let old = c.args.archive.now in
-    let opened = c.reopen.new.self in
-    let is = c.in-Ok.ensures in
-    let all = some_lost old.waiting old.count opened.count old.failed is.whole c.requires.failed
-    (omega (arith, c.if-len-gt0.true, c.len.ensures, ap length is.lost)) in
-    keeps_behind g.D.Disk.pending old opened c.store_again.new.archive c.store_again.result
-    (keeps_none g.D.Disk.pending old opened c.in-Ok.landing.landed is.acknowledged
-    (is.landed ∙ all.2)) c.store_again.ensures.still
-
-pub returns-then-len-gt0-clause-left : goal.returns-then-len-gt0-clause-left
-returns-then-len-gt0-clause-left g c =
-    let old = c.args.archive.now in
-    let opened = c.reopen.new.self in
-    let is = c.in-Ok.ensures in
-    let all = some_lost old.waiting old.count opened.count old.failed is.whole c.requires.failed
-    (omega (arith, c.if-len-gt0.true, c.len.ensures, ap length is.lost)) in
-    lost_left g.D.Disk.pending g.D.Disk.faults g.D.Disk.makes g.D.Disk.fails
-    g.D.Disk.fails_to_read c.args.dropped old opened c.store_again.new.archive
-    c.in-Ok.landing.lost c.store_again.result (is.lost ∙ all.1)
-    (opened_so g.D.Disk.pending g.D.Disk.makes old opened c.in-Ok.landing.landed is.landed
-    is.calls is.reopened is.found is.used is.acknowledged) all.0
-    c.store_again.ensures.faults c.store_again.ensures.failed c.store_again.ensures.left
-    c.store_again.ensures.disk c.store_again.ensures.cut_short
-
-pub returns-else-len-gt0-clause-mended : goal.returns-else-len-gt0-clause-mended
-returns-else-len-gt0-clause-mended g c =
-    let old = c.args.archive.now in
-    let opened = c.reopen.new.self in
-    let is = c.in-Ok.ensures in
-    let told = c.recorded.ensures in
     let all = none_lost old.waiting old.count opened.count old.failed is.whole c.requires.failed
-    (omega (arith, c.if-len-gt0.false, c.len.ensures, ap length is.lost)) in
+    (omega (arith, c.if-len-eq0.true, c.len.ensures, ap length is.lost)) in
     inl (record {
       reopened = opened_so g.D.Disk.pending g.D.Disk.makes old opened c.in-Ok.landing.landed
           is.landed is.calls is.reopened is.found is.used is.acknowledged;
-      counted = told.reopened ∙ ap Some c.count-count.ensures;
+      counted = ap Some c.count.ensures;
       count = all.0;
       told = record {
-        stored = told.entries ∙ is.landed ∙ all.1;
-        dropped_are = told.dropped;
+        stored = is.landed ∙ all.1;
+        dropped_are = refl;
       };
     })
+
+pub returns-in_err-offer_each-clause-still : goal.returns-in_err-offer_each-clause-still
+returns-in_err-offer_each-clause-still g c =
+    let old = c.args.archive.now in
+    let opened = c.reopen.new.self in
+    let is = c.in-Ok.ensures in
+    let lost = lost_so g.D.Disk.pending g.D.Disk.makes old opened c.in-Ok.landing.landed
+    c.in-Ok.landing.lost is.landed is.lost is.whole c.requires.failed
+    (omega (arith, c.if-len-eq0.false, c.len.ensures))
+    (opened_so g.D.Disk.pending g.D.Disk.makes old opened c.in-Ok.landing.landed is.landed
+    is.calls is.reopened is.found is.used is.acknowledged) is.acknowledged in
+    let p = err_from_is_err_and c.from_residual.result c.from_residual.ensures.1 in
+    rw p.1 (λ entries at. c.offer_each.ensures.acknowledged entries (lost.keeps entries at))
+
+pub returns-in_err-offer_each-clause-left : goal.returns-in_err-offer_each-clause-left
+returns-in_err-offer_each-clause-left g c =
+    let old = c.args.archive.now in
+    let opened = c.reopen.new.self in
+    let new = c.offer_each.new.archive in
+    let drops = dropped_of c.args.recorded in
+    let is = c.in-Ok.ensures in
+    let lost = lost_so g.D.Disk.pending g.D.Disk.makes old opened c.in-Ok.landing.landed
+    c.in-Ok.landing.lost is.landed is.lost is.whole c.requires.failed
+    (omega (arith, c.if-len-eq0.false, c.len.ensures))
+    (opened_so g.D.Disk.pending g.D.Disk.makes old opened c.in-Ok.landing.landed is.landed
+    is.calls is.reopened is.found is.used is.acknowledged) is.acknowledged in
+    let p = err_from_is_err_and c.from_residual.result c.from_residual.ensures.1 in
+    rw (p.1, p.2) (inr (lost_short g.D.Disk.pending g.D.Disk.faults g.D.Disk.makes g.D.Disk.fails
+    g.D.Disk.fails_to_read drops old opened c.in-Ok.landing.lost lost new
+    (offered new (dropped_of c.offer_each.new.recorded))
+    (subst (λ (es : List Entry). IsCutShort (offered opened drops) es new) c.as_slice.ensures
+    c.in_err-offer_each.ensures.cut_short)))
+
+pub returns-in-Ok-store-clause-mended : goal.returns-in-Ok-store-clause-mended
+returns-in-Ok-store-clause-mended g c =
+    let old = c.args.archive.now in
+    let opened = c.reopen.new.self in
+    let mid = c.offer_each.new.archive in
+    let new = c.store.new.self in
+    let drops = dropped_of c.args.recorded in
+    let now = dropped_of c.offer_each.new.recorded in
+    let is = c.in-Ok.ensures in
+    let did = c.in-Ok-store.ensures in
+    let lost = lost_so g.D.Disk.pending g.D.Disk.makes old opened c.in-Ok.landing.landed
+    c.in-Ok.landing.lost is.landed is.lost is.whole c.requires.failed
+    (omega (arith, c.if-len-eq0.false, c.len.ensures))
+    (opened_so g.D.Disk.pending g.D.Disk.makes old opened c.in-Ok.landing.landed is.landed
+    is.calls is.reopened is.found is.used is.acknowledged) is.acknowledged in
+    let same : offered mid now ≡ after_offers (offered opened drops) c.in-Ok.landing.lost =
+    search rules in
+    let ready = ap (λ (a : ArchiveState g.row.D.Denot). a.is_stale) c.offer_each.ensures.rest
+    ∙ ap (λ (a : ArchiveState g.row.D.Denot). a.is_stale) is.reopened in
+    lost_mended g.D.Disk.pending g.D.Disk.faults g.D.Disk.makes g.D.Disk.fails
+    g.D.Disk.fails_to_read drops old opened c.in-Ok.landing.lost lost new (offered mid now) _ same
+    (ap (λ (r : Recorded). r.reopened) c.offer_each.ensures.told ∙ ap Some c.count.ensures)
+    (stores_so g.D.Disk.makes mid new now _ did.stored.0 did.calls
+    (λ none. (did.nothing ready none).1) did.stored.2 refl)
+
+pub returns-in-Ok-store-clause-acknowledged : goal.returns-in-Ok-store-clause-acknowledged
+returns-in-Ok-store-clause-acknowledged g c =
+    let old = c.args.archive.now in
+    let opened = c.reopen.new.self in
+    let is = c.in-Ok.ensures in
+    let did = c.in-Ok-store.ensures in
+    let lost = lost_so g.D.Disk.pending g.D.Disk.makes old opened c.in-Ok.landing.landed
+    c.in-Ok.landing.lost is.landed is.lost is.whole c.requires.failed
+    (omega (arith, c.if-len-eq0.false, c.len.ensures))
+    (opened_so g.D.Disk.pending g.D.Disk.makes old opened c.in-Ok.landing.landed is.landed
+    is.calls is.reopened is.found is.used is.acknowledged) is.acknowledged in λ entries at.
+    subst (λ (es : List Entry). Acknowledges g.D.Disk.pending c.store.new.self (entries ++ es))
+    (sym did.stored.2)
+    (did.acknowledged entries (c.offer_each.ensures.acknowledged entries (lost.keeps entries at)))
+
+pub returns-in-Err-DiskFault-store-clause-still : goal.returns-in-Err-DiskFault-store-clause-still
+returns-in-Err-DiskFault-store-clause-still g c =
+    let old = c.args.archive.now in
+    let opened = c.reopen.new.self in
+    let is = c.in-Ok.ensures in
+    let lost = lost_so g.D.Disk.pending g.D.Disk.makes old opened c.in-Ok.landing.landed
+    c.in-Ok.landing.lost is.landed is.lost is.whole c.requires.failed
+    (omega (arith, c.if-len-eq0.false, c.len.ensures))
+    (opened_so g.D.Disk.pending g.D.Disk.makes old opened c.in-Ok.landing.landed is.landed
+    is.calls is.reopened is.found is.used is.acknowledged) is.acknowledged in λ entries at.
+    c.in-Err-DiskFault-store.ensures.still entries
+    (c.offer_each.ensures.acknowledged entries (lost.keeps entries at))
+
+pub returns-in-Err-DiskFault-store-clause-left : goal.returns-in-Err-DiskFault-store-clause-left
+returns-in-Err-DiskFault-store-clause-left g c =
+    let old = c.args.archive.now in
+    let opened = c.reopen.new.self in
+    let mid = c.offer_each.new.archive in
+    let new = c.store.new.self in
+    let drops = dropped_of c.args.recorded in
+    let now = dropped_of c.offer_each.new.recorded in
+    let is = c.in-Ok.ensures in
+    let did = c.in-Err-DiskFault-store.ensures in
+    let fault = ap (λ f. Err f) c.in-Err-DiskFault-store.field-0-is in
+    let lost = lost_so g.D.Disk.pending g.D.Disk.makes old opened c.in-Ok.landing.landed
+    c.in-Ok.landing.lost is.landed is.lost is.whole c.requires.failed
+    (omega (arith, c.if-len-eq0.false, c.len.ensures))
+    (opened_so g.D.Disk.pending g.D.Disk.makes old opened c.in-Ok.landing.landed is.landed
+    is.calls is.reopened is.found is.used is.acknowledged) is.acknowledged in
+    let same : offered mid now ≡ after_offers (offered opened drops) c.in-Ok.landing.lost =
+    search rules in
+    let ready = ap (λ (a : ArchiveState g.row.D.Denot). a.is_stale) c.offer_each.ensures.rest
+    ∙ ap (λ (a : ArchiveState g.row.D.Denot). a.is_stale) is.reopened in
+    inr (lost_twice g.D.Disk.pending g.D.Disk.faults g.D.Disk.makes g.D.Disk.fails
+    g.D.Disk.fails_to_read drops old opened c.in-Ok.landing.lost lost new (offered mid now) same
+    (subst (λ (d : g.row.D.Denot). Rose (g.D.Disk.faults d) (g.D.Disk.faults new.disk))
+    (ap (λ (a : ArchiveState g.row.D.Denot). a.disk) c.offer_each.ensures.rest) (did.cause fault))
+    (store_failed g.D.Disk.makes g.D.Disk.fails mid new.disk
+    (λ none. not_so ((did.nothing ready none).0)) (did.failed_calls fault)) (did.failed fault))
+
+pub returns-in-Err-Memory-store-clause-still : goal.returns-in-Err-Memory-store-clause-still
+returns-in-Err-Memory-store-clause-still g c =
+    let old = c.args.archive.now in
+    let opened = c.reopen.new.self in
+    let is = c.in-Ok.ensures in
+    let lost = lost_so g.D.Disk.pending g.D.Disk.makes old opened c.in-Ok.landing.landed
+    c.in-Ok.landing.lost is.landed is.lost is.whole c.requires.failed
+    (omega (arith, c.if-len-eq0.false, c.len.ensures))
+    (opened_so g.D.Disk.pending g.D.Disk.makes old opened c.in-Ok.landing.landed is.landed
+    is.calls is.reopened is.found is.used is.acknowledged) is.acknowledged in λ entries at.
+    c.in-Err-Memory-store.ensures.still entries
+    (c.offer_each.ensures.acknowledged entries (lost.keeps entries at))
+
+pub returns-in-Err-Memory-store-clause-left : goal.returns-in-Err-Memory-store-clause-left
+returns-in-Err-Memory-store-clause-left g c =
+    let old = c.args.archive.now in
+    let opened = c.reopen.new.self in
+    let mid = c.offer_each.new.archive in
+    let new = c.store.new.self in
+    let drops = dropped_of c.args.recorded in
+    let now = dropped_of c.offer_each.new.recorded in
+    let is = c.in-Ok.ensures in
+    let fault = ap (λ f. Err f) c.in-Err-Memory-store.field-0-is in
+    let lost = lost_so g.D.Disk.pending g.D.Disk.makes old opened c.in-Ok.landing.landed
+    c.in-Ok.landing.lost is.landed is.lost is.whole c.requires.failed
+    (omega (arith, c.if-len-eq0.false, c.len.ensures))
+    (opened_so g.D.Disk.pending g.D.Disk.makes old opened c.in-Ok.landing.landed is.landed
+    is.calls is.reopened is.found is.used is.acknowledged) is.acknowledged in
+    let same : offered mid now ≡ after_offers (offered opened drops) c.in-Ok.landing.lost =
+    search rules in
+    inr (lost_short g.D.Disk.pending g.D.Disk.faults g.D.Disk.makes g.D.Disk.fails
+    g.D.Disk.fails_to_read drops old opened c.in-Ok.landing.lost lost new (offered mid now)
+    (all_offered (offered opened drops) (offered mid now) new c.in-Ok.landing.lost same
+    (c.in-Err-Memory-store.ensures.memory fault)))

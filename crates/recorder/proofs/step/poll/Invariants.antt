@@ -3,7 +3,7 @@ use Rattle.std.specs.List.{list_all}
 use Rattle.archive_terms.specs.Archive.{is_valid}
 use Rattle.octet_core.specs.Told.{Tells}
 use Rattle.recorder.specs.Feeds.{gave}
-use Rattle.recorder.proofs.polling.poll.Given as goal
+use Rattle.recorder.proofs.step.poll.Given as goal
 
 abbrev pub invariant-polls : goal.invariant-polls
 invariant-polls g l = (length l.entries ≤ 256)
