@@ -141,7 +141,7 @@ drops buffer.Raf (serves.Raf r) c e = drops_so r.serving.course c e
 drops buffer.Rcf (serves.Rcf r) c e = drops_so r.serving.course c e
 drops _ _ c e = absurd (cc)
 
-report_leaves : (now : ℕ) (s : Serving) → (report_made now s).course ≡ s.course
+pub report_leaves : (now : ℕ) (s : Serving) → (report_made now s).course ≡ s.course
 report_leaves now s = by (is_report_due s.schedule now)
   where
     by : (due : Bool)
@@ -455,11 +455,11 @@ idle_not : (blocked going : Bool) → (blocked || not going) ≡ true → blocke
     → going ≡ true → ⊥
 idle_not blocked going e f g = grind arith
 
-record IsActive (a : Association) : Type 0 where
-  binding : Binding
-  so : a ≡ state.Active binding
+pub record IsActive (a : Association) : Type 0 where
+  pub binding : Binding
+  pub so : a ≡ state.Active binding
 
-active_is : (a : Association) → is_active a ≡ true → IsActive a
+pub active_is : (a : Association) → is_active a ≡ true → IsActive a
 active_is (state.Active binding) e = record { binding = binding; so = refl }
 active_is state.Opening e = absurd (cc)
 active_is state.Unbound e = absurd (cc)
@@ -467,11 +467,11 @@ active_is (state.Ready binding) e = absurd (cc)
 active_is state.Closing e = absurd (cc)
 
 -- in active neither a context nor a BIND nor an UNBIND passes, and nothing that doesn't decode
-context_not : (site : Site) (b : Binding) (interval factor now : ℕ)
+pub context_not : (site : Site) (b : Binding) (interval factor now : ℕ)
     → judged site (state.Active b) (context interval factor) now ≡ Pass → ⊥
 context_not site b interval factor now e = absurd (cc)
 
-bind_not : (site : Site) (b : Binding) (c : BindContent) (now : ℕ)
+pub bind_not : (site : Site) (b : Binding) (c : BindContent) (now : ℕ)
     → judged site (state.Active b) (bind c) now ≡ Pass → ⊥
 bind_not site b c now e = absurd (cc)
 

@@ -6,3 +6,6 @@ mod Losing
 mod Seeing
 mod Deliveries
 mod Starts
+mod Instances
+mod Handing
+mod Sending

@@ -1,8 +1,8 @@
 -- What the rounds of a session see in a legal history is the published entries.
 use Rattle.std.proofs.Common.{◌≡◌, ℕ, ◌≤◌, Option, Some, None, List, [], ◌∷◌, ◌++◌, length, take}
-use Rattle.std.proofs.Common.{false, refl, sym, ap, subst, ◌∙◌, arith}
+use Rattle.std.proofs.Common.{false, sym, ap, subst, ◌∙◌, arith}
 use Rattle.std.proofs.Math.Seq.{take-append_seam}
-use Rattle.std.proofs.lemmas.List.{length-append}
+use Rattle.std.proofs.lemmas.List.{append_assoc, length-append}
 use mathlib.Core.List.{IsPrefix}
 use Rattle.octet_core.specs.declared.offer.Offer.{Offer}
 use Rattle.archive_terms.specs.Archive.{Entry}
@@ -44,6 +44,10 @@ looked _ = no_look
 prefix_long : {X : Type 0} (xs ys : List X) → IsPrefix xs ys → length xs ≤ length ys
 prefix_long xs ys h = omega (arith, length-append xs h.0, ap length h.1)
 
+prefix_on : {X : Type 0} (xs ys zs : List X) → IsPrefix xs ys → IsPrefix ys zs → IsPrefix xs zs
+prefix_on {X} xs ys zs h k =
+    (h.0 ++ k.0, sym (append_assoc xs h.0 k.0) ∙ ap (λ (front : List X). front ++ k.0) h.1 ∙ k.1)
+
 prefix_taken : {X : Type 0} (xs ys : List X) → IsPrefix xs ys → take (length xs) ys ≡ xs
 prefix_taken xs ys h = sym (ap (take (length xs)) h.1) ∙ take-append_seam xs h.0
 
@@ -73,7 +77,7 @@ module _ (begins : Begins) (front_is : FrontIs) (site : Site) (door : ℕ) (entr
   Sees rounds =
       (s : State) (book : Book) (h last : List Event) (from : ℕ) → IsLegal book h
       → own_in door h ≡ session_events site door s rounds ++ last
-      → entries ≡ (replay book h).published → from ≤ length book.published
+      → IsPrefix (replay book h).published entries → from ≤ length book.published
       → SeeEntries entries from site s rounds
 
   told_see : (rounds : List Round) → Sees rounds → (t : State) (told : Option BookAnswer)
@@ -81,7 +85,7 @@ module _ (begins : Begins) (front_is : FrontIs) (site : Site) (door : ℕ) (entr
       → own_in door h
       ≡ (step_events site door t told
       ++ session_events site door (spoken_state (stepped site t told) spoke sent) rounds) ++ last
-      → entries ≡ (replay book h).published → from ≤ length book.published
+      → IsPrefix (replay book h).published entries → from ≤ length book.published
       → IsLookAt entries from site t told
       × SeeEntries entries (front_behind from told) site
       (spoken_state (stepped site t told) spoke sent) rounds
@@ -93,12 +97,14 @@ module _ (begins : Begins) (front_is : FrontIs) (site : Site) (door : ℕ) (entr
       let cut = split door h e (session_events site door now rounds ++ last) own in
       let at = replay book cut.others in
       let on = legal_behind book cut.others (e ∷ cut.later) (subst (IsLegal book) cut.so legal) in
-      let whole : entries ≡ (replay at (e ∷ cut.later)).published =
-      all
-      ∙ ap (λ (x : List Event). (replay book x).published) cut.so
+      let same : (replay book h).published ≡ (replay at (e ∷ cut.later)).published =
+      ap (λ (x : List Event). (replay book x).published) cut.so
       ∙ ap (λ (x : Book). x.published) (replay_both book cut.others (e ∷ cut.later)) in
+      let whole : IsPrefix (replay at (e ∷ cut.later)).published entries =
+      subst (λ (xs : List Entry). IsPrefix xs entries) same all in
       let within : IsPrefix at.published entries =
-      subst (IsPrefix at.published) (sym whole) (begins at [] (e ∷ cut.later)) in
+      prefix_on at.published (replay at (e ∷ cut.later)).published entries
+      (begins at [] (e ∷ cut.later)) whole in
       let grown = prefix_long book.published at.published (begins book [] cut.others) in
       let one = told_sees t told at from on.0 within (omega (arith, below, grown)) in
       let kept = prefix_long at.published (then_after at e).published (begins at [] (e ∷ [])) in (
@@ -114,6 +120,5 @@ module _ (begins : Begins) (front_is : FrontIs) (site : Site) (door : ℕ) (entr
       own all below
 
 pub sees_published : Begins → FrontIs → SeesPublished
-sees_published begins front_is site door book h last s rounds from legal own below =
-    sees begins front_is site door (replay book h).published rounds s book h last from legal own refl
-    below
+sees_published begins front_is site door book h last s rounds from entries legal own below all =
+    sees begins front_is site door entries rounds s book h last from legal own all below

@@ -1,13 +1,14 @@
 -- A START that is answered positively begins a delivery.
 use Rattle.std.proofs.Common.{◌≡◌, ℕ, ◌≤◌, Bool, true, false, not, ◌==◌, if◌then◌else◌}
-use Rattle.std.proofs.Common.{Option, Some, None, Ok, Err, Result, List, [], length, refl, sym, ap, subst}
+use Rattle.std.proofs.Common.{Option, Some, None, Ok, Err, Result, List, [], ◌∷◌, length, refl, sym}
+use Rattle.std.proofs.Common.{ap, subst, ◌&&◌}
 use Rattle.std.proofs.Common.{◌∙◌, arith}
 use Rattle.std.specs.Prelude.{is_some}
 use Rattle.octet_core.specs.declared.offer.Offer.{Offer}
 use Rattle.sle_numbers.specs.declared.bind_diagnostic.BindDiagnostic.{BindDiagnostic}
 use Rattle.sle_numbers.specs.declared.return_start_diagnostic.ReturnStartDiagnostic.{ReturnStartDiagnostic}
 use Rattle.sle_numbers.specs.declared.peer_abort_diagnostic.PeerAbortDiagnostic.TheVariants.{OtherReason}
-use Rattle.archive_terms.specs.Selection.{Filter, by_quality, by_channel}
+use Rattle.archive_terms.specs.Selection.{by_quality, by_channel}
 use Rattle.archive_terms.specs.Delivery.{Mode, timely, complete, offline, Terms, first_position}
 use Rattle.archive_terms.specs.Delivery.{selection_of}
 use Rattle.return_core.specs.Course.{Course, run_of, with_start}
@@ -17,6 +18,7 @@ use Rattle.return_pdu.specs.declared.service.Service.{Service as ReturnService}
 use Rattle.return_pdu.specs.declared.service.Service.TheVariants as buffer
 use Rattle.return_service.specs.Answer.{confirmed}
 use Rattle.sle_numbers.specs.ReturnStartDiagnostic.{number_of as start_number}
+use Rattle.return_service.specs.Span.{span_of, moments, moments_unless, refusal as times_refused}
 use Rattle.return_service.specs.declared.span.Span.{Span}
 use Rattle.return_service.specs.Serving.{terms_at}
 use Rattle.sle_common.specs.declared.gvcid.Gvcid.{Gvcid}
@@ -24,6 +26,10 @@ use Rattle.sle_numbers.specs.RequestedFrameQuality.{number_of as quality_number}
 use Rattle.frame_select.specs.Selection.{id_of}
 use Rattle.raf_service.specs.Raf.{Raf, with_start as raf_with, moments_at as raf_moments}
 use Rattle.rcf_service.specs.Rcf.{Rcf, with_start as rcf_with, moments_at as rcf_moments}
+use Rattle.rcf_service.specs.Rcf.{where_permitted, is_permitted}
+use Rattle.cds_time.specs.declared.cds.Cds.{Cds}
+use Rattle.archive_terms.specs.Glimpse.{Glimpse}
+use Rattle.isp1_tml.specs.Message.{Content}
 use Rattle.station_config.specs.declared.site.Site.{Site}
 use Rattle.station_config.specs.Drafts.{place_of}
 use Rattle.assoc_core.specs.State.{moved}
@@ -51,12 +57,14 @@ use Rattle.session_core.specs.ServiceSteps.{permitted}
 use Rattle.session_core.specs.Handling.{bind_judged, bind_outcome, is_lost, invoked, concluded}
 use Rattle.session_core.specs.Handling.{after_passing, aborted, ended_by, is_agreed}
 use Rattle.session_core.specs.Steps.{Next, at_moment, is_idle, with_next, acted, timed, unasked}
-use Rattle.session_core.specs.Steps.{said_to, after_step, may_send}
+use Rattle.session_core.specs.Steps.{said_to, after_step, may_send, handles, has_message}
+use Rattle.session_core.specs.Laws.{messages_by}
 use Rattle.session_core.specs.Session.{State, BookAnswer, next_of, stepped, standing_spoke}
 use Rattle.session_core.specs.Session.{standing_sent, spoken_state, before_step}
 use Rattle.session_core.specs.Laws.{ServiceLeaves}
 use Rattle.session_laws.specs.Deliveries.{delivery_of, is_serving, Delivers}
-use Rattle.session_laws.specs.Starts.{StartsBegin, BegunStands}
+use Rattle.session_laws.specs.Starts.{Wanted, wanted_by, wanted_in, selected, StartsBegin}
+use Rattle.session_laws.specs.Starts.{BegunStands}
 use Rattle.session_laws.proofs.Deliveries.{some_is, serving_active, not_serving, invoked_same}
 use Rattle.session_laws.proofs.Deliveries.{answered_association, answered_outgoing, unasked_tells}
 use Rattle.session_laws.proofs.Deliveries.{untimed, both_serving, same_listened, same_spoke}
@@ -65,8 +73,12 @@ use Rattle.session_laws.proofs.Deliveries.{going_asks, sends_some, ended_deliver
 
 -- ---- what a service makes of a START
 
-record Started (service : ReturnService) (c : Course) (front : ℕ) (served : Served) : Type 0 where
+record Started (service : ReturnService) (c : Course) (i : Invocation) (front : ℕ)
+    (served : Served) : Type 0 where
   terms : Terms
+  wanted : Wanted
+  says : wanted_by service i ≡ Some wanted
+  selects : terms.selection ≡ selected terms.mode wanted front
   mode : terms.mode ≡ c.mode
   size : terms.size ≡ c.size
   latency : terms.latency ≡ c.latency
@@ -80,16 +92,37 @@ first_seen complete (Some start) front = omega arith
 first_seen offline None front = omega arith
 first_seen offline (Some start) front = omega arith
 
+-- the moments of a START that isn't refused are those of its times
+unless_is : (start stop : Option Cds) (o : Option ReturnStartDiagnostic) (span : Span)
+    → moments_unless start stop o ≡ Ok span → span ≡ span_of start stop
+unless_is start stop None span e = cc
+unless_is start stop (Some why) span e = absurd (cc)
+
+moments_are : (mode : Mode) (production : ℕ) (start stop : Option Cds) (span : Span)
+    → moments mode production start stop ≡ Ok span → span ≡ span_of start stop
+moments_are mode production start stop span e =
+    unless_is start stop (times_refused mode production start stop) span e
+
+permitted_are : (is : Bool) (j : Result Span ReturnStartDiagnostic) (span : Span)
+    → where_permitted is j ≡ Ok span → j ≡ Ok span
+permitted_are true (Ok own) span e = e
+permitted_are false (Ok own) span e = absurd (cc)
+permitted_are is (Err why) span e = absurd (cc)
+
 -- a service whose delivery began with a START of these frames and this span, from what it was
-starts_so : (service : ReturnService) (own c : Course) (filter : Filter) (span : Span) (front : ℕ)
-    (served : Served)
-    → Some own ≡ Some c
+starts_so : (service : ReturnService) (own c : Course) (i : Invocation) (w : Wanted) (span : Span)
+    (front : ℕ) (served : Served)
+    → Some own ≡ Some c → wanted_by service i ≡ Some w → span ≡ span_of w.start w.stop
     → delivery_of service served
-    ≡ Some (with_start own (selection_of own.mode filter span.start span.stop front))
-    → Started service c front served
-starts_so service own c filter span front served e is =
-    subst (λ (x : Course). Started service x front served) (some_is own c e) (record {
-      terms = terms_at own filter span front;
+    ≡ Some (with_start own (selection_of own.mode w.filter span.start span.stop front))
+    → Started service c i front served
+starts_so service own c i w span front served e says times is =
+    subst (λ (x : Course). Started service x i front served) (some_is own c e) (record {
+      terms = terms_at own w.filter span front;
+      wanted = w;
+      says = says;
+      selects =
+          ap (λ (x : Span). selection_of own.mode w.filter x.start x.stop front) times;
       mode = refl;
       size = refl;
       latency = refl;
@@ -97,34 +130,46 @@ starts_so service own c filter span front served e is =
       delivery = is;
     })
 
-raf_starts_it : (raf : Raf) (c : Course) (s : RafStartContent) (front : ℕ)
+raf_starts_it : (raf : Raf) (c : Course) (s : RafStartContent) (g : Glimpse)
     (j : Result Span ReturnStartDiagnostic) → delivery_of buffer.Raf (serves.Raf raf) ≡ Some c
+    → raf_moments s g raf ≡ j
     → outcome_of (reply.Start (confirmed start_number j)) ≡ outcome.Started
-    → Started buffer.Raf c front (serves.Raf (raf_with s front j raf))
+    → Started buffer.Raf c (raf_starts s) g.front (serves.Raf (raf_with s g.front j raf))
 unfolding delivery_of
-raf_starts_it raf c s front (Ok span) e is =
-    starts_so buffer.Raf raf.serving.course c (by_quality (quality_number s.quality)) span front
-    (serves.Raf (raf_with s front (Ok span) raf)) e refl
-raf_starts_it raf c s front (Err why) e is = absurd (cc)
+raf_starts_it raf c s g (Ok span) e times is =
+    starts_so buffer.Raf raf.serving.course c (raf_starts s) (record {
+      filter = by_quality (quality_number s.quality);
+      start = s.start;
+      stop = s.stop;
+    }) span g.front (serves.Raf (raf_with s g.front (Ok span) raf)) e refl
+    (moments_are raf.serving.course.mode g.production s.start s.stop span times) refl
+raf_starts_it raf c s g (Err why) e times is = absurd (cc)
 
-rcf_starts_it : (rcf : Rcf) (c : Course) (s : RcfStartContent) (front : ℕ)
-    (j : Result Span ReturnStartDiagnostic) → delivery_of buffer.Rcf (serves.Rcf rcf) ≡ Some c
+rcf_starts_it : (channels : List Gvcid) (rcf : Rcf) (c : Course) (s : RcfStartContent)
+    (g : Glimpse) (j : Result Span ReturnStartDiagnostic)
+    → delivery_of buffer.Rcf (serves.Rcf rcf) ≡ Some c → rcf_moments channels s g rcf ≡ j
     → outcome_of (reply.Start (confirmed start_number j)) ≡ outcome.Started
-    → Started buffer.Rcf c front (serves.Rcf (rcf_with s front j rcf))
+    → Started buffer.Rcf c (rcf_starts s) g.front (serves.Rcf (rcf_with s g.front j rcf))
 unfolding delivery_of
-rcf_starts_it rcf c s front (Ok span) e is =
-    starts_so buffer.Rcf rcf.serving.course c (by_channel (id_of s.channel)) span front
-    (serves.Rcf (rcf_with s front (Ok span) rcf)) e refl
-rcf_starts_it rcf c s front (Err why) e is = absurd (cc)
+rcf_starts_it channels rcf c s g (Ok span) e times is =
+    starts_so buffer.Rcf rcf.serving.course c (rcf_starts s) (record {
+      filter = by_channel (id_of s.channel);
+      start = s.start;
+      stop = s.stop;
+    }) span g.front (serves.Rcf (rcf_with s g.front (Ok span) rcf)) e refl
+    (moments_are rcf.serving.course.mode g.production s.start s.stop span
+    (permitted_are (is_permitted channels s.channel)
+    (moments rcf.serving.course.mode g.production s.start s.stop) span times)) refl
+rcf_starts_it channels rcf c s g (Err why) e times is = absurd (cc)
 
 starts : (service : ReturnService) (served : Served) (c : Course) (channels : List Gvcid)
     (i : Invocation) (r : Replied)
     (now : ℕ) → delivery_of service served ≡ Some c
     → (concluded_by served channels i r now).outcome ≡ outcome.Started
-    → Started service c r.glimpse.front (concluded_by served channels i r now).served
+    → Started service c i r.glimpse.front (concluded_by served channels i r now).served
 unfolding delivery_of concluded_by
 starts buffer.Raf (serves.Raf raf) c channels (raf_starts s) r now e is =
-    raf_starts_it raf c s r.glimpse.front (raf_moments s r.glimpse raf) e is
+    raf_starts_it raf c s r.glimpse (raf_moments s r.glimpse raf) e refl is
 starts buffer.Raf (serves.Raf raf) c channels (rcf_starts s) r now e is = absurd (cc)
 starts buffer.Raf (serves.Raf raf) c channels (cltu_starts s) r now e is = absurd (cc)
 starts buffer.Raf (serves.Raf raf) c channels (transfers t) r now e is = absurd (cc)
@@ -134,7 +179,7 @@ starts buffer.Raf (serves.Raf raf) c channels (schedules s) r now e is = absurd 
 starts buffer.Raf (serves.Raf raf) c channels (gets g) r now e is = absurd (cc)
 starts buffer.Raf (serves.Raf raf) c channels no_invocation r now e is = absurd (cc)
 starts buffer.Rcf (serves.Rcf rcf) c channels (rcf_starts s) r now e is =
-    rcf_starts_it rcf c s r.glimpse.front (rcf_moments channels s r.glimpse rcf) e is
+    rcf_starts_it channels rcf c s r.glimpse (rcf_moments channels s r.glimpse rcf) e refl is
 starts buffer.Rcf (serves.Rcf rcf) c channels (raf_starts s) r now e is = absurd (cc)
 starts buffer.Rcf (serves.Rcf rcf) c channels (cltu_starts s) r now e is = absurd (cc)
 starts buffer.Rcf (serves.Rcf rcf) c channels (transfers t) r now e is = absurd (cc)
@@ -156,11 +201,27 @@ bind_starts_none : (site : Site) (peer : Option ℕ) (j : Result ℕ BindDiagnos
 bind_starts_none site peer j reply e = grind arith
 
 -- a session that serves behind a message, and didn't before it, was started by it
-record Begun (service : ReturnService) (c : Course) (front : ℕ) (v : Standing) : Type 0 where
-  started : Started service c front v.service
+record Begun (service : ReturnService) (c : Course) (said : UserContent) (front : ℕ)
+    (v : Standing) : Type 0 where
+  start : Invocation
+  so : said ≡ invocation start
+  started : Started service c start front v.service
   outgoing : v.outgoing ≡ []
 
-if_none : (b : Bool) (xs : List ℕ) → xs ≡ [] → (if b then xs else []) ≡ []
+-- so it was by what came next
+record NextBegun (service : ReturnService) (site : Site) (u : Standing) (c : Course) (next : Next)
+    (front : ℕ) (v : Standing) : Type 0 where
+  message : Content
+  is : next ≡ Ok (Some message)
+  begun : Begun service c (said_to site u message) front v
+
+-- in a round that isn't idle
+record ActedBegun (service : ReturnService) (site : Site) (u : Standing) (c : Course)
+    (next : Next) (front : ℕ) (v : Standing) : Type 0 where
+  busy : is_idle u ≡ false
+  begins : NextBegun service site u c next front v
+
+pub if_none : (b : Bool) (xs : List ℕ) → xs ≡ [] → (if b then xs else []) ≡ []
 if_none true xs e = e
 if_none false xs e = refl
 
@@ -203,7 +264,7 @@ module _ (service : ReturnService) (site : Site) (u : Standing) (c : Course)
 
   passing_begins : (said : UserContent) (r : Replied)
       → is_serving (after_passing site (invoked u said Pass) said r) ≡ true
-      → Begun service c r.glimpse.front (after_passing site (invoked u said Pass) said r)
+      → Begun service c said r.glimpse.front (after_passing site (invoked u said Pass) said r)
   passing_begins (context interval factor) r serving =
       absurd (context_not interval factor r serving)
   passing_begins heartbeat r serving =
@@ -232,6 +293,8 @@ module _ (service : ReturnService) (site : Site) (u : Standing) (c : Course)
       moves_started v.association done.outcome (ap is_active same ∙ still)
       (serving_active (record (led_to done.outcome v) { service = done.served }) serving) in
       record {
+        start = i;
+        so = refl;
         started = starts service u.service c channels i r u.moment delivery o;
         outgoing =
             if_none (is_active (moved v.association done.outcome)) v.outgoing
@@ -247,7 +310,7 @@ module _ (service : ReturnService) (site : Site) (u : Standing) (c : Course)
       (if lost then aborted (invoked u said st) OtherReason
       else concluded site (invoked u said st) said st r)
       ≡ true
-      → Begun service c r.glimpse.front
+      → Begun service c said r.glimpse.front
       (if lost then aborted (invoked u said st) OtherReason
       else concluded site (invoked u said st) said st r)
   judged_begins said st r true serving =
@@ -259,7 +322,7 @@ module _ (service : ReturnService) (site : Site) (u : Standing) (c : Course)
       absurd (not_serving (concluded site (invoked u said (Abort d)) said (Abort d) r) refl serving)
 
   next_begins : (next : Next) (r : Replied) → is_serving (with_next site u next r) ≡ true
-      → Begun service c r.glimpse.front (with_next site u next r)
+      → NextBegun service site u c next r.glimpse.front (with_next site u next r)
   next_begins (Err fault) r serving =
       absurd (not_serving (with_next site u (Err fault) r) refl serving)
   next_begins (Ok None) r serving = absurd (by (has_closed u.arrival) serving)
@@ -269,29 +332,53 @@ module _ (service : ReturnService) (site : Site) (u : Standing) (c : Course)
       by false e = same_not u refl e
   next_begins (Ok (Some message)) r serving =
       let said = said_to site u message in
-      judged_begins said (judged site u.association said u.moment) r (is_lost r.reply) serving
+      record {
+        message = message;
+        is = refl;
+        begun =
+            judged_begins said (judged site u.association said u.moment) r (is_lost r.reply)
+            serving;
+      }
 
   acted_begins : (next : Next) (r : Replied) → is_serving (acted site u next r) ≡ true
-      → Begun service c r.glimpse.front (acted site u next r)
-  acted_begins next r serving = by (is_idle u) serving
+      → ActedBegun service site u c next r.glimpse.front (acted site u next r)
+  acted_begins next r serving = by (is_idle u) refl serving
     where
-      by : (idle : Bool) → is_serving (if idle then u else with_next site u next r) ≡ true
-          → Begun service c r.glimpse.front (if idle then u else with_next site u next r)
-      by true e = absurd (same_not u refl e)
-      by false e = next_begins next r e
+      by : (idle : Bool) → is_idle u ≡ idle
+          → is_serving (if idle then u else with_next site u next r) ≡ true
+          → ActedBegun service site u c next r.glimpse.front
+          (if idle then u else with_next site u next r)
+      by true is e = absurd (same_not u refl e)
+      by false is e = record { busy = is; begins = next_begins next r e }
 
 -- ---- its round
 
-record StepBegins (service : ReturnService) (c : Course) (front : ℕ) (t : Standing) : Type 0 where
-  started : Started service c front t.service
+-- the message that a round handles
+handled_one : (idle : Bool) (next : Next) (message : Content) → idle ≡ false
+    → next ≡ Ok (Some message)
+    → messages_by (not idle && has_message next) next ≡ message ∷ []
+handled_one idle next message e is =
+    ap (λ (b : Bool). messages_by (not b && has_message next) next) e
+    ∙ ap (λ (n : Next). messages_by (has_message n) n) is
+
+record StepBegins (service : ReturnService) (site : Site) (s : Standing) (next : Next)
+    (c : Course) (front : ℕ) (t : Standing) : Type 0 where
+  message : Content
+  handled : messages_by (handles s next) next ≡ message ∷ []
+  start : Invocation
+  so : said_to site s message ≡ invocation start
+  started : Started service c start front t.service
   outgoing : t.outgoing ≡ []
 
-started_on : (service : ReturnService) (c : Course) (front : ℕ) (served later : Served)
-    (h : Started service c front served)
+started_on : (service : ReturnService) (c : Course) (i : Invocation) (front : ℕ)
+    (served later : Served) (h : Started service c i front served)
     → delivery_of service later ≡ Some (record c { run = Some (run_of h.terms) })
-    → Started service c front later
-started_on service c front served later h is = record {
+    → Started service c i front later
+started_on service c i front served later h is = record {
   terms = h.terms;
+  wanted = h.wanted;
+  says = h.says;
+  selects = h.selects;
   mode = h.mode;
   size = h.size;
   latency = h.latency;
@@ -303,7 +390,7 @@ step_begins : (service : ReturnService) → ServiceLeaves → (site : Site) (s :
     (next : Next) (now : ℕ) (r : Replied)
     (c : Course) → is_active s.association ≡ false → s.outgoing ≡ []
     → delivery_of service s.service ≡ Some c → is_serving (after_step site s next now r) ≡ true
-    → StepBegins service c r.glimpse.front (after_step site s next now r)
+    → StepBegins service site s next c r.glimpse.front (after_step site s next now r)
 step_begins service leaves site s next now r c still none delivery serving =
     let u = at_moment s now in
     let v = acted site u next r in
@@ -314,20 +401,26 @@ step_begins service leaves site s next now r c still none delivery serving =
     let serving_w = both_serving w (after_step site s next now r) same.course same.association serving in
     let alive = untimed v serving_w in
     let serving_v = subst (λ (y : Standing). is_serving y ≡ true) alive.0 serving_w in
-    let begun = acted_begins service site u c still none delivery next r serving_v in
+    let all = acted_begins service site u c still none delivery next r serving_v in
+    let begun = all.begins.begun in
     let h = begun.started in
     let tells =
     unasked_tells service site r w (record c { run = Some (run_of h.terms) })
     (ap (λ (y : Standing). delivery_of service y.service) alive.0 ∙ h.delivery) in
     let last : after_step site s next now r ≡ x =
     ap (λ (b : Bool). with_service site b r.glimpse x) still in
-    subst (StepBegins service c r.glimpse.front) (sym last) (record {
-      started = started_on service c r.glimpse.front v.service x.service h tells.delivery;
+    subst (StepBegins service site s next c r.glimpse.front) (sym last) (record {
+      message = all.begins.message;
+      handled = handled_one (is_idle u) next all.begins.message all.busy all.begins.is;
+      start = begun.start;
+      so = begun.so;
+      started =
+          started_on service c begun.start r.glimpse.front v.service x.service h tells.delivery;
       outgoing =
           tells.outgoing ∙ ap (λ (y : Standing). y.outgoing) alive.0 ∙ begun.outgoing;
     })
 
-no_message : (s : Standing) → s.outgoing ≡ [] → has_outgoing s ≡ true → ⊥
+pub no_message : (s : Standing) → s.outgoing ≡ [] → has_outgoing s ≡ true → ⊥
 no_message s e has =
     let no : has_outgoing s ≡ false = ap (λ (x : List ℕ). not (length x == 0)) e in
     absurd (cc (no, has))
@@ -358,6 +451,11 @@ record PartBegins (service : ReturnService) (site : Site) (t : State) (asked_so 
   size : terms.size ≡ c.size
   latency : terms.latency ≡ c.latency
   first : terms.selection.first ≤ told.answer.glimpse.front
+  message : Content
+  handled : messages_by (handles t.standing (next_of t)) (next_of t) ≡ message ∷ []
+  wanted : Wanted
+  says : wanted_in service (said_to site t.standing message) ≡ Some wanted
+  selects : terms.selection ≡ selected terms.mode wanted told.answer.glimpse.front
   delivers : Delivers service (spoken_state (stepped site t asked_so) spoke sent).standing
       (record c { run = Some (run_of terms) })
 
@@ -390,6 +488,11 @@ told_begins service leaves site t (Some told) spoke sent c some still none deliv
       size = h.size;
       latency = h.latency;
       first = h.first;
+      message = begun.message;
+      handled = begun.handled;
+      wanted = h.wanted;
+      says = ap (wanted_in service) begun.so ∙ h.says;
+      selects = h.selects;
       delivers =
           ended_delivers service (standing_sent z sent) k
           (unsent_delivers service z k sent out
@@ -415,6 +518,13 @@ starts_begin leaves service site s r c is still none delivery serving =
       size = all.size;
       latency = all.latency;
       first = all.first;
+      asks = record {
+        message = all.message;
+        handled = all.handled;
+        wanted = all.wanted;
+        says = all.says;
+        selects = all.selects;
+      };
       delivers = all.delivers;
     }
 

@@ -3,6 +3,7 @@ use Rattle.std.specs.Prelude.{◌≡◌, ℕ, ◌≤◌, Bool, true, not, ◌&&�
 use Rattle.std.specs.Prelude.{false, is_some, List, [], ◌∷◌, ◌++◌, length, take, IsTrue, IsFalse}
 use Rattle.std.specs.List.{list_any}
 use Rattle.std.specs.Option.{option_map, option_map_or, option_to_list}
+use mathlib.Core.List.{IsPrefix}
 use Rattle.octet_core.specs.declared.offer.Offer.{Offer}
 use Rattle.archive_terms.specs.Archive.{Entry, IsArchive}
 use Rattle.archive_terms.specs.Selection.{picked, is_stop_closed}
@@ -137,12 +138,14 @@ SeeEntries entries from site s (r ∷ rounds) =
     × SeeEntries entries (front_behind from r.told) site (after_round site s r) rounds
 
 -- In a legal history whose events at a door begin with those of a session's rounds, these see the
--- entries that are published behind it.
+-- entries that are published behind it, and each list that begins with these.
 abbrev pub SeesPublished : Type 0
 SeesPublished =
     (site : Site) (door : ℕ) (book : Book) (h last : List Event) (s : State) (rounds : List Round)
-    (from : ℕ) → IsLegal book h → own_in door h ≡ session_events site door s rounds ++ last
-    → from ≤ length book.published → SeeEntries (replay book h).published from site s rounds
+    (from : ℕ) (entries : List Entry) → IsLegal book h
+    → own_in door h ≡ session_events site door s rounds ++ last
+    → from ≤ length book.published → IsPrefix (replay book h).published entries
+    → SeeEntries entries from site s rounds
 
 -- ---- the law
 

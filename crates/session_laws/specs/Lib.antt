@@ -1,3 +1,5 @@
 pub mod Losing
 pub mod Deliveries
 pub mod Starts
+pub mod Instances
+pub mod Handing

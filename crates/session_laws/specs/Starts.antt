@@ -1,17 +1,72 @@
 -- The round of a session with a START that is answered positively begins a delivery.
-use Rattle.std.specs.Prelude.{◌≡◌, ◌<◌, ◌≤◌, true, false, Some, List, [], length}
+use Rattle.std.specs.Prelude.{◌≡◌, ℕ, ◌<◌, ◌≤◌, true, false, Option, Some, None, option_and_then}
+use Rattle.std.specs.Prelude.{List, [], ◌∷◌, length}
+use Rattle.cds_time.specs.declared.cds.Cds.{Cds}
+use Rattle.cds_time.specs.Moment.{moment_of}
 use Rattle.archive_terms.specs.Archive.{Entry, IsArchive}
-use Rattle.archive_terms.specs.Delivery.{Terms}
+use Rattle.archive_terms.specs.Selection.{Filter, by_quality, by_channel, Selection}
+use Rattle.archive_terms.specs.Delivery.{Mode, Terms, selection_of}
+use Rattle.frame_select.specs.Selection.{id_of}
+use Rattle.isp1_tml.specs.Message.{Content}
+use Rattle.sle_numbers.specs.RequestedFrameQuality.{number_of as quality_number}
 use Rattle.return_core.specs.Course.{Course, run_of}
 use Rattle.return_core.specs.Standing.{StandsFor}
 use Rattle.return_pdu.specs.declared.service.Service.{Service as ReturnService}
+use Rattle.return_pdu.specs.declared.service.Service.TheVariants as buffer
 use Rattle.station_config.specs.declared.site.Site.{Site}
-use Rattle.session_core.specs.Session.{State, Round, BookAnswer, IsRound, after_round}
+use Rattle.session_core.specs.Laws.{round_messages}
+use Rattle.session_core.specs.Message.{UserContent, invocation}
+use Rattle.session_core.specs.Service.{Invocation, raf_starts, rcf_starts}
+use Rattle.session_core.specs.Session.{State, Round, BookAnswer, IsRound, before_step, after_round}
 use Rattle.session_core.specs.ServiceSteps.{is_active}
+use Rattle.session_core.specs.Steps.{said_to}
 use Rattle.session_laws.specs.Deliveries.{delivery_of, is_serving, Delivers}
 
--- a delivery of an instance that has this one begins, with a selection from a place on that the
--- round's look saw
+-- ---- what a START asks for
+
+-- which frames, and its start and stop time where it gives them
+pub record Wanted : Type 0 where
+  pub filter : Filter
+  pub start : Option Cds
+  pub stop : Option Cds
+
+-- RAF asks for frames of a quality, and RCF for those of a channel
+abbrev pub wanted_by : ReturnService → Invocation → Option Wanted
+wanted_by buffer.Raf (raf_starts s) = Some (record {
+  filter = by_quality (quality_number s.quality);
+  start = s.start;
+  stop = s.stop;
+})
+wanted_by buffer.Rcf (rcf_starts s) = Some (record {
+  filter = by_channel (id_of s.channel);
+  start = s.start;
+  stop = s.stop;
+})
+wanted_by _ _ = None
+
+abbrev pub wanted_in : ReturnService → UserContent → Option Wanted
+wanted_in service (invocation i) = wanted_by service i
+wanted_in service _ = None
+
+-- what that selects, in a round whose look has this front
+abbrev pub selected : Mode → Wanted → ℕ → Selection
+selected mode w front =
+    selection_of mode w.filter (option_and_then moment_of w.start)
+    (option_and_then moment_of w.stop) front
+
+-- The one message that a round handled is a START, and these terms select what it asks for.
+pub record Asks (service : ReturnService) (site : Site) (s : State) (r : Round) (front : ℕ)
+    (t : Terms) : Type 0 where
+  pub message : Content
+  pub handled : round_messages s r ≡ message ∷ []
+  pub wanted : Wanted
+  pub says : wanted_in service (said_to site (before_step s r).standing message) ≡ Some wanted
+  pub selects : t.selection ≡ selected t.mode wanted front
+
+-- ---- its delivery
+
+-- a delivery of an instance that has this one begins, with the selection of the round's START, from
+-- a place on that the round's look saw
 pub record BeginsDelivery (service : ReturnService) (site : Site) (s : State) (r : Round)
     (before : Course) : Type 0 where
   pub told : BookAnswer
@@ -21,12 +76,13 @@ pub record BeginsDelivery (service : ReturnService) (site : Site) (s : State) (r
   pub size : terms.size ≡ before.size
   pub latency : terms.latency ≡ before.latency
   pub first : terms.selection.first ≤ told.answer.glimpse.front
+  pub asks : Asks service site s r told.answer.glimpse.front terms
   pub delivers : Delivers service (after_round site s r).standing
       (record before { run = Some (run_of terms) })
 
 -- Where a session whose service isn't started, and that has nothing to offer, is started behind a
 -- round, its delivery begins: it has handed over nothing, and the terms have its mode, its size and
--- its latency limit. Which frames of which times they select isn't said here.
+-- its latency limit, and select what the START of this round asks for.
 abbrev pub StartsBegin : Type 0
 StartsBegin =
     (service : ReturnService) (site : Site) (s : State) (r : Round) (c : Course) → IsRound site s r

@@ -3,6 +3,8 @@ ghost use Rattle.session_laws.specs.Losing.{NothingIsLost, BeginsFree};
 ghost use Rattle.session_laws.specs.Deliveries.{AreVisits, SeesPublished, StartsDeliver};
 ghost use Rattle.session_laws.specs.Deliveries.{CompleteStarts, TimelyStarts, DueIsOffered};
 ghost use Rattle.session_laws.specs.Starts.{StartsBegin, BegunStands};
+ghost use Rattle.session_laws.specs.Instances.{SessionsAreKept};
+ghost use Rattle.session_laws.specs.Handing.{StartsHandOver, OnlyStartedSend};
 
 use assoc_core::laws as association;
 use return_core::laws as delivery;
@@ -40,8 +42,8 @@ pub fn a_sessions_rounds_are_its_deliverys()
 }
 
 /// In a legal history whose events at a door begin with those of a session's rounds, the looks of
-/// these are looks at the entries that are published behind it, each at a front of its own, and
-/// fronts don't fall.
+/// these are looks at the entries that are published behind it, and of each list that begins with
+/// these, each at a front of its own, and fronts don't fall.
 pub fn what_a_session_sees_is_published()
     ensures { SeesPublished }
 {
@@ -50,8 +52,8 @@ pub fn what_a_session_sees_is_published()
 }
 
 /// Behind a round that starts a session's service, with a START that is answered positively, the
-/// delivery of that START begins, on the terms of its instance and from a place that the round's
-/// look saw; and it stands for no rounds yet.
+/// delivery of that START begins, on the terms of its instance, for the frames and times that its
+/// message asks for, and from a place that the round's look saw; and it stands for no rounds yet.
 pub fn a_start_begins_a_delivery()
     ensures begins { StartsBegin }
     ensures stands { BegunStands }
@@ -97,4 +99,34 @@ pub fn a_timely_start_tells_what_it_discards()
     session::a_service_leaves_its_session();
     delivery::each_visit_stands();
     delivery::timely_rounds();
+}
+
+/// Behind any rounds of a session, one whose service isn't started has nothing to offer, and the
+/// delivery that a bound return service keeps has the mode, the size and the latency limit that the
+/// site gives its instance.
+pub fn a_session_keeps_its_instance()
+    ensures { SessionsAreKept }
+{}
+
+/// What each START of a session of a valid site hands over, wherever it stands among the rounds, is
+/// what *Delivery* of what its message asks for, on the terms of its instance, hands over of the
+/// archive that the rounds see.
+pub fn each_start_hands_over()
+    ensures { StartsHandOver }
+{
+    a_session_keeps_its_instance();
+    a_start_begins_a_delivery();
+    what_a_start_hands_over_is_delivered();
+    a_complete_start_hands_over_what_it_picks();
+    a_timely_start_tells_what_it_discards();
+    delivery::a_wanted_look_is_one_at_its_front();
+}
+
+/// A round of a session hands over a message of its service, or drops one, only where the service is
+/// started before it and still is behind it.
+pub fn only_a_started_service_sends()
+    ensures { OnlyStartedSend }
+{
+    a_session_keeps_its_instance();
+    session::a_service_leaves_its_session();
 }
