@@ -2,3 +2,5 @@ mod Books
 mod Doors
 mod Ends
 mod Lives
+mod Archives
+mod Delivered

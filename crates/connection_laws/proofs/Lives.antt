@@ -48,17 +48,17 @@ module _ {L : Type 0} (reads : L → Option ScriptLine) (sessions : AreSessions 
   -- ---- the book's history while a connection is there
 
   module _ (c : ℕ) where
-    abbrev while_there : Option Connected → List Event → List Event → List Event
+    abbrev pub while_there : Option Connected → List Event → List Event → List Event
     while_there None own later = []
     while_there (Some l) own later = own ++ later
 
-    abbrev history : State → List L → List Event
+    abbrev pub history : State → List L → List Event
     history state [] = []
     history state (line ∷ lines) =
         while_there (at_door state c) (line_events state (reads line))
         (history (next state line) lines)
 
-    over : (state : State) (lines : List L) → at_door state c ≡ None → history state lines ≡ []
+    pub over : (state : State) (lines : List L) → at_door state c ≡ None → history state lines ≡ []
     over state [] none = refl
     over state (line ∷ lines) none = ap (λ (l : Option Connected). while_there l
         (line_events state (reads line)) (history (next state line) lines)) none
@@ -76,13 +76,19 @@ module _ {L : Type 0} (reads : L → Option ScriptLine) (sessions : AreSessions 
         filter-append (λ (e : Event). is_by c e.call) events (history (next state line) lines)
         ∙ ap (λ later. events_at c events ++ later) rest
 
-    own_is : (lines : List L) (state : State)
+    pub own_is : (lines : List L) (state : State)
         → own_in c (history state lines) ≡ (life reads c state lines).events
     own_is [] state = refl
     own_is (line ∷ lines) state =
         own_by (at_door state c) state line lines (own_is lines (next state line))
 
     -- a recovery leaves nobody
+    pub gone : (state : State) (line : L) → (step_read state (reads line)).recovers ≡ true
+        → at_door (next state line) c ≡ None
+    gone state line is =
+        ap (λ (d : Doors). there (slice_get d.connections c))
+        ((sessions.history state line).renewed is) ∙ nobody_at 17 c
+
     behind : (recovers : Bool) (state : State) (line : L) (lines : List L)
         → (step_read state (reads line)).recovers ≡ recovers
         → IsLegal (next state line).doors.book (history (next state line) lines)
@@ -92,18 +98,15 @@ module _ {L : Type 0} (reads : L → Option ScriptLine) (sessions : AreSessions 
         subst (λ (b : books.State). IsLegal b (history (next state line) lines))
         ((sessions.history state line).same is) rest
     behind true state line lines is rest =
-        let gone : at_door (next state line) c ≡ None =
-        ap (λ (d : Doors). there (slice_get d.connections c))
-        ((sessions.history state line).renewed is) ∙ nobody_at 17 c in
         subst (IsLegal (replay state.doors.book (line_events state (reads line))))
-        (sym (over (next state line) lines gone)) tt
+        (sym (over (next state line) lines (gone state line is))) tt
 
     legal_by : (l : Option Connected) (b : books.State) (own later : List Event) → IsLegal b own
         → IsLegal (replay b own) later → IsLegal b (while_there l own later)
     legal_by None b own later first second = tt
     legal_by (Some l) b own later first second = legal_both b own later first second
 
-    legal : (lines : List L) (state : State) → IsLegal state.doors.book (history state lines)
+    pub legal : (lines : List L) (state : State) → IsLegal state.doors.book (history state lines)
     legal [] state = tt
     legal (line ∷ lines) state = legal_by (at_door state c) state.doors.book
         (line_events state (reads line)) (history (next state line) lines)
