@@ -1,12 +1,12 @@
 // The words behind `run`.
-ghost use Rattle.std.specs.Prelude.{◌≡◌, ◌≤◌, IfOk, IfSome, length, map};
+ghost use Rattle.std.specs.Prelude.{◌≡◌, ◌≤◌, IfOk, OnErr, IfSome, IsSome, is_some, length, map};
 ghost use Rattle.run_plan.specs.RunPlan.{asked, plan_of, turns_read, links_read, port_read};
-ghost use Rattle.run_plan.specs.RunPlan.{ports_read, Finds, IsInRange};
+ghost use Rattle.run_plan.specs.RunPlan.{ports_read, IsInRange};
 
+use crate::number::number;
 use crate::ports::Ports;
 use octet_core::{Memory, Octets};
 use std::alloc::Global;
-use words::{Long, Number, Short, Unread, Word, read_word};
 
 // The most doors of a station.
 const MOST_DOORS: usize = 16;
@@ -29,10 +29,12 @@ pub struct RunPlan {
 }
 
 impl RunPlan {
-    /// What the words behind `run` ask for, and none where they ask for nothing.
+    /// What the words behind `run` ask for, and none where they ask for nothing. Words that ask for
+    /// nothing take no memory.
     pub fn read(alloc: Global, words: &[&str]) -> Result<Option<RunPlan>, Memory>
         ensures plan { IfOk result (λ plan. plan ≡ asked words.now) }
         ensures range { IfOk result (λ plan. IfSome plan IsInRange) }
+        ensures memory { OnErr result (IsSome (asked words.now)) }
     {
         match words {
             [turns, links, path, feed, antenna, doors @ ..] => {
@@ -44,6 +46,7 @@ impl RunPlan {
 }
 
 // What these words ask for.
+#[tactic(auto, using(crate::proofs::PortsRead::planned))]
 fn read_words(
     alloc: Global,
     turns: &str,
@@ -56,17 +59,14 @@ fn read_words(
     ensures plan { IfOk result (λ plan. plan ≡ plan_of turns.now links.now path.now feed.now
         antenna.now (map (λ word. word.now) doors.now)) }
     ensures range { IfOk result (λ plan. IfSome plan IsInRange) }
+    ensures memory { OnErr result (IsSome (plan_of turns.now links.now path.now feed.now
+        antenna.now (map (λ word. word.now) doors.now))) }
 {
     if doors.is_empty() || doors.len() > MOST_DOORS {
         return Ok(None);
     }
-    let Some(turns) = turns_of(alloc, turns)? else {
-        return Ok(None);
-    };
-    let Some(links) = links_of(alloc, links)? else {
-        return Ok(None);
-    };
-    let Some(feed) = port_of(alloc, feed)? else {
+    let (Some(turns), Some(links), Some(feed)) = (turns_of(turns), links_of(links), port_of(feed))
+    else {
         return Ok(None);
     };
     let Some(ports) = ports_of(alloc, doors)? else {
@@ -84,52 +84,59 @@ fn read_words(
     }))
 }
 
-// The value of a word, and none where it isn't of this kind.
-fn read_one<W: Word>(alloc: Global, word: &str) -> Result<Option<W::Value>, Memory>
-    ensures exact { IfOk result (λ found. Finds W.seen found (W.kind.read word.now)) }
-    ensures fits { IfOk result (λ found. IfSome found (λ value. W.kind.Fits (W.seen value))) }
-{
-    match read_word::<W>(alloc, word.as_bytes()) {
-        Ok(value) => Ok(Some(value)),
-        Err(Unread::Bad) => Ok(None),
-        Err(Unread::Memory) => Err(Memory),
-    }
-}
-
 #[tactic(auto, unfolding(crate::specs::RunPlan::turns_read))]
-fn turns_of(alloc: Global, word: &str) -> Result<Option<u64>, Memory>
-    ensures exact { IfOk result (λ turns. turns ≡ turns_read word.now) }
-    ensures range { IfOk result (λ turns. IfSome turns (λ n. (10 ≤ n) × (n ≤ 1099511627776))) }
+fn turns_of(word: &str) -> Option<u64>
+    ensures exact { result ≡ turns_read word.now }
+    ensures range { IfSome result (λ n. (10 ≤ n) × (n ≤ 1099511627776)) }
 {
-    read_one::<Long<10, 1_099_511_627_776>>(alloc, word)
+    number(word.as_bytes(), 10, 1_099_511_627_776)
 }
 
 #[tactic(auto, unfolding(crate::specs::RunPlan::links_read))]
-fn links_of(alloc: Global, word: &str) -> Result<Option<u32>, Memory>
-    ensures exact { IfOk result (λ links. links ≡ links_read word.now) }
-    ensures range { IfOk result (λ links. IfSome links (λ n. (1 ≤ n) × (n ≤ 65536))) }
+fn links_of(word: &str) -> Option<u32>
+    ensures exact { result ≡ links_read word.now }
+    ensures range { IfSome result (λ n. (1 ≤ n) × (n ≤ 65536)) }
 {
-    read_one::<Number<1, 65_536>>(alloc, word)
+    let links = number(word.as_bytes(), 1, 65_536)?;
+    Some(links as u32)
 }
 
 #[tactic(auto, unfolding(crate::specs::RunPlan::port_read))]
-fn port_of(alloc: Global, word: &str) -> Result<Option<u16>, Memory>
-    ensures exact { IfOk result (λ port. port ≡ port_read word.now) }
+fn port_of(word: &str) -> Option<u16>
+    ensures exact { result ≡ port_read word.now }
 {
-    read_one::<Short<1, 65_535>>(alloc, word)
+    let port = number(word.as_bytes(), 1, 65_535)?;
+    Some(port as u16)
+}
+
+// Whether each word is a port.
+#[tactic(auto, using(crate::proofs::PortsRead::one_some))]
+fn are_ports(words: &[&str]) -> bool
+    ensures { result ≡ is_some (ports_read (map (λ word. word.now) words.now)) }
+{
+    for word in words {
+        if port_of(word).is_none() {
+            return false;
+        }
+    }
+    true
 }
 
 // The ports of words, if each is one.
-#[tactic(auto, using(crate::proofs::PortsRead::one_more))]
+#[tactic(auto, using(crate::proofs::PortsRead::one_more, crate::proofs::PortsRead::none_read))]
 fn ports_of(alloc: Global, words: &[&str]) -> Result<Option<Ports>, Memory>
     ensures exact { IfOk result (λ ports. ports
         ≡ ports_read (map (λ word. word.now) words.now)) }
     ensures count { IfOk result (λ ports. IfSome ports (λ ports. length ports
         ≡ length words.now)) }
+    ensures memory { OnErr result (IsSome (ports_read (map (λ word. word.now) words.now))) }
 {
+    if !are_ports(words) {
+        return Ok(None);
+    }
     let mut ports = Ports::new(alloc);
     for word in words {
-        match port_of(alloc, word)? {
+        match port_of(word) {
             Some(port) => ports.push(port)?,
             None => return Ok(None),
         }
