@@ -205,18 +205,14 @@ fn six_hundred_seals_are_three_batches(rt: HostRuntime) -> Result<(), Fail> {
     Ok(())
 }
 
-fn send<A: Antenna>(antenna: &mut A, octets: &[u8]) -> Result<(), Failed> {
-    antenna.send(octets)
-}
-
 #[test]
 fn an_antenna_tells_what_was_sent(rt: HostRuntime) -> Result<(), Fail> {
     let mut antenna = AntennaSim::new(rt.alloc(), vec![in rt.alloc(); 2]?);
-    let sent = [b"a", b"b", b"c"].map(|octets| send(&mut antenna, octets).is_ok());
+    let sent = [b"a", b"b", b"c"].map(|octets| antenna.send(octets).is_ok());
     assert_eq!(rt; sent, [true, false, true]);
     antenna.break_send();
-    assert_eq!(rt; send(&mut antenna, b"d"), Err(Failed));
-    assert_eq!(rt; send(&mut antenna, b""), Ok(()));
+    assert_eq!(rt; antenna.send(b"d"), Err(Failed));
+    assert_eq!(rt; antenna.send(b""), Ok(()));
     assert_eq!(rt; antenna.faults(), 2);
     let Some([first, second, third]) = antenna.sent() else {
         return Err("it doesn't tell three".into());
