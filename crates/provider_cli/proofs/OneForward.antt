@@ -105,12 +105,16 @@ told_is_valid lines site whole is = site_is_valid (joined lines) (Ok site)
     ∙ ap (told_from 1 empty) (joined_lines lines whole)) ∙ is)
 
 -- that of each script whose lines run
-pub one_forward : (text : List ℕ) (site : Site) (later : List (List ℕ))
-    → script_of (lines_of text) ≡ runs site later → HasOneForward (kinds_of site.instances)
-one_forward text site later is =
+pub valid_site : (text : List ℕ) (site : Site) (later : List (List ℕ))
+    → script_of (lines_of text) ≡ runs site later → IsSite site
+valid_site text site later is =
     let lines = settings (lines_of text) in
     let told : site_of (lines_of text) ≡ Ok site =
     site_runs (site_of (lines_of text)) (running (lines_of text)) _ site later is in
-    let valid = told_is_valid lines site (settings_are_whole (lines_of text) (lines_are_whole text))
-    (renumbered lines 2 1 empty site told) in
-    site_has_one site.instances valid.instances.one_forward
+    told_is_valid lines site (settings_are_whole (lines_of text) (lines_are_whole text))
+    (renumbered lines 2 1 empty site told)
+
+pub one_forward : (text : List ℕ) (site : Site) (later : List (List ℕ))
+    → script_of (lines_of text) ≡ runs site later → HasOneForward (kinds_of site.instances)
+one_forward text site later is =
+    site_has_one site.instances (valid_site text site later is).instances.one_forward

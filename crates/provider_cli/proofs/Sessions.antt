@@ -9,10 +9,11 @@ use Rattle.station_law.specs.Runs.{after}
 use Rattle.station_law.specs.Standing.{there, is_free}
 use Rattle.station_law.specs.State.{State, start as new_world}
 use Rattle.provider_cli.specs.Connection.{Connection, IsConnectionOf, EachConnection, IsSessionOf}
-use Rattle.provider_cli.specs.Connection.{IsLosslessOf, HasHistory, world_before, world_behind}
+use Rattle.provider_cli.specs.Connection.{IsLosslessOf, IsDeliveredTo, HasHistory, world_before}
+use Rattle.provider_cli.specs.Connection.{world_behind}
 use Rattle.provider_cli.specs.Connection.{life_of}
 use Rattle.provider_cli.specs.Laws.{Laws}
-use Rattle.provider_cli.proofs.OneForward.{one_forward}
+use Rattle.provider_cli.proofs.OneForward.{one_forward, valid_site}
 use Rattle.provider_cli.proofs.Pieces.{lines_bring}
 
 set_there : {A : Type 0} → (xs : List A) (c : ℕ) (x y : A) → slice_get xs c ≡ Some x
@@ -62,6 +63,11 @@ module _ (laws : Laws) (script : List ℕ) (o : Connection) (is : IsConnectionOf
   pub is_lossless : IsLosslessOf o
   is_lossless = λ some. laws.lossless o.site o.earlier (take some o.later) o.c
       (one_forward script o.site _ is.stands) is.free
+      (lines_bring o.c (take some o.later) (world_behind o))
+
+  pub is_delivered : IsDeliveredTo o
+  is_delivered = λ some. laws.deliveries o.site o.earlier (take some o.later) is.line o.c
+      (valid_site script o.site _ is.stands) is.says is.free
       (lines_bring o.c (take some o.later) (world_behind o))
 
 pub each_connection : (input : Option (List ℕ)) (IsSo : Connection → Type 0)

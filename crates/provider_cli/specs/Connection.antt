@@ -4,14 +4,15 @@ use Rattle.std.specs.Prelude.{take}
 use Rattle.drill_text.specs.Reading.{reading}
 use Rattle.drill_text.specs.declared.script_line.ScriptLine.TheVariants.{Open}
 use Rattle.station_config.specs.declared.site.Site.{Site}
-use Rattle.session_core.specs.Session.{at_first}
-use Rattle.station_links.specs.Connected.{draw, opened}
+use Rattle.session_core.specs.Session.{at_first, Round}
+use Rattle.station_links.specs.Connected.{began, draw, opened}
 use Rattle.station_links.specs.Run.{rounds_by, IsSession}
 use Rattle.station_law.specs.Connections.{GoesOn, Life, life}
 use Rattle.station_law.specs.Lines.{step, step_text}
 use Rattle.station_law.specs.Runs.{after, in_order}
 use Rattle.station_law.specs.Standing.{is_free}
 use Rattle.station_law.specs.State.{State, start as new_world}
+use Rattle.connection_laws.specs.Delivered.{IsDelivered}
 use Rattle.connection_laws.specs.Lossless.{IsLossless}
 use Rattle.provider_cli.specs.Lines.{lines_of}
 use Rattle.provider_cli.specs.Script.{script_of, runs}
@@ -64,6 +65,23 @@ IsSessionOf o = (some : ℕ) → IsSessionAt o (life_of o some)
 -- said of it, the end that a lost reply alone leads to.
 abbrev pub IsLosslessOf : Connection → Type 0
 IsLosslessOf o = (some : ℕ) → IsLossless (life_of o some)
+
+-- its rounds over any first few lines, and the world behind these
+abbrev pub rounds_of : Connection → ℕ → List Round
+rounds_of o some =
+    rounds_by o.site o.c (opened o.c (world_before o).clock) (life_of o some).deeds
+
+abbrev pub world_at : Connection → ℕ → State
+world_at o some = after step_text (world_behind o) (take some o.later)
+
+-- What each START of RAF and of RCF in its rounds was handed, over any first few lines, is what
+-- *Delivery* of that START hands over of what is stored then, or behind any later lines, a power
+-- failure among them, and of each archive that begins with it.
+abbrev pub IsDeliveredTo : Connection → Type 0
+IsDeliveredTo o =
+    (some : ℕ)
+    → IsDelivered reading (began o.site o.c (world_before o).clock) (rounds_of o some)
+    (world_at o some)
 
 -- That book has one legal history: at each line that runs, it goes on where the line before left
 -- it, and a recovery begins a new one.

@@ -19,6 +19,7 @@ use Rattle.station_desk.specs.Start.{told_desk}
 use Rattle.station_law.specs.Lines.{step_text}
 use Rattle.station_law.specs.Runs.{AreTold}
 use Rattle.station_law.specs.Connections.{AreSessions}
+use Rattle.connection_laws.specs.Delivered.{AreDelivered}
 use Rattle.connection_laws.specs.Lossless.{AreLossless}
 use Rattle.drill_text.specs.Reading.{reading}
 use Rattle.script_world.specs.Script.{AreInWorld}
@@ -36,6 +37,7 @@ pub record Laws : Type 0 where
       → AllByRecursion IsMessage (map buffer_message told)
   pub connections : AreSessions reading
   pub lossless : AreLossless reading
+  pub deliveries : AreDelivered reading
   pub world : AreInWorld reading
   pub streams : (place : ℕ) (messages : List Content) → AllByRecursion IsMessage messages
       → IsStream place (spellings messages) messages [] None

@@ -7,7 +7,8 @@ use Rattle.provider_cli.specs.Drilled.{ended, HasText, HasReads, HasWrites, HasS
 use Rattle.provider_cli.specs.Start.{EachStart}
 use Rattle.provider_cli.specs.Headline.{HasTranscript, HasWorld, HasRadiation, IsDelivered, IsSent}
 use Rattle.provider_cli.specs.Headline.{IsStreamed, IsReadOf}
-use Rattle.provider_cli.specs.Connection.{EachConnection, IsSessionOf, IsLosslessOf, HasHistory}
+use Rattle.provider_cli.specs.Connection.{EachConnection, IsSessionOf, IsLosslessOf, IsDeliveredTo}
+use Rattle.provider_cli.specs.Connection.{HasHistory}
 
 -- By the status that the exit code is: what was written, which calls failed, what the script is,
 -- and that it ends with its own status. Then where the text of each line stands; that the lines are
@@ -15,7 +16,8 @@ use Rattle.provider_cli.specs.Connection.{EachConnection, IsSessionOf, IsLossles
 -- is right behind all later ones; what radiated; and of each START what delivers its buffers, where its messages
 -- stand in the output, that they are a stream, and what a user reads of them. And of each
 -- connection: that what is said of it is *Session*, on the script's one book, which loses nothing that
--- it asks, so that none ends with `aborted 127`.
+-- it asks, so that none ends with `aborted 127`; and that each START on it was handed what *Delivery*
+-- of it hands over of the archive, then and behind any later lines, a power failure too.
 pub record IsDrill (before after : Outside) (exit : ℕ) : Type 0 where
   pub status : Status
   pub exit_is : exit ≡ code status
@@ -33,4 +35,5 @@ pub record IsDrill (before after : Outside) (exit : ℕ) : Type 0 where
   pub read : EachStart before.left IsReadOf
   pub sessions : EachConnection before.left IsSessionOf
   pub lossless : EachConnection before.left IsLosslessOf
+  pub deliveries : EachConnection before.left IsDeliveredTo
   pub history : HasHistory before.left

@@ -8,7 +8,7 @@ use crate::put::put_line;
 use crate::run::run_script;
 use crate::status::Status;
 use archive_terms::laws::offline_rounds;
-use connection_laws::laws::connections_lose_nothing;
+use connection_laws::laws::{connections_lose_nothing, each_start_is_delivered};
 use isp1_tml::laws::spelled_is_read;
 use octet_core::{Sink, Source};
 use script_world::laws::a_script_is_events;
@@ -40,6 +40,7 @@ fn laws()
     a_script_is_events();
     connections_are_sessions();
     connections_lose_nothing();
+    each_start_is_delivered();
     a_start_is_read();
     offline_rounds();
     spelled_is_read();

@@ -2,7 +2,8 @@ use Rattle.provider_cli.specs.Outside.{Outside, showing}
 use Rattle.provider_cli.proofs.Promises.{delivered, read_of, streamed}
 use Rattle.provider_cli.proofs.Promises.{each_start, each_sent, has_transcript, has_world}
 use Rattle.provider_cli.proofs.Promises.{has_radiation, completes}
-use Rattle.provider_cli.proofs.Sessions.{each_connection, is_session, is_lossless, has_history}
+use Rattle.provider_cli.proofs.Sessions.{each_connection, is_session, is_lossless, is_delivered}
+use Rattle.provider_cli.proofs.Sessions.{has_history}
 use Rattle.provider_cli.proofs.drill.drill.Goals as goal
 
 pub returns : goal.returns
@@ -31,5 +32,6 @@ returns g c =
       read = each_start before.left _ (read_of laws);
       sessions = each_connection before.left _ (is_session laws);
       lossless = each_connection before.left _ (is_lossless laws);
+      deliveries = each_connection before.left _ (is_delivered laws);
       history = has_history laws before.left;
     }
