@@ -8,8 +8,9 @@
 //
 // Where the place has a port for that, a stop is asked for there. Then the doors give no further
 // link, the links that are out and the source come to an end, and so the run does. The source of
-// entries looks at each call, and so does the antenna's worker at each reading of its clock: it is
-// the last one to go, and looks also where a fault has ended the recorder, which calls the source.
+// entries looks at each call that has no line left to give, and the antenna's worker at each
+// reading of its clock: it is the last one to go, and looks also where a fault has ended the
+// recorder, which calls the source.
 #![tactic(auto)]
 
 mod files;

@@ -116,11 +116,17 @@ impl Heard {
         }
     }
 
-    /// Looks for the stop, and reports it where it is asked for now.
+    /// Looks for the stop where no whole line is held, and reports it where it is asked for now.
     pub fn look<W: Write>(&self, reports: &mut W) {
-        if let Some(stop) = &self.stop {
-            stop.look(self.alloc, reports);
+        match &self.stop {
+            Some(stop) if !self.holds_line() => stop.look(self.alloc, reports),
+            _ => {}
         }
+    }
+
+    // Whether a whole line is held.
+    fn holds_line(&self) -> bool {
+        memchr(b'\n', &self.octets[self.taken..self.end]).is_some()
     }
 
     // Whether it is to stop.

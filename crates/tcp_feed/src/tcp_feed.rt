@@ -60,8 +60,8 @@ impl<W: Write + Send + Drop> TcpFeed<W> {
         })
     }
 
-    /// Has it look for this stop at each call and end at it, and go on with the next connection
-    /// where one ends before.
+    /// Has it end at this stop, for which it looks at each call that has no line left to give, and
+    /// go on with the next connection where one ends before.
     pub fn end_at(&mut self, stop: Stop)
         ensures { self.new ≡ self.old }
     {
@@ -142,7 +142,7 @@ impl<W: Write + Send + Drop> FrameSource for TcpFeed<W> {
 
     ghost faults = { λ feed. feed.faults };
 
-    /// The entry of the next line that says one, where it has come whole. It looks for a stop first.
+    /// The entry of the next line that says one, where it has come whole.
     fn next(&mut self) -> Feed {
         self.heard.look(&mut self.reports);
         let answer = next_of(&mut self.heard);
