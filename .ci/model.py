@@ -1,7 +1,8 @@
 #!/usr/bin/env python3
 """Compares the built provider with a second program for `drill`, over random scripts.
 
-usage: model.py PROGRAM [COUNT]     COUNT scripts, 1000 if left out, the same in each run
+usage: model.py PROGRAM [COUNT]     COUNT scripts, 1000 if left out, the same in each run; then one
+                                    of 2,000 lines for each 125, and the struck ones of a pass
 
 The second program (drills.py, sessions.py) follows docs/PROFILE.md and shares nothing with the
 first. A user's decoder (reading.py) then reads the messages that the built program wrote, and what
@@ -16,7 +17,7 @@ from collections import Counter
 sys.dont_write_bytecode = True
 from drills import drill
 from reading import read_sent
-from passes import random_script
+from passes import long_script, random_script, struck_scripts
 
 
 def told_kinds(transcript):
@@ -28,10 +29,16 @@ def told_kinds(transcript):
     return kinds
 
 
+def scripts(count):
+    """All scripts, the random ones first."""
+    yield from map(random_script, range(count))
+    yield from map(long_script, range(count // 125))
+    yield from struck_scripts()
+
+
 def main(program, count):
-    messages, kinds = 0, Counter()
-    for seed in range(count):
-        script = random_script(seed)
+    messages, many, kinds = 0, 0, Counter()
+    for script in scripts(count):
         done = subprocess.run([program, "drill"], input=script, capture_output=True)
         code, written, said, site = drill(script)
         lines = [line for line in done.stdout.split(b"\n") if line.startswith(b"sent ")]
@@ -41,10 +48,10 @@ def main(program, count):
                 kept.write(script)
             sys.exit(f"model: the programs differ on {kept.name}: "
                      f"exit codes {done.returncode} and {code}")
-        messages += sum(map(len, said))
+        messages, many = messages + sum(map(len, said)), many + 1
         kinds += told_kinds(written)
     ends = sum(many for kind, many in kinds.items() if kind.startswith("ended "))
-    print(f"model: {count} scripts with {messages} messages, each read back to what it says, and "
+    print(f"model: {many} scripts with {messages} messages, each read back to what it says, and "
           f"{ends} ends of connections, and no difference")
 
 

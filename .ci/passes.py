@@ -1,9 +1,10 @@
 """Random scripts of passes: users who bind instances of RAF and RCF, start them and ask for reports,
-while entries come, the clock goes on and links stall.
+while entries come, the clock goes on and links stall. Some are long, and some strike the store of one
+entry in the midst of a pass, at each of its calls.
 """
 import random
 
-from commanding import commands_script
+from commanding import Commands, commands_script
 from drills import Run, context_message, line_of
 from forms import DAY_MILLIS, MILLI, SECOND, pdu_message
 from scripts import INSTANCES, PEERS, Entries, Users, entries_script, users_script
@@ -117,6 +118,48 @@ def pass_script(pick):
         if not made.add(*made.next()):
             break
     return made.lines
+
+
+def kept_lines(made, many):
+    """So many lines, without those at which the script would end."""
+    while len(made.lines) < many:
+        for line in made.next():
+            try:
+                says = line_of(line)
+                if says is not None:
+                    made.run.line(says)
+            except ValueError:
+                continue
+            made.lines.append(line)
+    return made.lines
+
+
+def long_script(seed, many=2_000):
+    """Lines of users who follow a pass, or send telecommands, whose entries go on to the end."""
+    pick = random.Random(f"long {seed}")
+    made = Pass(pick) if seed % 2 else Commands(pick)
+    entries = made.entries if seed % 2 else made.users.entries
+    entries.spread(many)
+    return b"\n".join(kept_lines(made, many)) + b"\n"
+
+
+# the calls of two stores of one entry, and of a reopen between them
+CALLS = range(1, 13)
+ORDERS = [b"fault %d", b"crash %d old", b"crash %d new", b"crash %d torn"]
+
+
+def struck_scripts():
+    """Of one pass: at a place in it a power failure, or a fault, at each call of a store."""
+    for order in ORDERS:
+        for call in CALLS:
+            made = Pass(random.Random("struck"))
+            made.entries.spread(400)
+            kept_lines(made, 80)
+            made.add(order % call)
+            for _ in range(3):
+                made.entries.at += 1
+                made.add(made.entries.frame(made.entries.at))
+            yield b"\n".join(kept_lines(made, 160)) + b"\n"
 
 
 def random_script(seed):

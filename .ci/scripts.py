@@ -130,8 +130,14 @@ class Entries:
 
     def __init__(self, pick):
         self.pick, self.at = pick, 0
+        self.spread(12)
+        self.is_near = False
+
+    def spread(self, many):
+        """Has so many times, in order; an entry that goes off them isn't far ahead."""
+        pick, self.is_near = self.pick, True
         self.stamps = sorted((pick.choice([0, 20_000, 65_535]), pick.randrange(DAY_MILLIS),
-                              pick.choice([0, 1, 999, 999.5])) for _ in range(12))
+                              pick.choice([0, 1, 999, 999.5])) for _ in range(many))
 
     def stamp(self, at):
         days, millis, micros = self.stamps[at]
@@ -142,7 +148,8 @@ class Entries:
     def line(self):
         pick, kind = self.pick, self.pick.random()
         # Most entries come in order; some go back.
-        place = self.at if pick.random() < 0.9 else pick.randrange(len(self.stamps))
+        many = min(self.at + 2, len(self.stamps)) if self.is_near else len(self.stamps)
+        place = self.at if pick.random() < 0.9 else pick.randrange(many)
         if kind < 0.6:
             return self.frame(place)
         if kind < 0.66:
