@@ -203,7 +203,7 @@ def unproved(copy, check):
         found = copy.run([b"rehearse", b"7"], stdin=file, given=given)
         check("unproved rehearse", found[:2], (0, b"a\nb"))
         check("unproved rehearse, input", (file.tell(), copy.noted("input")), (0, b""))
-    where = f"{copy.top}/crates/provider_cli try --seconds 600 -- rehearse 7\n"
+    where = f"{copy.top}/crates/drill_cli try --seconds 600 -- rehearse 7\n"
     check("unproved rehearse, words", copy.noted("words"), where.encode())
     with open("/dev/full", "wb") as full:
         check("unproved, write fault", copy.run([b"drill"], given=given, stdout=full)[0], 1)

@@ -49,9 +49,10 @@ fcltu_service CltuAnswer.returned invoke|fcltu_service CltuParameter ReportingCy
 fcltu_service CltuParameter ReturnTimeout|fcltu_service Fcltu.new timeout
 raf_service Raf.new timeout|rcf_service Rcf.new timeout|report_cycle Schedule cycle
 return_service ReturnService.new timeout
-provider_cli init_archive ->|provider_cli list_archive ->|provider_cli drill ->
-provider_cli provide_on ->|provider_cli provide ->|provider_cli tell ->|provider_cli rehearse ->
-provider_cli Status.code ->|provider_cli put_bad_site cause|station_config SiteFault cause
+archive_commands init_archive ->|archive_commands list_archive ->|script_commands drill ->
+script_commands rehearse ->|script_commands put_bad_site cause|command_ends tell ->
+command_ends Status.code ->|provider_commands provide_on ->|provider_commands provide ->
+station_config SiteFault cause
 sle_numbers Numbered.number ->|sle_numbers Numbered.from_number number
 user_lines Tag.number ->|user_lines Told invoke|user_lines Told name
 explain_cli Status.code ->|explain_lines StreamLine tag|explain_words put_name number

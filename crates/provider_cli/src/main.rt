@@ -1,49 +1,25 @@
-// The ground station's provider.
+// The ground station's provider, over its standard input and output and the file of a path.
 //
-// `drill` reads a script of received frames, other entries, clock readings, STARTs of an offline
-// return service and connections of users, has its lines run in the world of `station_law`, and
-// writes the transfer buffers that a user would be handed and what a connection's user hears.
-// `init` makes an archive file, and `list` writes the entries of one.
-// `rehearse` makes a pass of frames from a number, and writes what a START over all of it comes to.
-// `provide` is the program over any input, output and disk; `main` gives it the standard ones, and
-// the disk over the file of a path.
+// `provider_commands` has the commands, and `command_words` the words that ask for them. Here stand
+// the disk over the file that a command names, and what the program promises of the words that the
+// system gave.
 #![tactic(auto)]
 
-ghost use Rattle.std.specs.Prelude.{◌≡◌, ◌↔◌, IfOk, IfErr, IfSome, OnErr, IsErr, IsSome};
-ghost use Rattle.std.specs.Prelude.{[], drop, map, string_bytes};
+ghost use Rattle.std.specs.Prelude.{◌≡◌, IfOk, IfErr, IfSome, OnErr, IsSome, map, string_bytes};
 ghost use Rattle.std.specs.IoError.{error_kind};
 ghost use Rattle.std.specs.Process.{exit_status};
 ghost use Rattle.std.specs.Str.{IsUtf8};
-ghost use Rattle.std.specs.Vec.Iter.{into_iter_items};
-ghost use Rattle.provider_cli.specs.Command.{plan_of, asked, NeedsDisk, IsUntold};
-ghost use Rattle.provider_cli.specs.Outside.{showing};
-ghost use Rattle.provider_cli.specs.Provided.{IsAnswered, IsFileOf, IsOnFile};
+ghost use Rattle.command_words.specs.Command.{plan_of, asked, NeedsDisk};
+ghost use Rattle.command_ends.specs.Ends.{IsUntold};
+ghost use Rattle.command_ends.specs.Outside.{showing};
+ghost use Rattle.provider_commands.specs.Provided.{IsAnswered, IsFileOf, IsOnFile};
 
-mod archive_file;
-mod command;
-mod digits;
-mod drill;
-mod ending;
-mod entry_line;
-mod head;
-mod lines;
-mod listing;
-mod number;
-mod plan;
-mod provide;
-mod put;
-mod rehearse;
-mod run;
-mod status;
-
-use crate::command::plan;
-use crate::plan::Plan;
-use crate::provide::{Equipment, provide_on};
-use crate::status::Status;
+use command_ends::Status;
+use command_words::{Plan, plan, texts_of, words_of};
 use disk_model::FileDisk;
 use octet_core::{Octets, ReaderSource, Sink, Source, WriterSink};
+use provider_commands::{Equipment, provide_on};
 use std::alloc::{AllocError, Global};
-use std::env::Args;
 use std::io::ErrorKind;
 use std::process::ExitCode;
 use std::{env, io, str};
@@ -79,45 +55,6 @@ fn exit_of<I: Source, O: Sink>(
         Err(_) => Status::Memory.code(),
     };
     ExitCode::from(exit)
-}
-
-// The words behind the program's name. A word that is no text is outside every command, as no word
-// at all is.
-fn words_of(alloc: Global, arguments: io::Result<Args>) -> Result<Vec<String>, AllocError>
-    ensures words { IfOk arguments (λ arguments. IfOk result
-        (λ words. words.items ≡ drop 1 (into_iter_items arguments))) }
-    ensures no_text { IfErr arguments (λ _. IfOk result (λ words. words.items ≡ [])) }
-    ensures memory { IfErr arguments
-        (λ error. IsErr result ↔ (error_kind error ≡ ErrorKind.OutOfMemory)) }
-{
-    match arguments {
-        Ok(arguments) => behind_name(alloc, arguments),
-        Err(error) if error.kind() == ErrorKind::OutOfMemory => Err(AllocError),
-        Err(_) => Ok(Vec::new(alloc)),
-    }
-}
-
-// The arguments behind the first, which is the program's name.
-fn behind_name(alloc: Global, arguments: Args) -> Result<Vec<String>, AllocError>
-    ensures { IfOk result (λ words. words.items ≡ drop 1 (into_iter_items arguments)) }
-{
-    let mut arguments = arguments;
-    match arguments.next() {
-        Some(_) => gathered(alloc, arguments),
-        None => Ok(Vec::new(alloc)),
-    }
-}
-
-// All of these arguments.
-fn gathered(alloc: Global, arguments: Args) -> Result<Vec<String>, AllocError>
-    ensures { IfOk result (λ words. words.items ≡ into_iter_items arguments) }
-{
-    let mut words = Vec::new(alloc);
-    let mut arguments = arguments;
-    while let Some(word) = arguments.next() {
-        words.push(word)?;
-    }
-    Ok(words)
 }
 
 // Runs the command of these words on the kit, and on the file that they name, and answers its exit
@@ -176,18 +113,6 @@ fn provide_over<I: Source, O: Sink>(
         result }
 {
     provide_on(alloc, words, Ok(disk), kit)
-}
-
-// The words, lent as texts.
-fn texts_of(alloc: Global, words: &[String]) -> Result<Vec<&str>, AllocError>
-    ensures { IfOk result
-        (λ texts. map (λ text. text.now) texts.items ≡ map string_bytes words.now) }
-{
-    let mut texts = Vec::new(alloc);
-    for word in words {
-        texts.push(word.as_str())?;
-    }
-    Ok(texts)
 }
 
 // The disk over the file that a command names, and none for another command: `init` makes the file

@@ -1,0 +1,2 @@
+mod PiecesSpelled
+mod Pieces

@@ -1,0 +1,53 @@
+-- A command for whose path memory was refused: nothing was read, written or asked of a disk.
+use Rattle.std.proofs.Common.{◌≡◌, ℕ, List, Option, Some, None, IfSome, IsSomeAnd, refl, subst}
+use Rattle.disk_model.specs.Images.{Pending}
+use Rattle.disk_model.specs.Moments.{IsImageOf}
+use Rattle.command_words.specs.declared.commands.Plan.{Plan}
+use Rattle.command_ends.specs.declared.status.Status.TheVariants.{Memory}
+use Rattle.archive_commands.specs.Archives.{unasked, IsInit, IsList}
+use Rattle.command_words.specs.Command.{NeedsDisk}
+use Rattle.command_ends.specs.Ends.{code}
+use Rattle.command_ends.specs.Outside.{Outside}
+use Rattle.provider_commands.specs.Provided.{IsProvided}
+use Rattle.archive_commands.proofs.ListOutcomes.{unlisted, closes_unwritten}
+
+module _ {D : Type 0} (pending : D → Option Pending) (extent moment : D → ℕ)
+    (images_since : D → ℕ → List ℕ → Type 0) (faults : D → ℕ)
+    (only_now : (disk : D) (image : List ℕ) → images_since disk (moment disk) image
+    → IsImageOf (pending disk) image) (output : Option (List ℕ)) (f exit : ℕ)
+    (is : exit ≡ code Memory)
+  where
+    unmade : (disk : Option D) → IfSome disk (λ old. IsSomeAnd disk (λ new. IsInit pending extent
+        moment images_since faults old new output output f f exit))
+    unmade None = tt
+    unmade (Some disk) = record {
+      how = unasked;
+      leaves = refl;
+      closes = closes_unwritten output f Memory exit is;
+    }
+
+    unread : (disk : Option D) → IfSome disk (λ old. IsSomeAnd disk (λ new. IsList pending moment
+        images_since faults old new output output f f exit))
+    unread None = tt
+    unread (Some disk) =
+        unlisted pending moment images_since faults disk output f exit is (only_now disk)
+
+pub unprovided : {D : Type 0} (pending : D → Option Pending) (extent moment : D → ℕ)
+    (images_since : D → ℕ → List ℕ → Type 0) (faults : D → ℕ)
+    → ((disk : D) (image : List ℕ) → images_since disk (moment disk) image
+    → IsImageOf (pending disk) image)
+    → (plan : Option Plan) (disk : Option D) (outside : Outside) (exit : ℕ) → exit ≡ code Memory
+    → NeedsDisk plan
+    → IsProvided pending extent moment images_since faults plan disk disk outside outside exit
+unprovided pending extent moment images_since faults only_now plan disk outside exit is needs =
+    record {
+      usage = λ none. absurd (subst NeedsDisk none needs);
+      drilled = λ drill. absurd (subst NeedsDisk drill needs);
+      made = λ path init. unmade pending extent moment images_since faults only_now outside.written
+          outside.write_faults exit is disk;
+      listed = λ path list. unread pending extent moment images_since faults only_now
+          outside.written outside.write_faults exit is disk;
+      rehearsed = λ n rehearses. absurd (subst NeedsDisk rehearses needs);
+      unread = λ other. record { left = refl; faults = refl };
+      kept = λ other. refl;
+    }

@@ -1,0 +1,6 @@
+pub mod Running
+pub mod Outcomes
+pub mod Promises
+pub mod Rehearsals
+pub mod OneForward
+pub mod Sessions

@@ -1,0 +1,92 @@
+-- The connections of a script, each from the line that opens it, and what a drill promises of them.
+use Rattle.std.specs.Prelude.{◌≡◌, ℕ, IsTrue, IfSome, Option, Some, List, ◌∷◌, ◌++◌, slice_get}
+use Rattle.std.specs.Prelude.{take}
+use Rattle.drill_text.specs.Reading.{reading}
+use Rattle.drill_text.specs.declared.script_line.ScriptLine.TheVariants.{Open}
+use Rattle.station_config.specs.declared.site.Site.{Site}
+use Rattle.session_core.specs.Session.{at_first, Round}
+use Rattle.station_links.specs.Connected.{began, draw, opened}
+use Rattle.station_links.specs.Run.{rounds_by, IsSession}
+use Rattle.station_law.specs.Connections.{GoesOn, Life, life}
+use Rattle.station_law.specs.Lines.{step, step_text}
+use Rattle.station_law.specs.Runs.{after, in_order}
+use Rattle.station_law.specs.Standing.{is_free}
+use Rattle.station_law.specs.State.{State, start as new_world}
+use Rattle.connection_laws.specs.Delivered.{IsDelivered}
+use Rattle.connection_laws.specs.Lossless.{IsLossless}
+use Rattle.script_head.specs.Lines.{lines_of}
+use Rattle.script_commands.specs.Script.{script_of, runs}
+
+-- a connection: the site, the lines before the one that opens it, those behind it, and its number
+pub record Connection : Type 0 where
+  pub site : Site
+  pub earlier : List (List ℕ)
+  pub later : List (List ℕ)
+  pub c : ℕ
+
+-- the world that its line finds, and the one behind it
+abbrev pub world_before : Connection → State
+world_before o = after step_text (new_world o.site) o.earlier
+
+abbrev pub world_behind : Connection → State
+world_behind o = (step (world_before o) (Open o.c)).next
+
+-- it is opened by one of the lines that a script runs, behind lines in order, at a free door
+pub record IsConnectionOf (script : List ℕ) (o : Connection) : Type 0 where
+  pub line : List ℕ
+  pub stands : script_of (lines_of script) ≡ runs o.site (o.earlier ++ line ∷ o.later)
+  pub good : IsTrue (in_order step_text (new_world o.site) o.earlier)
+  pub says : reading line ≡ Some (Open o.c)
+  pub free : IsTrue (is_free (slice_get (world_before o).doors.connections o.c))
+
+-- each connection of the script that an input has left, where it tells, is so
+abbrev pub EachConnection : Option (List ℕ) → (Connection → Type 0) → Type 0
+EachConnection input IsSo =
+    IfSome input (λ script. (o : Connection) → IsConnectionOf script o → IsSo o)
+
+-- its life over any first few of the lines behind it: what comes, is ordered and turns; what the
+-- transcript's lines say of it; and its events of the book
+abbrev pub life_of : Connection → ℕ → Life
+life_of o some = life reading o.c (world_behind o) (take some o.later)
+
+-- A life is *Session* of exactly its pieces, closes, breaks, stalls and rounds, at the clock's
+-- readings, over the answers of the world's one book.
+abbrev pub IsSessionAt : Connection → Life → Type 0
+IsSessionAt o v =
+    let opening = (world_before o).clock in
+    IsSession o.site o.c (at_first o.c draw opening) v.said v.events
+    (rounds_by o.site o.c (opened o.c opening) v.deeds)
+
+-- so is its life over any first few lines
+abbrev pub IsSessionOf : Connection → Type 0
+IsSessionOf o = (some : ℕ) → IsSessionAt o (life_of o some)
+
+-- Over any first few lines the book answers nothing of it Lost, and no line `ended C aborted 127` is
+-- said of it, the end that a lost reply alone leads to.
+abbrev pub IsLosslessOf : Connection → Type 0
+IsLosslessOf o = (some : ℕ) → IsLossless (life_of o some)
+
+-- its rounds over any first few lines, and the world behind these
+abbrev pub rounds_of : Connection → ℕ → List Round
+rounds_of o some =
+    rounds_by o.site o.c (opened o.c (world_before o).clock) (life_of o some).deeds
+
+abbrev pub world_at : Connection → ℕ → State
+world_at o some = after step_text (world_behind o) (take some o.later)
+
+-- What each START of RAF and of RCF in its rounds was handed, over any first few lines, is what
+-- *Delivery* of that START hands over of what is stored then, or behind any later lines, a power
+-- failure among them, and of each archive that begins with it.
+abbrev pub IsDeliveredTo : Connection → Type 0
+IsDeliveredTo o =
+    (some : ℕ)
+    → IsDelivered reading (began o.site o.c (world_before o).clock) (rounds_of o some)
+    (world_at o some)
+
+-- That book has one legal history: at each line that runs, it goes on where the line before left
+-- it, and a recovery begins a new one.
+abbrev pub HasHistory : Option (List ℕ) → Type 0
+HasHistory input =
+    IfSome input (λ script. (site : Site) (earlier later : List (List ℕ)) (line : List ℕ)
+    → script_of (lines_of script) ≡ runs site (earlier ++ line ∷ later)
+    → GoesOn (after step_text (new_world site) earlier) (reading line))

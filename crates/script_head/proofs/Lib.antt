@@ -1,0 +1,4 @@
+pub mod Parts
+pub mod FirstLines
+pub mod Settings
+pub mod Heads
