@@ -2,11 +2,11 @@
 use Rattle.std.proofs.Common.{◌≡◌, ℕ, List, ◌++◌, Option, Result, Ok, Err, OnOk, OnErr, refl}
 use Rattle.std.proofs.Common.{sym, ap, ◌∙◌, append_assoc}
 use Rattle.std.specs.Result.{IsErrAnd}
-use Rattle.station_law.specs.Output.{Wrote}
-use Rattle.station_law.specs.Steps.{Behind, behind_as, step_on, stopped_by, stopped_before}
-use Rattle.station_law.specs.Steps.{at_start}
-use Rattle.station_law.specs.declared.stop.Stop.{Stop}
-use Rattle.station_law.specs.declared.stop.Stop.TheVariants.{Memory}
+use Rattle.script_store.specs.Output.{Wrote}
+use Rattle.script_store.specs.Steps.{Behind, behind_as, step_on, stopped_by, stopped_before}
+use Rattle.script_store.specs.Steps.{at_start}
+use Rattle.script_store.specs.declared.stop.Stop.{Stop}
+use Rattle.script_store.specs.declared.stop.Stop.TheVariants.{Memory}
 use Rattle.archive_commands.specs.Archives.{Empties}
 
 -- a line was put behind what a block held, and the block was written where it was full

@@ -12,10 +12,10 @@ use Rattle.gate_journal.specs.File.{StandsFor, StandsAt}
 use Rattle.gate_journal.specs.Reading.{LedTo}
 use Rattle.gate_journal.specs.Batches.{BatchesState, HasPassed, StandsForSome}
 use Rattle.drill_text.specs.Reading.{entry_text}
-use Rattle.station_law.specs.Output.{Wrote}
-use Rattle.station_law.specs.Steps.{Behind, behind_as, step_on, stopped_by, stopped_before}
-use Rattle.station_law.specs.Steps.{at_start}
-use Rattle.station_law.specs.declared.stop.Stop.{Stop}
+use Rattle.script_store.specs.Output.{Wrote}
+use Rattle.script_store.specs.Steps.{Behind, behind_as, step_on, stopped_by, stopped_before}
+use Rattle.script_store.specs.Steps.{at_start}
+use Rattle.script_store.specs.declared.stop.Stop.{Stop}
 use Rattle.archive_commands.specs.declared.ending.Ending.{Ending}
 use Rattle.archive_commands.specs.Archives.{offered, entries_text, IsFrontOf, ReadTo, Gathers, Puts}
 use Rattle.archive_commands.specs.Archives.{ending_of, Empties}

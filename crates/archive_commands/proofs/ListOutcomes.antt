@@ -19,9 +19,9 @@ use Rattle.archive_commands.specs.Archives.{failed_behind}
 use Rattle.archive_commands.specs.Archives.{stopped_behind, changed_behind, listed_by, LeavesListed}
 use Rattle.archive_commands.specs.Archives.{IsFrontOf, IsCutShort, IsList}
 use Rattle.command_ends.specs.Ends.{Closes, code, closed}
-use Rattle.station_law.specs.Output.{Wrote}
-use Rattle.station_law.specs.declared.stop.Stop.{Stop}
-use Rattle.station_law.specs.declared.stop.Stop.TheVariants as stops
+use Rattle.script_store.specs.Output.{Wrote}
+use Rattle.script_store.specs.declared.stop.Stop.{Stop}
+use Rattle.script_store.specs.declared.stop.Stop.TheVariants as stops
 use Rattle.command_ends.specs.declared.status.Status.{Status}
 use Rattle.command_ends.specs.declared.status.Status.TheVariants as ends
 

@@ -28,10 +28,10 @@ use Rattle.gate_journal.specs.File.{StandsFor}
 use Rattle.gate_journal.specs.JournalState.{Keeps, IsBegun}
 use Rattle.gate_journal.specs.Reading.{IsNoJournal, IsDamagedAt}
 use Rattle.drill_text.specs.Reading.{entry_text}
-use Rattle.station_law.specs.Output.{Wrote}
-use Rattle.station_law.specs.Steps.{Behind}
-use Rattle.station_law.specs.declared.stop.Stop.{Stop}
-use Rattle.station_law.specs.declared.stop.Stop.TheVariants as stops
+use Rattle.script_store.specs.Output.{Wrote}
+use Rattle.script_store.specs.Steps.{Behind}
+use Rattle.script_store.specs.declared.stop.Stop.{Stop}
+use Rattle.script_store.specs.declared.stop.Stop.TheVariants as stops
 use Rattle.archive_commands.specs.declared.ending.Ending.{Ending}
 use Rattle.archive_commands.specs.declared.ending.Ending.TheVariants as endings
 use Rattle.command_ends.specs.declared.status.Status.{Status}

@@ -7,7 +7,7 @@ ghost use Rattle.disk_model.specs.Images.{all_synced};
 ghost use Rattle.gate_journal.specs.JournalState.{OnlyReads};
 ghost use Rattle.gate_journal.specs.Batches.{StandsForSome};
 ghost use Rattle.gate_journal.specs.declared.batch_fault.BatchFault.TheVariants as BatchFault;
-ghost use Rattle.station_law.specs.Output.{Wrote};
+ghost use Rattle.script_store.specs.Output.{Wrote};
 ghost use Rattle.command_ends.specs.Ends.{Closes, closed, code};
 ghost use Rattle.archive_commands.specs.Archives.{IsInit, IsList, IsOfReading, listed_by};
 ghost use Rattle.archive_commands.specs.Archives.{entries_text, listed_status, listed_text};
@@ -20,7 +20,7 @@ use disk_model::Disk;
 use gate_journal::{BatchFault, Batches, Journal, JournalFault};
 use octet_core::Sink;
 use record_form::Entries;
-use station_law::Stop;
+use script_store::Stop;
 use std::alloc::Global;
 
 const DISK_FAULT: &[u8] = b"disk fault\n";

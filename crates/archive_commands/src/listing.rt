@@ -9,8 +9,8 @@ ghost use Rattle.record_form.specs.Lent.{lent_entry};
 ghost use Rattle.drill_text.specs.Reading.{entry_text};
 ghost use Rattle.gate_journal.specs.JournalState.{OnlyReads};
 ghost use Rattle.gate_journal.specs.Batches.{StandsForSome};
-ghost use Rattle.station_law.specs.Output.{Wrote};
-ghost use Rattle.station_law.specs.Steps.{Behind};
+ghost use Rattle.script_store.specs.Output.{Wrote};
+ghost use Rattle.script_store.specs.Steps.{Behind};
 ghost use Rattle.archive_commands.specs.declared.ending.Ending.TheVariants as Ending;
 ghost use Rattle.archive_commands.specs.Archives.{entries_text, offered, Empties, Gathers, Puts};
 ghost use Rattle.archive_commands.specs.Archives.{ending_of};
@@ -22,7 +22,7 @@ use disk_model::Disk;
 use gate_journal::{Batch, BatchFault, Batches};
 use octet_core::Sink;
 use record_form::{Entry, EntryRef};
-use station_law::Stop;
+use script_store::Stop;
 use std::alloc::Global;
 
 // How many octets are put together before they are written: whole pages of the system, and so many

@@ -1,8 +1,8 @@
 -- A command that ends behind writes that may have failed.
 use Rattle.std.proofs.Common.{◌≡◌, ℕ, List, Option, Result, Ok, Err, inl, inr, refl, ⊎_elim}
-use Rattle.station_law.specs.declared.stop.Stop.{Stop}
-use Rattle.station_law.specs.declared.stop.Stop.TheVariants as stops
-use Rattle.station_law.specs.Output.{Wrote}
+use Rattle.script_store.specs.declared.stop.Stop.{Stop}
+use Rattle.script_store.specs.declared.stop.Stop.TheVariants as stops
+use Rattle.script_store.specs.Output.{Wrote}
 use Rattle.command_ends.specs.declared.status.Status.{Status}
 use Rattle.command_ends.specs.Ends.{code, closed, Closes}
 

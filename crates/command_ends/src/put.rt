@@ -1,11 +1,11 @@
 // What a command writes.
 ghost use Rattle.std.specs.Prelude.{◌≡◌, IfErr};
-ghost use Rattle.station_law.specs.Output.{Wrote};
+ghost use Rattle.script_store.specs.Output.{Wrote};
 ghost use Rattle.command_ends.specs.Ends.{Tells};
 
 use crate::status::Status;
 use octet_core::Sink;
-use station_law::Stop;
+use script_store::Stop;
 
 /// Writes a text as the whole of a command's, and answers the exit code. It takes no memory.
 pub fn tell<O: Sink>(text: &[u8], own: Status, output: &mut O) -> u8

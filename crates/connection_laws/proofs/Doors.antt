@@ -29,18 +29,18 @@ use Rattle.station_uplink.specs.declared.turn.Turn.{Turn}
 use Rattle.station_uplink.specs.declared.turn.Turn.TheVariants as turns
 use Rattle.station_uplink.specs.Turns.{Turned, events_of}
 use Rattle.station_uplink.specs.Facts.{is_of_antenna, turn_holds}
-use Rattle.station_law.specs.Answer.{Answer, is_wrong}
+use Rattle.script_store.specs.Answer.{Answer, is_wrong}
 use Rattle.station_law.specs.Desk.{desk}
 use Rattle.station_law.specs.Doors.{Act, Doors, act_of, acted, acted_on, anew, opens, ordered}
 use Rattle.station_law.specs.Doors.{rounds_of}
-use Rattle.station_law.specs.Entries.{offer}
+use Rattle.script_store.specs.Entries.{offer}
 use Rattle.station_law.specs.Lines.{connected, doors_behind, offered, recorded, uplinked, turn_at}
 use Rattle.station_law.specs.Lines.{step, step_read}
-use Rattle.station_law.specs.Orders.{pick_of}
-use Rattle.station_law.specs.Power.{crash_line, fault_line}
+use Rattle.script_store.specs.Orders.{pick_of}
+use Rattle.script_store.specs.Power.{crash_line, fault_line}
 use Rattle.station_law.specs.Standing.{there}
 use Rattle.station_law.specs.State.{State}
-use Rattle.station_law.specs.Store.{Store}
+use Rattle.script_store.specs.Store.{Store}
 use Rattle.connection_laws.specs.Laws.{Laws}
 use Rattle.connection_laws.proofs.Books.{StaysOf, later_of, new_free, new_of, none_both, quit_frees}
 use Rattle.connection_laws.proofs.Books.{replay-append}

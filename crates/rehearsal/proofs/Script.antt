@@ -16,14 +16,14 @@ use Rattle.record_form.specs.declared.entry.Entry.TheVariants as entries
 use Rattle.drill_text.specs.declared.script_line.ScriptLine.{ScriptLine}
 use Rattle.drill_text.specs.declared.script_line.ScriptLine.TheVariants.{Offer, Desk}
 use Rattle.station_config.specs.declared.site.Site.{Site}
-use Rattle.station_law.specs.Store.{Store, blank}
+use Rattle.script_store.specs.Store.{Store, blank}
 use Rattle.station_uplink.specs.Turns.{silent}
 use Rattle.station_law.specs.Doors.{Doors, anew}
 use Rattle.station_desk.specs.Start.{moment}
 use Rattle.station_law.specs.State.{State, start}
 use Rattle.station_desk.specs.ToldBuffer.{ToldBuffer}
-use Rattle.station_law.specs.Said.{handed, texts}
-use Rattle.station_law.specs.Entries.{need, used, free, stores}
+use Rattle.script_store.specs.Said.{handed, texts}
+use Rattle.script_store.specs.Entries.{need, used, free, stores}
 use Rattle.station_law.specs.Lines.{step, recorded, doors_behind}
 use Rattle.station_law.specs.Runs.{transcript_from, text_behind, after}
 use Rattle.sle_numbers.specs.declared.requested_frame_quality.RequestedFrameQuality.TheVariants.{GoodFramesOnly}

@@ -9,7 +9,7 @@ use Rattle.sle_numbers.specs.declared.requested_frame_quality.RequestedFrameQual
 use Rattle.station_config.specs.declared.site.Site.{Site}
 use Rattle.station_law.specs.State.{start}
 use Rattle.station_desk.specs.ToldBuffer.{ToldBuffer, message_octets}
-use Rattle.station_law.specs.Said.{sent_text}
+use Rattle.script_store.specs.Said.{sent_text}
 use Rattle.station_law.specs.Lines.{step}
 use Rattle.station_law.specs.Runs.{transcript, after}
 use Rattle.rehearsal.specs.Frames.{time_at, quality_at, octets_at, archive}

@@ -18,7 +18,7 @@ use Rattle.station_world.specs.World.{World, before_all}
 use Rattle.station_world.specs.Comes.{AllCome}
 use Rattle.drill_text.specs.Reading.{reading}
 use Rattle.station_law.specs.State.{start as new_world}
-use Rattle.station_law.specs.Said.{handed, texts}
+use Rattle.script_store.specs.Said.{handed, texts}
 use Rattle.station_law.specs.Lines.{step_text}
 use Rattle.station_law.specs.Runs.{IsTold, transcript, transcript_from}
 use Rattle.script_world.specs.Script.{origin, script_events, world_behind}

@@ -2,14 +2,14 @@
 use Rattle.std.proofs.Common.{◌≡◌, ℕ, zero, suc, ◌+◌, ◌<◌, Bool, true, false, ◌&&◌, List, []}
 use Rattle.std.proofs.Common.{◌∷◌, ◌++◌, length, Option, Some, None, Result, Ok, Err, IfOk, refl}
 use Rattle.std.proofs.Common.{sym, ap, ◌∙◌, append-nil, arith}
-use Rattle.station_law.specs.declared.step_done.StepDone.{StepDone}
-use Rattle.station_law.specs.declared.step_done.StepDone.TheVariants.{Fine, Full, WrongState}
+use Rattle.script_store.specs.declared.step_done.StepDone.{StepDone}
+use Rattle.script_store.specs.declared.step_done.StepDone.TheVariants.{Fine, Full, WrongState}
 use Rattle.station_config.specs.Drafts.{Refusal}
 use Rattle.station_config.specs.declared.site.Site.{Site}
 use Rattle.station_law.specs.State.{State, start}
-use Rattle.station_law.specs.Said.{texts}
+use Rattle.script_store.specs.Said.{texts}
 use Rattle.station_law.specs.Standing.{Seen, Stands}
-use Rattle.station_law.specs.Output.{Wrote}
+use Rattle.script_store.specs.Output.{Wrote}
 use Rattle.station_law.specs.Lines.{step_text}
 use Rattle.station_law.specs.Runs.{bad_line, text_behind, transcript_from, is_in_order, is_fine}
 use Rattle.station_law.specs.Runs.{in_order, all_fine}
@@ -21,7 +21,7 @@ use Rattle.script_commands.specs.Script.{script_of, bad_site_line, script_text, 
 use Rattle.script_commands.specs.Script.{status_of}
 use Rattle.script_commands.specs.Script.{text_at}
 use Rattle.script_head.proofs.FirstLines.{line_in, behind_in, lines_first}
-use Rattle.station_law.specs.Steps.{Behind, behind_as, step_on}
+use Rattle.script_store.specs.Steps.{Behind, behind_as, step_on}
 
 abbrev pub text_from : ℕ → State → List ℕ → List ℕ
 text_from number state text = transcript_from step_text number state (lines_of text)

@@ -12,7 +12,7 @@ use Rattle.command_ends.specs.declared.status.Status.{Status}
 use Rattle.station_desk.specs.declared.limits.TheConstants.{BUFFER_ITEMS}
 use Rattle.sle_numbers.specs.RequestedFrameQuality.{number_of}
 use Rattle.station_law.specs.State.{start as new_world}
-use Rattle.station_law.specs.Said.{sent_text}
+use Rattle.script_store.specs.Said.{sent_text}
 use Rattle.station_desk.specs.Start.{selection}
 use Rattle.station_law.specs.Lines.{step_text}
 use Rattle.station_law.specs.Runs.{transcript, transcript_from, AreTold}

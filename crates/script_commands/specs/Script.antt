@@ -5,12 +5,12 @@ use Rattle.std.specs.Prelude.{IfOk, OnOk, List, [], ◌∷◌, ◌++◌, length,
 use Rattle.std.specs.Fmt.{decimal}
 use Rattle.station_config.specs.Drafts.{Refusal}
 use Rattle.station_config.specs.declared.site.Site.{Site}
-use Rattle.station_law.specs.declared.step_done.StepDone.{StepDone}
-use Rattle.station_law.specs.declared.stop.Stop.{Stop}
+use Rattle.script_store.specs.declared.step_done.StepDone.{StepDone}
+use Rattle.script_store.specs.declared.stop.Stop.{Stop}
 use Rattle.station_law.specs.Standing.{Seen, Stands}
 use Rattle.station_law.specs.State.{State, start}
-use Rattle.station_law.specs.Said.{texts}
-use Rattle.station_law.specs.Answer.{Answer}
+use Rattle.script_store.specs.Said.{texts}
+use Rattle.script_store.specs.Answer.{Answer}
 use Rattle.station_law.specs.Lines.{step_text}
 use Rattle.station_law.specs.Runs.{bad_line, text_behind, transcript, in_order, all_fine}
 use Rattle.command_ends.specs.declared.status.Status.{Status}

@@ -1,11 +1,11 @@
 // The lines that a script's command writes, beside those of the world.
-ghost use Rattle.station_law.specs.Output.{Wrote};
+ghost use Rattle.script_store.specs.Output.{Wrote};
 ghost use Rattle.station_law.specs.Runs.{bad_line};
 ghost use Rattle.script_commands.specs.Script.{bad_site_line};
 
 use command_ends::put_line;
 use octet_core::Sink;
-use station_law::Stop;
+use script_store::Stop;
 use std::alloc::Global;
 
 /// Says which line is outside the grammar or in a wrong state.

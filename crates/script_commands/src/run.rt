@@ -1,9 +1,9 @@
 // A script is run line by line.
 ghost use Rattle.std.specs.Prelude.{◌≡◌, ◌+◌, ◌≤◌, [], IfOk, OnErr, length};
 ghost use Rattle.station_law.specs.Lines.{step_text};
-ghost use Rattle.station_law.specs.Output.{Wrote};
+ghost use Rattle.script_store.specs.Output.{Wrote};
 ghost use Rattle.station_law.specs.Runs.{transcript_from, text_behind, in_order, all_fine};
-ghost use Rattle.station_law.specs.Said.{texts};
+ghost use Rattle.script_store.specs.Said.{texts};
 ghost use Rattle.station_law.specs.Standing.{Stands};
 ghost use Rattle.station_law.specs.State.{State};
 ghost use Rattle.script_head.specs.Lines.{lines_of};
@@ -16,8 +16,9 @@ use command_ends::Status;
 use drill_text::{LineFault, parse_line};
 use octet_core::Sink;
 use script_head::{split_head, split_line};
+use script_store::{StepDone, Stop};
 use station_config::{Site, SiteFault};
-use station_law::{StepDone, Stop, World};
+use station_law::World;
 use std::alloc::Global;
 use std::mem;
 

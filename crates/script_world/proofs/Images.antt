@@ -18,16 +18,16 @@ use Rattle.drill_text.specs.declared.script_line.ScriptLine.TheVariants.{Skip, O
 use Rattle.drill_text.specs.declared.script_line.ScriptLine.TheVariants.{Crash, Fault}
 use Rattle.line_events.specs.Shows.{Shows}
 use Rattle.line_events.specs.Forms.{store_events}
-use Rattle.station_law.specs.declared.order.Order.{Order}
-use Rattle.station_law.specs.declared.order.Strike.{Strike}
-use Rattle.station_law.specs.declared.order.Strike.TheVariants.{Stop, Fail}
-use Rattle.station_law.specs.declared.refusal.Refusal.{Refusal}
-use Rattle.station_law.specs.Orders.{is_hit, behind_store, leaves_entry, found, pick_of}
-use Rattle.station_law.specs.Entries.{struck, stores, stores_under}
-use Rattle.station_law.specs.Entries as entries
-use Rattle.station_law.specs.Power.{fails_now, orders}
-use Rattle.station_law.specs.Said.{Handed}
-use Rattle.station_law.specs.Answer.{is_wrong}
+use Rattle.script_store.specs.declared.order.Order.{Order}
+use Rattle.script_store.specs.declared.order.Strike.{Strike}
+use Rattle.script_store.specs.declared.order.Strike.TheVariants.{Stop, Fail}
+use Rattle.script_store.specs.declared.refusal.Refusal.{Refusal}
+use Rattle.script_store.specs.Orders.{is_hit, behind_store, leaves_entry, found, pick_of}
+use Rattle.script_store.specs.Entries.{struck, stores, stores_under}
+use Rattle.script_store.specs.Entries as entries
+use Rattle.script_store.specs.Power.{fails_now, orders}
+use Rattle.script_store.specs.Said.{Handed}
+use Rattle.script_store.specs.Answer.{is_wrong}
 use Rattle.station_law.specs.Doors.{Acted, act}
 use Rattle.station_law.specs.State.{State}
 use Rattle.station_law.specs.Lines.{offered, connected, uplinked, turn_at, turned_or_acted, step}

@@ -31,19 +31,19 @@ use Rattle.station_desk.specs.Start.{moment}
 use Rattle.line_events.specs.Shows.{View, Shows}
 use Rattle.line_events.specs.Forms.{LeadTo, LinesAreEvents, power_events, start_events}
 use Rattle.line_events.specs.Forms.{store_events}
-use Rattle.station_law.specs.declared.order.Order.{Order}
-use Rattle.station_law.specs.declared.order.Strike.{Strike}
-use Rattle.station_law.specs.declared.order.Strike.TheVariants.{Stop, Fail}
-use Rattle.station_law.specs.declared.refusal.Refusal.{Refusal}
-use Rattle.station_law.specs.declared.refusal.Refusal.TheVariants as refusals
-use Rattle.station_law.specs.Store.{Store}
-use Rattle.station_law.specs.Orders.{is_hit, behind_store, leaves_entry, found, pick_of}
-use Rattle.station_law.specs.Entries.{need, free, struck, stores, stores_under}
-use Rattle.station_law.specs.Entries as entries
-use Rattle.station_law.specs.Power.{fails_now, orders}
+use Rattle.script_store.specs.declared.order.Order.{Order}
+use Rattle.script_store.specs.declared.order.Strike.{Strike}
+use Rattle.script_store.specs.declared.order.Strike.TheVariants.{Stop, Fail}
+use Rattle.script_store.specs.declared.refusal.Refusal.{Refusal}
+use Rattle.script_store.specs.declared.refusal.Refusal.TheVariants as refusals
+use Rattle.script_store.specs.Store.{Store}
+use Rattle.script_store.specs.Orders.{is_hit, behind_store, leaves_entry, found, pick_of}
+use Rattle.script_store.specs.Entries.{need, free, struck, stores, stores_under}
+use Rattle.script_store.specs.Entries as entries
+use Rattle.script_store.specs.Power.{fails_now, orders}
 use Rattle.station_law.specs.Desk.{desk, said_at_start, handed_at_start}
-use Rattle.station_law.specs.Said.{Handed, handed_by, linked, told, refused}
-use Rattle.station_law.specs.Answer.{Answer, says, is_wrong}
+use Rattle.script_store.specs.Said.{Handed, handed_by, linked, told, refused}
+use Rattle.script_store.specs.Answer.{Answer, says, is_wrong}
 use Rattle.station_law.specs.Doors.{Acted, act}
 use Rattle.station_law.specs.State.{State}
 use Rattle.station_law.specs.Lines.{recorded, offered, connected, uplinked, turn_at}

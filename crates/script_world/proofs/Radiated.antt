@@ -18,15 +18,15 @@ use Rattle.station_uplink.specs.declared.aloft.Aloft.{Aloft}
 use Rattle.station_uplink.specs.declared.turn.Turn.{Turn}
 use Rattle.station_uplink.specs.declared.turn.Turn.TheVariants as turns
 use Rattle.station_uplink.specs.Turns.{Uplink, turn_of, found, taken_by, done_by}
-use Rattle.station_law.specs.Store.{Store}
+use Rattle.script_store.specs.Store.{Store}
 use Rattle.station_law.specs.State.{State}
-use Rattle.station_law.specs.Answer.{Answer, is_wrong}
-use Rattle.station_law.specs.Said.{linked, handed, radiated_by}
+use Rattle.script_store.specs.Answer.{Answer, is_wrong}
+use Rattle.script_store.specs.Said.{linked, handed, radiated_by}
 use Rattle.station_law.specs.Doors.{Acted, act}
-use Rattle.station_law.specs.Entries.{offer}
+use Rattle.script_store.specs.Entries.{offer}
 use Rattle.station_law.specs.Desk.{desk}
-use Rattle.station_law.specs.Orders.{pick_of}
-use Rattle.station_law.specs.Power.{crash_line, fault_line}
+use Rattle.script_store.specs.Orders.{pick_of}
+use Rattle.script_store.specs.Power.{crash_line, fault_line}
 use Rattle.station_law.specs.Lines.{recorded, offered, uplink_behind, connected, uplinked, turn_at}
 use Rattle.station_law.specs.Lines.{turned_or_acted, step, step_read}
 use Rattle.station_law.specs.Runs.{after}

@@ -13,7 +13,7 @@ use Rattle.station_world.specs.Stays.{WhatWasDoneStays}
 use Rattle.line_events.specs.Shows.{View, Shows}
 use Rattle.line_events.specs.Forms.{first_events, LeadTo, LinesAreEvents}
 use Rattle.station_law.specs.State.{State, start}
-use Rattle.station_law.specs.Said.{Handed, handed_by}
+use Rattle.script_store.specs.Said.{Handed, handed_by}
 use Rattle.station_law.specs.Lines.{step_read}
 use Rattle.station_law.specs.Connections.{AreSessions}
 use Rattle.station_law.specs.Runs.{after, handed_after}

@@ -25,13 +25,13 @@ use Rattle.station_world.specs.World.{World, Event}
 use Rattle.station_world.specs.Calls.{call_events}
 use Rattle.line_events.specs.Forms.{store_events, struck_events, failed_events, power_events}
 use Rattle.line_events.specs.Forms.{clock_events, start_events, radiate_events}
-use Rattle.station_law.specs.declared.order.Order.{Order}
-use Rattle.station_law.specs.declared.order.Strike.{Strike}
-use Rattle.station_law.specs.declared.order.Strike.TheVariants.{Stop, Fail}
-use Rattle.station_law.specs.declared.refusal.Refusal.{Refusal}
-use Rattle.station_law.specs.Store.{Store}
-use Rattle.station_law.specs.Orders.{is_hit, leaves_entry}
-use Rattle.station_law.specs.Entries.{refusal}
+use Rattle.script_store.specs.declared.order.Order.{Order}
+use Rattle.script_store.specs.declared.order.Strike.{Strike}
+use Rattle.script_store.specs.declared.order.Strike.TheVariants.{Stop, Fail}
+use Rattle.script_store.specs.declared.refusal.Refusal.{Refusal}
+use Rattle.script_store.specs.Store.{Store}
+use Rattle.script_store.specs.Orders.{is_hit, leaves_entry}
+use Rattle.script_store.specs.Entries.{refusal}
 use Rattle.station_law.specs.Doors.{act}
 use Rattle.station_law.specs.State.{State}
 use Rattle.station_law.specs.Lines.{turn_at}

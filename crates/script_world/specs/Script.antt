@@ -13,8 +13,8 @@ use Rattle.station_world.specs.Archives.{StandsForOne}
 use Rattle.line_events.specs.Shows.{Told, View, Shows}
 use Rattle.line_events.specs.Forms.{first_events}
 use Rattle.station_law.specs.State.{State, start}
-use Rattle.station_law.specs.Said.{Handed, radiated_by}
-use Rattle.station_law.specs.Answer.{Answer}
+use Rattle.script_store.specs.Said.{Handed, radiated_by}
+use Rattle.script_store.specs.Answer.{Answer}
 use Rattle.station_law.specs.Lines.{step, step_read}
 use Rattle.station_law.specs.Runs.{after, handed_after}
 use Rattle.script_world.specs.Events.{events_of, events_read}

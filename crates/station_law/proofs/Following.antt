@@ -14,17 +14,18 @@ use Rattle.station_uplink.specs.Standing.{IsUplink}
 use Rattle.station_uplink.specs.Standing as uplinks
 use Rattle.station_uplink.specs.Turns.{Uplink, silent, turn_of}
 use Rattle.sle_numbers.specs.declared.requested_frame_quality.RequestedFrameQuality.{RequestedFrameQuality}
-use Rattle.station_law.specs.declared.outcome.Outcome.{Outcome}
-use Rattle.station_law.specs.declared.outcome.Outcome.TheVariants.{Stored, Refused, Crashed, Failed}
-use Rattle.station_law.specs.Store.{Store, Recorded}
+use Rattle.script_store.specs.declared.outcome.Outcome.{Outcome}
+use Rattle.script_store.specs.declared.outcome.Outcome.TheVariants.{Stored, Refused, Crashed}
+use Rattle.script_store.specs.declared.outcome.Outcome.TheVariants.{Failed}
+use Rattle.script_store.specs.Store.{Store, Recorded}
 use Rattle.station_law.specs.Doors.{Doors}
 use Rattle.station_law.specs.State.{State}
-use Rattle.station_law.specs.Orders.{pick_of}
-use Rattle.station_law.specs.Power.{crash_line}
-use Rattle.station_law.specs.Outcomes.{said_of, done_of}
-use Rattle.station_law.specs.Entries.{offer}
+use Rattle.script_store.specs.Orders.{pick_of}
+use Rattle.script_store.specs.Power.{crash_line}
+use Rattle.script_store.specs.Outcomes.{said_of, done_of}
+use Rattle.script_store.specs.Entries.{offer}
 use Rattle.station_law.specs.Standing.{DoorsSeen, AreDoors, Seen, uplink_seen}
-use Rattle.station_law.specs.Stopped.{IsDone}
+use Rattle.script_store.specs.Stopped.{IsDone}
 use Rattle.station_law.specs.Does.{IsTaken}
 use Rattle.station_law.specs.Lines.{doors_by, doors_behind, uplink_by, uplink_behind, recorded}
 use Rattle.station_law.specs.Lines.{offered, turned_or_acted, step}

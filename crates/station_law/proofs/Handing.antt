@@ -7,11 +7,11 @@ use Rattle.std.proofs.lemmas.List.{drop_more, drop_all}
 use Rattle.std.specs.Result.{IsErrAnd}
 use Rattle.station_desk.specs.ToldBuffer.{message_octets}
 use Rattle.station_desk.specs.Cursor.{Cursor, at_next, current}
-use Rattle.station_law.specs.declared.stop.Stop.{Stop}
-use Rattle.station_law.specs.declared.stop.Stop.TheVariants.{Memory}
-use Rattle.station_law.specs.Output.{Wrote}
-use Rattle.station_law.specs.Said.{handed, sent_text, texts}
-use Rattle.station_law.specs.Steps.{Behind, stopped_before}
+use Rattle.script_store.specs.declared.stop.Stop.{Stop}
+use Rattle.script_store.specs.declared.stop.Stop.TheVariants.{Memory}
+use Rattle.script_store.specs.Output.{Wrote}
+use Rattle.script_store.specs.Said.{handed, sent_text, texts}
+use Rattle.script_store.specs.Steps.{Behind, stopped_before}
 
 -- the text of the buffers behind those that were handed over
 abbrev pub text_to_come : Cursor → List ℕ

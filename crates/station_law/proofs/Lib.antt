@@ -1,8 +1,3 @@
-pub mod Disks
-pub mod WorldArchives
-pub mod Striking
-pub mod Reopening
-pub mod Worlds
 pub mod AtDoors
 pub mod Following
 pub mod Lives

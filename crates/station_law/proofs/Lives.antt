@@ -38,21 +38,21 @@ use Rattle.station_uplink.specs.declared.uplink_line.UplinkLine.{UplinkLine}
 use Rattle.station_uplink.specs.Turns.{Turned, events_of}
 use Rattle.station_uplink.specs.Facts.{is_of_antenna, turn_holds}
 use Rattle.sle_numbers.specs.RequestedFrameQuality.{number_of}
-use Rattle.station_law.specs.Store.{Store}
+use Rattle.script_store.specs.Store.{Store}
 use Rattle.station_law.specs.Doors.{Act, Acted, act_of, acted, acted_on, acted_by, opens, Doors}
 use Rattle.station_law.specs.Doors.{Ran, ordered, rounds_of, anew, act}
 use Rattle.station_desk.specs.Start.{moment, told_desk}
 use Rattle.station_law.specs.State.{State}
 use Rattle.station_desk.specs.ToldBuffer.{ToldBuffer}
-use Rattle.station_law.specs.Said.{linked, uplink, handed}
-use Rattle.station_law.specs.Answer.{Answer, ends, is_wrong}
-use Rattle.station_law.specs.declared.step_done.StepDone.{StepDone}
-use Rattle.station_law.specs.declared.step_done.StepDone.TheVariants.{Fine, WrongState}
+use Rattle.script_store.specs.Said.{linked, uplink, handed}
+use Rattle.script_store.specs.Answer.{Answer, ends, is_wrong}
+use Rattle.script_store.specs.declared.step_done.StepDone.{StepDone}
+use Rattle.script_store.specs.declared.step_done.StepDone.TheVariants.{Fine, WrongState}
 use Rattle.station_law.specs.Standing.{there}
-use Rattle.station_law.specs.Entries.{offer}
+use Rattle.script_store.specs.Entries.{offer}
 use Rattle.station_law.specs.Desk.{desk}
-use Rattle.station_law.specs.Orders.{pick_of}
-use Rattle.station_law.specs.Power.{crash_line, fault_line}
+use Rattle.script_store.specs.Orders.{pick_of}
+use Rattle.script_store.specs.Power.{crash_line, fault_line}
 use Rattle.station_law.specs.Lines.{recorded, offered, connected, uplinked, turn_at, step}
 use Rattle.station_law.specs.Lines.{step_read}
 use Rattle.station_law.specs.Connections.{at_door, turns_of, orders_in, deeds_by, deeds_at, said_at}

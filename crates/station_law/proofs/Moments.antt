@@ -1,5 +1,5 @@
 -- What the images of a world's disk are at every moment of a line.
-use Rattle.std.proofs.Common.{◌≡◌, ℕ, false, inl, Option, List, [], refl, ap, subst, ◌∙◌, arith}
+use Rattle.std.proofs.Common.{◌≡◌, ℕ, List, [], ap, subst, ◌∙◌, arith}
 use Rattle.archive_terms.specs.Archive.{Entry}
 use Rattle.record_form.specs.Entry.{entry_of}
 use Rattle.record_form.specs.declared.entry.Entry as form
@@ -9,44 +9,18 @@ use Rattle.drill_text.specs.declared.pick.Pick.{Pick}
 use Rattle.drill_text.specs.declared.script_line.ScriptLine.{ScriptLine}
 use Rattle.drill_text.specs.declared.script_line.ScriptLine.TheVariants.{Offer, Crash}
 use Rattle.drill_text.specs.Reading.{HasValidEntry}
-use Rattle.gate_journal.specs.JournalState.{IsOldOrNew}
-use Rattle.station_law.specs.declared.recorder.Recorder.TheInside.{Inside}
-use Rattle.station_law.specs.Store.{Store}
-use Rattle.station_law.specs.Answer.{Answer}
-use Rattle.station_law.specs.Entries.{offer}
-use Rattle.station_law.specs.IsHeld.{IsHeld, begun_list, KeepsAllOrNone}
-use Rattle.station_law.specs.Orders.{pick_of}
-use Rattle.station_law.specs.Power.{crash_line}
+use Rattle.script_store.specs.Store.{Store}
+use Rattle.script_store.specs.Answer.{Answer}
+use Rattle.script_store.specs.Entries.{offer}
+use Rattle.script_store.specs.IsHeld.{KeepsAllOrNone}
+use Rattle.script_store.specs.Orders.{pick_of}
+use Rattle.script_store.specs.Power.{crash_line}
 use Rattle.station_law.specs.State.{State}
-use Rattle.station_law.specs.Stopped.{HoldsAlone}
+use Rattle.script_store.specs.Stopped.{HoldsAlone}
 use Rattle.station_law.specs.Standing.{Seen, Stands}
 use Rattle.station_law.specs.Lines.{step}
-use Rattle.station_law.proofs.Disks.{unmoved}
+use Rattle.script_store.specs.Unmoved.{left_alone}
 use Rattle.station_law.proofs.Following.{offer_line_is, crash_line_is}
-use Rattle.station_law.proofs.WorldArchives.{stands_alone}
-
--- ---- a recorder
-
--- unless it is spent each image stands for what is published
-pub holds_alone : (w : Inside) → IsHeld w.archive w.published w.times w.begun w.order w.is_spent
-    → w.is_spent ≡ false → HoldsAlone w.archive.disk w.published
-holds_alone w held ready image is = stands_alone w.published image
-    (subst (λ (begun : Option form.Entry). IsOldOrNew w.published (begun_list begun) image)
-    (held.ready ready).none_begun (held.images image is))
-
--- where a disk is as it was
-pub left_alone : (old new : DiskState) (entries batch : List Entry) → new ≡ old
-    → HoldsAlone old entries → KeepsAllOrNone old new entries batch
-left_alone old new entries batch same alone =
-    rw same (unmoved old (IsOldOrNew entries batch) (λ image is. inl (alone image is)))
-
-pub idle : (w : Inside) → IsHeld w.archive w.published w.times w.begun w.order w.is_spent
-    → w.is_spent ≡ false → (batch : List Entry)
-    → KeepsAllOrNone w.archive.disk w.archive.disk w.published batch
-idle w held ready batch =
-    left_alone w.archive.disk w.archive.disk w.published batch refl (holds_alone w held ready)
-
--- ---- a world
 
 -- what a step gives to stores, of the state for which a world stood, whose disk is this one then
 module _ (old : Seen) (disk : DiskState) (given : State → List Entry) where

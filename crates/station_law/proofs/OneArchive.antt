@@ -7,15 +7,15 @@ use Rattle.record_form.specs.declared.entry.Entry as form
 use Rattle.drill_text.specs.declared.script_line.ScriptLine.{ScriptLine}
 use Rattle.drill_text.specs.declared.script_line.ScriptLine.TheVariants.{Offer}
 use Rattle.station_uplink.specs.Turns.{silent}
-use Rattle.station_law.specs.declared.outcome.Outcome.{Outcome}
+use Rattle.script_store.specs.declared.outcome.Outcome.{Outcome}
 use Rattle.station_law.specs.declared.said.SaidAt.{SaidAt}
-use Rattle.station_law.specs.Store.{Store, Recorded}
+use Rattle.script_store.specs.Store.{Store, Recorded}
 use Rattle.station_law.specs.Doors.{Doors, Acted, act, doors_after}
 use Rattle.station_law.specs.State.{State}
-use Rattle.station_law.specs.Answer.{Answer}
-use Rattle.station_law.specs.Entries.{offer}
-use Rattle.station_law.specs.Outcomes.{said_of}
-use Rattle.station_law.specs.Stopped.{IsDone}
+use Rattle.script_store.specs.Answer.{Answer}
+use Rattle.script_store.specs.Entries.{offer}
+use Rattle.script_store.specs.Outcomes.{said_of}
+use Rattle.script_store.specs.Stopped.{IsDone}
 use Rattle.station_law.specs.Lines.{doors_by, offered, connected, step}
 use Rattle.station_law.specs.Standing.{DoorsSeen, AreDoors, IsActed, Agree, AgreeUnless}
 use Rattle.station_law.specs.Shown.{HasOneArchive}

@@ -18,10 +18,10 @@ use Rattle.station_links.specs.Connected.{Connected}
 use Rattle.station_uplink.specs.declared.turn.Turn.{Turn}
 use Rattle.station_uplink.specs.Turns.{Turned, events_of}
 use Rattle.station_uplink.specs.Facts.{is_of_antenna, turn_holds}
-use Rattle.station_law.specs.Store.{Store}
+use Rattle.script_store.specs.Store.{Store}
 use Rattle.station_law.specs.Doors.{Act, act_of, rounds_of, acted, opens, act, Acted}
 use Rattle.station_law.specs.State.{State, start}
-use Rattle.station_law.specs.Answer.{Answer}
+use Rattle.script_store.specs.Answer.{Answer}
 use Rattle.station_law.specs.Sound.{IsSound, Moves, Keeps}
 use Rattle.station_law.specs.Runs as runs
 use Rattle.station_law.specs.EntriesFacts.{Grows}

@@ -17,20 +17,20 @@ use Rattle.station_uplink.specs.Turns.{Uplink, Turned, turned}
 use Rattle.station_uplink.specs.Standing.{IsUplink, HasTurned}
 use Rattle.station_uplink.specs.Standing as uplinks
 use Rattle.station_law.specs.declared.said.SaidAt.{SaidAt}
-use Rattle.station_law.specs.declared.step_done.StepDone.{StepDone}
-use Rattle.station_law.specs.declared.step_done.StepDone.TheVariants.{Fine, WrongState}
-use Rattle.station_law.specs.declared.stop.Stop.{Stop}
-use Rattle.station_law.specs.declared.stop.Stop.TheVariants.{WriteFault}
-use Rattle.station_law.specs.Output.{Wrote}
-use Rattle.station_law.specs.Outcomes.{said_of_turn, done_of_turn}
+use Rattle.script_store.specs.declared.step_done.StepDone.{StepDone}
+use Rattle.script_store.specs.declared.step_done.StepDone.TheVariants.{Fine, WrongState}
+use Rattle.script_store.specs.declared.stop.Stop.{Stop}
+use Rattle.script_store.specs.declared.stop.Stop.TheVariants.{WriteFault}
+use Rattle.script_store.specs.Output.{Wrote}
+use Rattle.script_store.specs.Outcomes.{said_of_turn, done_of_turn}
 use Rattle.octet_core.specs.Writing.{writes-none, writes-append, writes-stopped}
 use Rattle.station_law.specs.Doors.{Doors, Acted, act}
 use Rattle.station_law.specs.State.{State}
-use Rattle.station_law.specs.Answer.{Answer}
+use Rattle.script_store.specs.Answer.{Answer}
 use Rattle.station_law.specs.Standing.{AreDoors, IsActed, Seen, Stands, HasDone}
 use Rattle.station_law.specs.Does.{IsTaken, Does}
 use Rattle.station_law.specs.Lines.{connected, uplinked, turn_at}
-use Rattle.station_law.specs.Said.{Said, linked, uplink, text_of, texts}
+use Rattle.script_store.specs.Said.{Said, linked, uplink, text_of, texts}
 
 abbrev pub told_text : ℕ → List LinkLine → List ℕ
 told_text c lines = texts (map (linked c) lines)

@@ -21,7 +21,7 @@ use Rattle.station_links.specs.Run.{Order, Deed, turns, BringsPieces, rounds_by,
 use Rattle.station_links.specs.Run as runs
 use Rattle.station_law.specs.Doors.{Doors, Act, act_of, Acted, act, ordered, anew}
 use Rattle.station_law.specs.State.{State}
-use Rattle.station_law.specs.Said.{Said, linked}
+use Rattle.script_store.specs.Said.{Said, linked}
 use Rattle.station_law.specs.Standing.{there}
 use Rattle.station_law.specs.Lines.{turn_at, step_read, publishing}
 

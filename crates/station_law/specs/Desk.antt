@@ -5,9 +5,9 @@ use Rattle.archive_terms.specs.Archive.{Entry}
 use Rattle.archive_terms.specs.Delivery.{Item}
 use Rattle.station_desk.specs.Start.{moment, terms, told_desk}
 use Rattle.station_desk.specs.ToldBuffer.{ToldBuffer}
-use Rattle.station_law.specs.Store.{Store}
-use Rattle.station_law.specs.Said.{told, refused, begun, handed, Said, Handed}
-use Rattle.station_law.specs.Answer.{Answer, says}
+use Rattle.script_store.specs.Store.{Store}
+use Rattle.script_store.specs.Said.{told, refused, begun, handed, Said, Handed}
+use Rattle.script_store.specs.Answer.{Answer, says}
 
 -- the items of buffers, one after another, without what is told of them
 abbrev pub items_of : List ToldBuffer → List (List Item)

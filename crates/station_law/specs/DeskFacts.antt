@@ -9,11 +9,11 @@ use Rattle.archive_terms.specs.Archive.{Entry}
 use Rattle.archive_terms.specs.Delivery.{Item, Terms}
 use Rattle.archive_terms.specs.Continuity.{told_items, told_buffers, last_frame}
 use Rattle.station_desk.specs.Start.{moment}
-use Rattle.station_law.specs.Store.{Store}
+use Rattle.script_store.specs.Store.{Store}
 use Rattle.station_desk.specs.ToldBuffer.{ToldBuffer}
-use Rattle.station_law.specs.Said.{Handed, told, refused, handed, handed_by}
-use Rattle.station_law.specs.Said.{begun, buffers_handed, told_once, buffers_told}
-use Rattle.station_law.specs.Answer.{says}
+use Rattle.script_store.specs.Said.{Handed, told, refused, handed, handed_by}
+use Rattle.script_store.specs.Said.{begun, buffers_handed, told_once, buffers_told}
+use Rattle.script_store.specs.Answer.{says}
 use Rattle.station_law.specs.Sound.{IsSound, Keeps}
 use Rattle.station_law.specs.EntriesFacts.{leaves_all}
 use Rattle.station_desk.specs.Start.{terms, told_desk}

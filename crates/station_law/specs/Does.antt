@@ -1,16 +1,16 @@
 -- What the call of a line does, by the step that the line takes.
 use Rattle.std.specs.Prelude.{◌≡◌, ℕ, Option, List, Result, IfOk, OnOk, OnErr, IsErrOf}
-use Rattle.station_law.specs.declared.outcome.Outcome.{Outcome}
-use Rattle.station_law.specs.declared.step_done.StepDone.{StepDone}
-use Rattle.station_law.specs.declared.stop.Stop.{Stop}
-use Rattle.station_law.specs.declared.stop.Stop.TheVariants.{WriteFault}
+use Rattle.script_store.specs.declared.outcome.Outcome.{Outcome}
+use Rattle.script_store.specs.declared.step_done.StepDone.{StepDone}
+use Rattle.script_store.specs.declared.stop.Stop.{Stop}
+use Rattle.script_store.specs.declared.stop.Stop.TheVariants.{WriteFault}
 use Rattle.station_law.specs.State.{State}
-use Rattle.station_law.specs.Said.{Said, texts}
-use Rattle.station_law.specs.Answer.{Answer}
+use Rattle.script_store.specs.Said.{Said, texts}
+use Rattle.script_store.specs.Answer.{Answer}
 use Rattle.station_law.specs.Runs.{in_store}
-use Rattle.station_law.specs.Output.{Wrote}
-use Rattle.station_law.specs.Outcomes.{said_of, done_of}
-use Rattle.station_law.specs.Stopped.{IsStopped}
+use Rattle.script_store.specs.Output.{Wrote}
+use Rattle.script_store.specs.Outcomes.{said_of, done_of}
+use Rattle.script_store.specs.Stopped.{IsStopped}
 use Rattle.station_law.specs.Standing.{Seen, Stands, HasDone}
 
 -- a step was taken: this is what it says, and how it ends, and the world stands behind it

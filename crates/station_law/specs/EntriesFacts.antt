@@ -6,21 +6,21 @@ use Rattle.std.proofs.lemmas.List.{append-nil}
 use Rattle.archive_terms.specs.Archive.{Entry, is_archive, IsArchive, is_valid, is_short}
 use Rattle.archive_terms.specs.Archive.{keeps_order, may_follow}
 use Rattle.gate_journal.specs.JournalState.{leaves_batch, holds_batch}
-use Rattle.station_law.specs.declared.order.Order.{Order}
-use Rattle.station_law.specs.declared.order.Strike.{Strike}
-use Rattle.station_law.specs.declared.order.Strike.TheVariants.{Stop, Fail}
-use Rattle.station_law.specs.declared.step_done.StepDone.{StepDone}
-use Rattle.station_law.specs.declared.step_done.StepDone.TheVariants.{Fine}
-use Rattle.station_law.specs.declared.refusal.Refusal.{Refusal}
-use Rattle.station_law.specs.declared.refusal.Refusal.TheVariants as refusals
-use Rattle.station_law.specs.Store.{Store}
-use Rattle.station_law.specs.Orders.{is_hit, behind_store, leaves_entry, found}
-use Rattle.station_law.specs.Said.{Said, Handed, handed_by, told, buffers_handed, buffers_told}
-use Rattle.station_law.specs.Said.{fault}
-use Rattle.station_law.specs.Answer.{ends}
+use Rattle.script_store.specs.declared.order.Order.{Order}
+use Rattle.script_store.specs.declared.order.Strike.{Strike}
+use Rattle.script_store.specs.declared.order.Strike.TheVariants.{Stop, Fail}
+use Rattle.script_store.specs.declared.step_done.StepDone.{StepDone}
+use Rattle.script_store.specs.declared.step_done.StepDone.TheVariants.{Fine}
+use Rattle.script_store.specs.declared.refusal.Refusal.{Refusal}
+use Rattle.script_store.specs.declared.refusal.Refusal.TheVariants as refusals
+use Rattle.script_store.specs.Store.{Store}
+use Rattle.script_store.specs.Orders.{is_hit, behind_store, leaves_entry, found}
+use Rattle.script_store.specs.Said.{Said, Handed, handed_by, told, buffers_handed, buffers_told}
+use Rattle.script_store.specs.Said.{fault}
+use Rattle.script_store.specs.Answer.{ends}
 use Rattle.station_law.specs.Sound.{IsSound, Keeps}
-use Rattle.station_law.specs.Entries.{need, free, notice_of, done_of, by_refusal, offer}
-use Rattle.station_law.specs.Entries.{opened, stores, crashes, struck, stores_under}
+use Rattle.script_store.specs.Entries.{need, free, notice_of, done_of, by_refusal, offer}
+use Rattle.script_store.specs.Entries.{opened, stores, crashes, struck, stores_under}
 
 -- an archive grows by an entry that may follow it
 abbrev pub Grows : Type 0

@@ -14,18 +14,19 @@ use Rattle.drill_text.specs.Reading.{reading}
 use Rattle.sle_numbers.specs.RequestedFrameQuality.{number_of}
 use Rattle.station_uplink.specs.declared.turn.Turn.{Turn}
 use Rattle.station_uplink.specs.Turns.{Uplink, without_air, Turned, turned, turn_of}
-use Rattle.station_law.specs.declared.outcome.Outcome.{Outcome}
-use Rattle.station_law.specs.declared.outcome.Outcome.TheVariants.{Stored, Refused, Crashed, Failed}
-use Rattle.station_law.specs.Store.{Store}
+use Rattle.script_store.specs.declared.outcome.Outcome.{Outcome}
+use Rattle.script_store.specs.declared.outcome.Outcome.TheVariants.{Stored, Refused, Crashed}
+use Rattle.script_store.specs.declared.outcome.Outcome.TheVariants.{Failed}
+use Rattle.script_store.specs.Store.{Store}
 use Rattle.station_law.specs.Doors.{Doors, anew, Acted, act, doors_after}
 use Rattle.station_desk.specs.Start.{moment}
 use Rattle.station_law.specs.State.{State}
-use Rattle.station_law.specs.Said.{linked, uplink}
-use Rattle.station_law.specs.Answer.{Answer, says, is_wrong}
-use Rattle.station_law.specs.Entries.{offer}
+use Rattle.script_store.specs.Said.{linked, uplink}
+use Rattle.script_store.specs.Answer.{Answer, says, is_wrong}
+use Rattle.script_store.specs.Entries.{offer}
 use Rattle.station_law.specs.Desk.{desk}
-use Rattle.station_law.specs.Orders.{pick_of}
-use Rattle.station_law.specs.Power.{crash_line, fault_line}
+use Rattle.script_store.specs.Orders.{pick_of}
+use Rattle.script_store.specs.Power.{crash_line, fault_line}
 
 -- ---- what is stored, and the book
 

@@ -14,18 +14,18 @@ use Rattle.station_uplink.specs.declared.turn.Turn.{Turn}
 use Rattle.station_uplink.specs.declared.uplink_line.UplinkLine.{UplinkLine}
 use Rattle.station_uplink.specs.Turns.{Turned, turn_of}
 use Rattle.sle_numbers.specs.RequestedFrameQuality.{number_of}
-use Rattle.station_law.specs.Store.{Store}
+use Rattle.script_store.specs.Store.{Store}
 use Rattle.station_law.specs.Doors.{Acted, act}
 use Rattle.station_law.specs.State.{State}
-use Rattle.station_law.specs.Said.{Handed, handed_by, linked, uplink, told_once, buffers_told}
-use Rattle.station_law.specs.Answer.{Answer, says, is_wrong}
+use Rattle.script_store.specs.Said.{Handed, handed_by, linked, uplink, told_once, buffers_told}
+use Rattle.script_store.specs.Answer.{Answer, says, is_wrong}
 use Rattle.station_law.specs.Sound.{IsSound, Keeps}
 use Rattle.station_law.specs.Runs.{in_store}
 use Rattle.station_law.specs.Once.{IsLawful}
 use Rattle.station_law.specs.EntriesFacts.{Grows, leaves_all}
 use Rattle.station_law.specs.EntriesFacts as entries
 use Rattle.station_law.specs.DeskFacts as desk
-use Rattle.station_law.specs.Orders.{pick_of}
+use Rattle.script_store.specs.Orders.{pick_of}
 use Rattle.station_law.specs.PowerFacts.{crash_facts, fault_facts}
 use Rattle.station_law.specs.Lines.{recorded, offered, connected, uplinked, turn_at}
 use Rattle.station_law.specs.Lines.{turned_or_acted, step, step_read, step_text}

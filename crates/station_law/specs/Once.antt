@@ -2,11 +2,11 @@
 use Rattle.std.proofs.Common.{◌≡◌, ℕ, suc, ◌+◌, Bool, true, false, ◌&&◌, IsTrue, List, [], ◌∷◌}
 use Rattle.std.proofs.Common.{◌++◌, length, refl, sym, ap, subst, ◌∙◌, append_assoc, zero-add}
 use Rattle.std.proofs.Common.{arith}
-use Rattle.station_law.specs.declared.step_done.StepDone.{StepDone}
-use Rattle.station_law.specs.declared.step_done.StepDone.TheVariants.{Fine, Full, WrongState}
+use Rattle.script_store.specs.declared.step_done.StepDone.{StepDone}
+use Rattle.script_store.specs.declared.step_done.StepDone.TheVariants.{Fine, Full, WrongState}
 use Rattle.station_law.specs.State.{State}
-use Rattle.station_law.specs.Said.{texts}
-use Rattle.station_law.specs.Answer.{Answer}
+use Rattle.script_store.specs.Said.{texts}
+use Rattle.script_store.specs.Answer.{Answer}
 use Rattle.station_law.specs.Sound.{IsSound, Keeps}
 use Rattle.station_law.specs.Runs.{text_behind, ending_behind, is_fine, in_store, is_in_order}
 use Rattle.station_law.specs.Runs.{transcript_from, ending, in_order, all_fine, after, handed_after}

@@ -3,13 +3,13 @@ use Rattle.std.proofs.Common.{ℕ, ◌==◌, Bool, true, false, if◌then◌else
 use Rattle.std.proofs.Common.{arith}
 use Rattle.std.proofs.lemmas.List.{append-nil}
 use Rattle.disk_model.specs.declared.orders.Pick.{Pick}
-use Rattle.station_law.specs.declared.order.Strike.{Strike}
-use Rattle.station_law.specs.declared.order.Strike.TheVariants.{Stop, Fail}
-use Rattle.station_law.specs.Store.{Store}
-use Rattle.station_law.specs.Answer.{is_wrong}
+use Rattle.script_store.specs.declared.order.Strike.{Strike}
+use Rattle.script_store.specs.declared.order.Strike.TheVariants.{Stop, Fail}
+use Rattle.script_store.specs.Store.{Store}
+use Rattle.script_store.specs.Answer.{is_wrong}
 use Rattle.station_law.specs.Sound.{IsSound, Keeps}
 use Rattle.station_law.specs.EntriesFacts.{leaves_all}
-use Rattle.station_law.specs.Power.{fails_now, orders, crash_line, fault_line}
+use Rattle.script_store.specs.Power.{fails_now, orders, crash_line, fault_line}
 
 module _ (state : Store) (sound : IsSound state) where
   pub recovers : Keeps state (fails_now state)

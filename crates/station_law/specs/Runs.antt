@@ -2,12 +2,12 @@
 use Rattle.std.specs.Prelude.{◌≡◌, ℕ, ◌+◌, Bool, true, false, ◌&&◌, IsTrue}
 use Rattle.std.specs.Prelude.{List, [], ◌∷◌, ◌++◌, length, codes}
 use Rattle.std.specs.Fmt.{decimal}
-use Rattle.station_law.specs.declared.step_done.StepDone.{StepDone}
-use Rattle.station_law.specs.declared.step_done.StepDone.TheVariants.{Fine, Full, WrongState}
-use Rattle.station_law.specs.Store.{Store}
+use Rattle.script_store.specs.declared.step_done.StepDone.{StepDone}
+use Rattle.script_store.specs.declared.step_done.StepDone.TheVariants.{Fine, Full, WrongState}
+use Rattle.script_store.specs.Store.{Store}
 use Rattle.station_law.specs.State.{State}
-use Rattle.station_law.specs.Said.{Handed, texts, handed_by, buffers_handed, buffers_told}
-use Rattle.station_law.specs.Answer.{Answer}
+use Rattle.script_store.specs.Said.{Handed, texts, handed_by, buffers_handed, buffers_told}
+use Rattle.script_store.specs.Answer.{Answer}
 
 -- the line that tells the number of a bad line
 abbrev pub bad_line : ℕ → List ℕ

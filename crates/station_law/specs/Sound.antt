@@ -2,9 +2,9 @@
 -- (specs/Once.antt), whatever the lines are.
 use Rattle.std.specs.Prelude.{◌≡◌, ℕ, ◌+◌, Bool, true, false, List, [], ◌++◌, take}
 use Rattle.archive_terms.specs.Archive.{Entry, IsArchive}
-use Rattle.station_law.specs.Store.{Store}
-use Rattle.station_law.specs.Said.{Handed, handed_by, buffers_handed, buffers_told}
-use Rattle.station_law.specs.Answer.{Answer}
+use Rattle.script_store.specs.Store.{Store}
+use Rattle.script_store.specs.Said.{Handed, handed_by, buffers_handed, buffers_told}
+use Rattle.script_store.specs.Answer.{Answer}
 
 -- What is kept from line to line: the published entries are an archive, and the file stands for
 -- them alone.

@@ -12,14 +12,14 @@ use Rattle.station_links.specs.declared.link_line.LinkLine.{LinkLine}
 use Rattle.station_uplink.specs.Standing.{IsUplink}
 use Rattle.station_uplink.specs.Standing as uplinks
 use Rattle.station_law.specs.declared.doors.Turns.{Turns}
-use Rattle.station_law.specs.declared.outcome.Outcome.{Outcome}
-use Rattle.station_law.specs.declared.outcome.Outcome.TheVariants.{Crashed}
+use Rattle.script_store.specs.declared.outcome.Outcome.{Outcome}
+use Rattle.script_store.specs.declared.outcome.Outcome.TheVariants.{Crashed}
 use Rattle.station_law.specs.declared.said.SaidAt.{SaidAt}
-use Rattle.station_law.specs.Store.{Store, Recorded}
+use Rattle.script_store.specs.Store.{Store, Recorded}
 use Rattle.station_law.specs.Sound.{IsSound}
 use Rattle.station_law.specs.Doors.{Doors, Act, Ran, Acted, acted_by, doors_after}
 use Rattle.station_law.specs.State.{State}
-use Rattle.station_law.specs.Answer.{Answer}
+use Rattle.script_store.specs.Answer.{Answer}
 
 -- ---- doors
 

@@ -1,7 +1,7 @@
 -- The world behind a script. This product's own.
 use Rattle.std.specs.Prelude.{ℕ, []}
 use Rattle.station_config.specs.declared.site.Site.{Site}
-use Rattle.station_law.specs.Store.{Store, blank}
+use Rattle.script_store.specs.Store.{Store, blank}
 use Rattle.station_uplink.specs.Turns.{Uplink, silent}
 use Rattle.station_law.specs.Doors.{Doors, anew}
 

@@ -1,14 +1,13 @@
 // The desk, which is connection 0.
 ghost use Rattle.archive_terms.specs.Archive.{IsArchive};
 ghost use Rattle.sle_numbers.specs.RequestedFrameQuality.{number_of};
-ghost use Rattle.station_law.specs.Output.{Wrote};
+ghost use Rattle.script_store.specs.Output.{Wrote};
 ghost use Rattle.station_law.specs.Desk.{said_at_start};
-ghost use Rattle.station_law.specs.Said.{texts};
+ghost use Rattle.script_store.specs.Said.{texts};
 
-use crate::put::put_sent;
-use crate::stop::Stop;
 use cds_time::Cds;
 use octet_core::Sink;
+use script_store::{Stop, put_sent};
 use sle_numbers::RequestedFrameQuality;
 use station_desk::{Buffers, Looks};
 use std::alloc::Global;

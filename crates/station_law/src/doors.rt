@@ -18,10 +18,10 @@ ghost use Rattle.station_uplink.specs.Standing.{HasTurned, IsUplink};
 ghost use Rattle.station_uplink.specs.Turns.{Uplink as Sent, turned};
 
 use crate::said::SaidAt;
-use crate::shared::{push, share};
 use drill_text::ScriptLine;
 use octet_core::Memory;
 use record_form::{Entries, Entry};
+use script_store::{push, share};
 use station_book::{Book, PublishFault};
 use station_config::Site;
 use station_links::{Connection, Turn};

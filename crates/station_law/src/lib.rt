@@ -6,8 +6,9 @@
 // line (`specs/Sound.antt`) where its text stands follows once, for any lines (`specs/Once.antt`).
 // The headline is that of every list of events of a station's world, which `laws` hands on.
 //
-// In code a world is a `Recorder`, which stores, and `Doors`, a book with the connections over it.
-// Which world of the definitions it stands for is a relation (`specs/Standing.antt`).
+// In code a world is a `Recorder` of `script_store`, which stores, and `Doors`, a book with the
+// connections over it. Which world of the definitions it stands for is a relation
+// (`specs/Standing.antt`).
 //
 // An entry's line costs one batch of the archive, a START's a look at the published entries for
 // each of its buffers, and a connection's its rounds. An entry is shared by the archive, the
@@ -18,21 +19,7 @@ mod desk;
 mod doors;
 pub mod laws;
 mod moment;
-mod order;
-mod outcome;
-mod put;
-mod recorder;
-mod refusal;
 mod said;
-mod shared;
-mod step_done;
-mod stop;
-mod storing;
 mod world;
 
-pub use order::{Order, Strike};
-pub use outcome::Outcome;
-pub use refusal::Refusal;
-pub use step_done::StepDone;
-pub use stop::Stop;
 pub use world::World;

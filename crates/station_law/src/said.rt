@@ -1,13 +1,11 @@
 // What the line of a connection says, and that of a turn of the uplink.
 ghost use Rattle.std.specs.Prelude.{◌≡◌, IfOk, map};
-ghost use Rattle.station_law.specs.Output.{Wrote};
-ghost use Rattle.station_law.specs.Outcomes.{said_of_turn, done_of_turn};
-ghost use Rattle.station_law.specs.Said.{texts, text_of, linked};
+ghost use Rattle.script_store.specs.Output.{Wrote};
+ghost use Rattle.script_store.specs.Outcomes.{said_of_turn, done_of_turn};
+ghost use Rattle.script_store.specs.Said.{texts, text_of, linked};
 
-use crate::put::put_line;
-use crate::step_done::StepDone;
-use crate::stop::Stop;
 use octet_core::Sink;
+use script_store::{StepDone, Stop, put_line};
 use station_links::LinkLine;
 use station_uplink::Turned;
 use std::alloc::Global;

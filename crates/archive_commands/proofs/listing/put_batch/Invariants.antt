@@ -1,7 +1,7 @@
 use Rattle.std.proofs.Common.{◌++◌, length, IsTrue}
 use Rattle.std.specs.List.{list_all}
 use Rattle.archive_terms.specs.Archive.{is_storable}
-use Rattle.station_law.specs.Steps.{Behind}
+use Rattle.script_store.specs.Steps.{Behind}
 use Rattle.archive_commands.specs.Archives.{entries_text}
 use Rattle.archive_commands.proofs.listing.put_batch.Given as goal
 

@@ -1,6 +1,6 @@
 use Rattle.std.proofs.Common.{◌++◌, drop}
 use Rattle.record_form.specs.Entry.{entries_of}
-use Rattle.station_law.specs.Steps.{Behind}
+use Rattle.script_store.specs.Steps.{Behind}
 use Rattle.archive_commands.specs.Archives.{entries_text}
 use Rattle.archive_commands.proofs.listing.put_entries.Given as goal
 

@@ -1,5 +1,5 @@
 use Rattle.std.proofs.Common.{refl}
-use Rattle.station_law.specs.declared.stop.Stop.TheVariants.{Memory}
+use Rattle.script_store.specs.declared.stop.Stop.TheVariants.{Memory}
 use Rattle.record_form.specs.Lent.{lent_entry}
 use Rattle.drill_text.specs.Reading.{entry_text}
 use Rattle.archive_commands.specs.Archives.{offered}

@@ -1,5 +1,5 @@
 use Rattle.octet_core.specs.Writing.{writes-refused}
-use Rattle.station_law.specs.declared.stop.Stop.TheVariants.{Memory, WriteFault}
+use Rattle.script_store.specs.declared.stop.Stop.TheVariants.{Memory, WriteFault}
 use Rattle.script_commands.proofs.run.do_line.Goals as goal
 
 pub returns-in-Ok-clause-written : goal.returns-in-Ok-clause-written

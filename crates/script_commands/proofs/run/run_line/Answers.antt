@@ -1,7 +1,7 @@
 use Rattle.std.proofs.Common.{◌≡◌, ◌∙◌, ◌++◌, ℕ, [], sym, ap, append-nil}
-use Rattle.station_law.specs.declared.step_done.StepDone.{StepDone}
+use Rattle.script_store.specs.declared.step_done.StepDone.{StepDone}
 use Rattle.station_law.specs.Runs.{text_behind}
-use Rattle.station_law.specs.Steps.{at_start, behind_as, step_on, at_end, stopped_by}
+use Rattle.script_store.specs.Steps.{at_start, behind_as, step_on, at_end, stopped_by}
 use Rattle.script_commands.proofs.run.run_line.Goals as goal
 
 -- what stands behind a line's text, by how it was found to end

@@ -1,12 +1,12 @@
 use Rattle.std.proofs.Common.{◌≡◌, ◌∙◌, ◌+◌, ◌<◌, ℕ, Bool, List, length, refl, sym, ap}
 use Rattle.std.proofs.Common.{length-drop, arith}
 use Rattle.std.proofs.lemmas.Grind.{common_steps}
-use Rattle.station_law.specs.declared.step_done.StepDone.{StepDone}
-use Rattle.station_law.specs.declared.step_done.StepDone.TheVariants.{Fine, Full, WrongState}
+use Rattle.script_store.specs.declared.step_done.StepDone.{StepDone}
+use Rattle.script_store.specs.declared.step_done.StepDone.TheVariants.{Fine, Full, WrongState}
 use Rattle.station_law.specs.State.{State}
 use Rattle.station_law.specs.Standing.{Stands}
 use Rattle.station_law.specs.Lines.{step_text}
-use Rattle.station_law.specs.Steps.{at_start, behind_as, at_end, stopped_by}
+use Rattle.script_store.specs.Steps.{at_start, behind_as, at_end, stopped_by}
 use Rattle.script_commands.proofs.Running.{on_line, on_status, line_run, status_from, status_later}
 use Rattle.script_commands.proofs.Running.{text_later, text_end, status_end, goes_on}
 use Rattle.script_commands.proofs.run.run_lines.Goals.{in-Fine, in-Full}

@@ -1,7 +1,7 @@
 use Rattle.std.proofs.Common.{◌≡◌, ◌∙◌, ◌++◌, true, false, refl, sym, ap, rules}
 use Rattle.station_desk.specs.Cursor.{Cursor}
-use Rattle.station_law.specs.Said.{sent_text}
-use Rattle.station_law.specs.Steps.{at_start, behind_as, step_on, at_end, stopped_by}
+use Rattle.script_store.specs.Said.{sent_text}
+use Rattle.script_store.specs.Steps.{at_start, behind_as, step_on, at_end, stopped_by}
 use Rattle.station_law.proofs.Handing.{text_to_come, next_text, no_text, refused_before}
 use Rattle.station_law.proofs.desk.answer_start.Goals as goal
 

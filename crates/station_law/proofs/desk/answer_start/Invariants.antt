@@ -2,8 +2,8 @@ use Rattle.std.proofs.Common.{◌≡◌, ◌-◌, length, map, drop}
 use Rattle.station_desk.specs.Start.{told_desk}
 use Rattle.sle_numbers.specs.RequestedFrameQuality.{number_of}
 use Rattle.station_law.specs.Desk.{said_at_start}
-use Rattle.station_law.specs.Said.{handed, texts}
-use Rattle.station_law.specs.Steps.{Behind}
+use Rattle.script_store.specs.Said.{handed, texts}
+use Rattle.script_store.specs.Steps.{Behind}
 use Rattle.station_law.proofs.desk.answer_start.Given as goal
 
 -- the text of the buffers to come is what is still to be written

@@ -1,4 +1,4 @@
-use Rattle.station_law.specs.Steps.{at_start, behind_as, step_on, at_end, stopped_by}
+use Rattle.script_store.specs.Steps.{at_start, behind_as, step_on, at_end, stopped_by}
 use Rattle.station_law.proofs.Telling.{next_told, none_told}
 use Rattle.station_law.proofs.said.put_lines.Goals as goal
 

@@ -1,5 +1,5 @@
 use Rattle.std.proofs.Common.{drop}
-use Rattle.station_law.specs.Steps.{Behind}
+use Rattle.script_store.specs.Steps.{Behind}
 use Rattle.station_law.proofs.Telling.{told_text}
 use Rattle.station_law.proofs.said.put_lines.Given as goal
 

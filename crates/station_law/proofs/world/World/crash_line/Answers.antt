@@ -1,4 +1,4 @@
-use Rattle.station_law.proofs.Moments.{left_alone}
+use Rattle.script_store.specs.Unmoved.{left_alone}
 use Rattle.station_law.proofs.world.World.crash_line.Goals as goal
 
 pub returns-then-k-eq0-clause-does : goal.returns-then-k-eq0-clause-does

@@ -1,8 +1,8 @@
 use Rattle.std.proofs.Common.{[], sym, ap, subst, ◌∙◌}
 use Rattle.std.proofs.lemmas.Bool.{true≢false}
-use Rattle.station_law.specs.Store.{Recorded}
+use Rattle.script_store.specs.Store.{Recorded}
 use Rattle.station_law.specs.State.{State}
-use Rattle.station_law.specs.Stopped.{HoldsAlone}
+use Rattle.script_store.specs.Stopped.{HoldsAlone}
 use Rattle.station_law.specs.Standing.{Seen}
 use Rattle.station_law.specs.Lines.{step}
 use Rattle.station_law.proofs.Moments.{keeps, stays, crash_gives}

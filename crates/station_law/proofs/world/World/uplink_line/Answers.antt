@@ -2,7 +2,7 @@ use Rattle.std.proofs.Common.{◌≡◌, false, refl, rules}
 use Rattle.station_law.specs.State.{State}
 use Rattle.station_law.specs.Lines.{uplinked, turn_at}
 use Rattle.station_law.specs.Standing.{Seen}
-use Rattle.station_law.specs.Outcomes.{said_of_turn, done_of_turn}
+use Rattle.script_store.specs.Outcomes.{said_of_turn, done_of_turn}
 use Rattle.station_law.specs.Does.{IsTaken}
 use Rattle.station_law.proofs.OneArchive.{agrees, agree_unless, turned_agrees}
 use Rattle.station_law.proofs.Telling.{turned_taken, told_or_not}

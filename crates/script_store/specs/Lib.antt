@@ -1,0 +1,13 @@
+pub mod Store
+pub mod Orders
+pub mod Said
+pub mod Answer
+pub mod Output
+pub mod Steps
+pub mod Entries
+pub mod Outcomes
+pub mod Power
+pub mod IsHeld
+pub mod Storing
+pub mod Stopped
+pub mod Unmoved

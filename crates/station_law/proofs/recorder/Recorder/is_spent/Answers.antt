@@ -1,5 +1,0 @@
-use Rattle.station_law.proofs.Moments.{holds_alone}
-use Rattle.station_law.proofs.recorder.Recorder.is_spent.Goals as goal
-
-pub returns-clause-alone : goal.returns-clause-alone
-returns-clause-alone c = rw (← c.self.view_is) (holds_alone c.self.inside c.self.invariant)

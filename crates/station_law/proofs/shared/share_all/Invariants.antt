@@ -1,6 +1,0 @@
-use Rattle.std.proofs.Common.{◌≡◌, take}
-use Rattle.record_form.specs.Entry.{entries_of}
-use Rattle.station_law.proofs.shared.share_all.Given as goal
-
-abbrev pub invariant-loop-entry : goal.invariant-loop-entry
-invariant-loop-entry l = l.shared ≡ entries_of (take l.entry-index l.entries)

@@ -1,4 +1,0 @@
-use Rattle.station_law.proofs.storing.store_under.Goals as goal
-
-pub returns-clause-settled : goal.returns-clause-settled
-returns-clause-settled c = rw c.in-Some.is c.store_struck.ensures.settled
