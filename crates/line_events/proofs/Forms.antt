@@ -2,7 +2,7 @@
 use Rattle.std.proofs.Common.{◌≡◌, ℕ, Bool, true, false, not, IsTrue, List}
 use Rattle.std.proofs.Common.{[], ◌∷◌, ◌++◌, map, refl, sym, ap, subst, ◌∙◌, append_assoc}
 use Rattle.std.proofs.Common.{append-nil, if◌then◌else◌}
-use Rattle.std.specs.List.{AllByRecursion}
+use Rattle.std.specs.List.{AllByRecursion, filter}
 use Rattle.std.proofs.lemmas.Bool.{and_parts}
 use Rattle.std.proofs.lemmas.List.Sums.{fold-append}
 use Rattle.archive_terms.specs.Archive.{Entry, is_archive, IsArchive, may_follow}
@@ -17,12 +17,14 @@ use Rattle.station_world.specs.World.{World, before_all, Event}
 use Rattle.station_world.specs.Comes.{Begins}
 use Rattle.station_world.specs.Calls.{CallsAreEvents, is_publishing, publishes_nothing, call_events}
 use Rattle.station_world.specs.Calls.{all_called}
-use Rattle.line_events.specs.Shows.{told_of, told_in, told_by, IsLasting, View, resting, Shows}
+use Rattle.line_events.specs.Shows.{is_desk, is_users, desk_starts, users_starts, told_of, told_in}
+use Rattle.line_events.specs.Shows.{told_by, IsLasting, HasSeen, View, resting, Shows}
 use Rattle.line_events.specs.Forms.{store_events, struck_events, failed_events}
 use Rattle.line_events.specs.Forms.{power_events, first_events, with_entry, found_with, new_book, anew}
 use Rattle.line_events.specs.Forms.{clock_events, first_view, LeadTo}
 use Rattle.line_events.specs.Laws.{Laws}
 use Rattle.line_events.proofs.Lists.{and_both, told_same, told_nothing, all_longer, all_told}
+use Rattle.line_events.proofs.Lists.{seen_longer}
 
 -- ---- worlds that rest
 
@@ -56,6 +58,8 @@ module _ (o : Opening) (v : View) (past : List Life) (l : Life)
     told_is =
         told_nothing (past ++ l ∷ []) (born (record o { entries = entries })) refl ∙ told_is;
     lasting = tt;
+    users_are = refl;
+    seen = tt;
   }
 
   -- the power fails between two stores
@@ -107,7 +111,9 @@ module _ (laws : Laws) (o : Opening) (v : View) (past : List Life)
     (l : Life) (e : Entry) (archive : IsArchive v.published)
     (follows : may_follow v.published e ≡ true) (book_is : book l ≡ v.book)
     (one : v.book.published ≡ v.published) (told_is : told_by (past ++ l ∷ []) ≡ v.told)
-    (lasting : AllByRecursion (IsLasting v.published) l.starts) where
+    (lasting : AllByRecursion (IsLasting v.published) (desk_starts l))
+    (users_are : users_starts l ≡ v.users)
+    (seen : AllByRecursion (HasSeen v.published) l.starts) where
   abbrev p : List Entry
   p = v.published
 
@@ -125,14 +131,14 @@ module _ (laws : Laws) (o : Opening) (v : View) (past : List Life)
   whole_is found kept is =
       sym (append_assoc found kept (e ∷ [])) ∙ ap (λ (xs : List Entry). xs ++ e ∷ []) is
 
-  -- the START's of the life have told what they had
+  -- the desk's STARTs of the life have told what they had
   same_told : told_in next ≡ told_in l
   same_told =
-      ap (λ (b : books.State). map (told_of b.published) l.starts) next_book
-      ∙ ap (λ (xs : List Entry). map (told_of xs) l.starts) next_published
-      ∙ all_told p (e ∷ []) l.starts lasting
-      ∙ ap (λ (xs : List Entry). map (told_of xs) l.starts) (sym one)
-      ∙ ap (λ (b : books.State). map (told_of b.published) l.starts) (sym book_is)
+      ap (λ (b : books.State). map (told_of b.published) (desk_starts l)) next_book
+      ∙ ap (λ (xs : List Entry). map (told_of xs) (desk_starts l)) next_published
+      ∙ all_told p (e ∷ []) (desk_starts l) lasting
+      ∙ ap (λ (xs : List Entry). map (told_of xs) (desk_starts l)) (sym one)
+      ∙ ap (λ (b : books.State). map (told_of b.published) (desk_starts l)) (sym book_is)
 
   shown : (found kept : List Entry) → found ++ kept ≡ p
       → Shows (with_entry e v) (resting found (kept ++ e ∷ []) past next v.clock v.antenna)
@@ -146,7 +152,9 @@ module _ (laws : Laws) (o : Opening) (v : View) (past : List Life)
     book_is = next_book;
     one = next_published;
     told_is = told_same past l next same_told ∙ told_is;
-    lasting = all_longer p (e ∷ []) l.starts lasting;
+    lasting = all_longer p (e ∷ []) (desk_starts l) lasting;
+    users_are = users_are;
+    seen = seen_longer p (e ∷ []) l.starts seen;
   }
 
   -- it is the next one of what is acknowledged then
@@ -205,6 +213,8 @@ begins_leads o = (
     one = refl;
     told_is = refl;
     lasting = tt;
+    users_are = refl;
+    seen = tt;
   },
 )
 
@@ -224,6 +234,8 @@ clock_leads o v w moment shows = (
     one = shows.one;
     told_is = shows.told_is;
     lasting = shows.lasting;
+    users_are = shows.users_are;
+    seen = shows.seen;
   },
 )
 
@@ -273,10 +285,10 @@ calls_lead law o v w h shows none =
     called_book h l ∙ ap (λ (b : books.State). replay b h) shows.book_is in
     let same : (replay v.book h).published ≡ v.book.published = none_published h v.book none in
     let told : told_in m ≡ told_in l =
-    ap (λ (ss : List Start). map (told_of (book m).published) ss) (law.starts l h)
-    ∙ ap (λ (b : books.State). map (told_of b.published) l.starts) book_is
-    ∙ ap (λ (xs : List Entry). map (told_of xs) l.starts) same
-    ∙ ap (λ (b : books.State). map (told_of b.published) l.starts) (sym shows.book_is) in (
+    ap (λ (ss : List Start). map (told_of (book m).published) (filter is_desk ss)) (law.starts l h)
+    ∙ ap (λ (b : books.State). map (told_of b.published) (desk_starts l)) book_is
+    ∙ ap (λ (xs : List Entry). map (told_of xs) (desk_starts l)) same
+    ∙ ap (λ (b : books.State). map (told_of b.published) (desk_starts l)) (sym shows.book_is) in (
       leads.0,
       subst (Shows (record v { book = replay v.book h })) (sym leads.1) (record {
         found = shows.found;
@@ -288,7 +300,11 @@ calls_lead law o v w h shows none =
         book_is = book_is;
         one = same ∙ shows.one;
         told_is = told_same shows.past l m told ∙ shows.told_is;
-        lasting = subst (AllByRecursion (IsLasting v.published)) (sym (law.starts l h))
-            shows.lasting;
+        lasting = subst
+            (λ (ss : List Start). AllByRecursion (IsLasting v.published) (filter is_desk ss))
+            (sym (law.starts l h)) shows.lasting;
+        users_are =
+            ap (λ (ss : List Start). filter is_users ss) (law.starts l h) ∙ shows.users_are;
+        seen = subst (AllByRecursion (HasSeen v.published)) (sym (law.starts l h)) shows.seen;
       }),
     )

@@ -1,4 +1,5 @@
 pub mod Lists
 pub mod Forms
+pub mod Progress
 pub mod Starts
 mod Radiating

@@ -12,7 +12,7 @@ use Rattle.station_book.specs.Radiation.{radiation_by}
 use Rattle.station_world.specs.Life.{Life, book, called, radiated_by, sent_with}
 use Rattle.station_world.specs.World.{World, with_send}
 use Rattle.station_world.specs.Calls.{CallsAreEvents, publishes_nothing, call_events}
-use Rattle.line_events.specs.Shows.{told_of, told_in, View, resting, Shows}
+use Rattle.line_events.specs.Shows.{desk_starts, told_of, told_in, View, resting, Shows}
 use Rattle.line_events.specs.Forms.{radiate_events, with_sent, LeadTo}
 use Rattle.line_events.proofs.Lists.{told_same}
 use Rattle.line_events.proofs.Forms.{called_book, calls_lead}
@@ -63,8 +63,8 @@ module _ (o : Opening) (v : View) (w : World) (shows : Shows v w) (reading run i
 
   same_told : told_in n ≡ told_in l
   same_told =
-      ap (λ (b : books.State). map (told_of b.published) l.starts) taken_book
-      ∙ ap (λ (b : books.State). map (told_of b.published) l.starts) (sym shows.book_is)
+      ap (λ (b : books.State). map (told_of b.published) (desk_starts l)) taken_book
+      ∙ ap (λ (b : books.State). map (told_of b.published) (desk_starts l)) (sym shows.book_is)
 
   abbrev next : View
   next = with_sent reading good octets [] v
@@ -84,6 +84,8 @@ module _ (o : Opening) (v : View) (w : World) (shows : Shows v w) (reading run i
     one = shows.one;
     told_is = told_same shows.past l n same_told ∙ shows.told_is;
     lasting = shows.lasting;
+    users_are = shows.users_are;
+    seen = shows.seen;
   }
 
   pub radiates_lead : CallsAreEvents → (h : List Answered) → IsTrue (publishes_nothing h)

@@ -1,7 +1,8 @@
 -- A START of the desk as events, and what lines are altogether.
 use Rattle.std.proofs.Common.{◌≡◌, ℕ, zero, suc, ◌<◌, IsFalse, None, List, [], ◌∷◌, ◌++◌}
 use Rattle.std.proofs.Common.{length, take, replicate, refl, sym, ap, subst, ◌∙◌, arith}
-use Rattle.std.proofs.Common.{append-nil}
+use Rattle.std.proofs.Common.{Bool, true, not, ◌==◌, append-nil}
+use Rattle.std.specs.List.{AllByRecursion}
 use Rattle.std.proofs.lemmas.List.{take_all}
 use Rattle.std.proofs.Math.Seq.{take-append_seam}
 use Rattle.archive_terms.specs.Archive.{Entry}
@@ -13,23 +14,25 @@ use Rattle.station_book.specs.State.{Opening}
 use Rattle.station_world.specs.Life.{Start, Life, book, Asked, with_start}
 use Rattle.station_world.specs.World.{World}
 use Rattle.station_world.specs.Calls.{Leads, desk_events, desk_start, with_now}
-use Rattle.line_events.specs.Shows.{Told, told_of, IsLasting, View, resting, Shows}
+use Rattle.line_events.specs.Shows.{is_desk, is_users, desk_starts, Told, told_of, IsLasting, HasSeen}
+use Rattle.line_events.specs.Shows.{View, resting, Shows}
 use Rattle.line_events.specs.Forms.{starts_in, desk_terms, desk_buffers, start_events, desk_told}
 use Rattle.line_events.specs.Forms.{with_told, LeadTo, LinesAreEvents, power_events, store_events}
 use Rattle.line_events.specs.Forms.{struck_events, failed_events, clock_events, anew, with_entry}
 use Rattle.line_events.specs.Forms.{found_with, with_sent, radiate_events}
 use Rattle.line_events.specs.Laws.{Laws}
-use Rattle.line_events.proofs.Lists.{told_more, all_and}
+use Rattle.line_events.proofs.Lists.{filter_more, filter_less, told_more, all_and, seen_free}
 use Rattle.line_events.proofs.Forms.{at_rest, published_is, power_leads, struck_leads, stores_leads}
 use Rattle.line_events.proofs.Forms.{failed_leads, begins_leads, clock_leads, calls_lead}
+use Rattle.line_events.proofs.Progress.{progress_leads}
 use Rattle.line_events.proofs.Radiating.{radiates_lead}
 
 length_of : (n now : ℕ) → length (replicate n now) ≡ n
 length_of zero now = refl
 length_of (suc n) now = let rest = length_of n now in omega (arith, rest)
 
-module _ (laws : Laws) (a : Asked) (some : 0 < a.size) (mode : IsFalse (is_online a.mode))
-    (p : List Entry) (now : ℕ) where
+module _ (laws : Laws) (a : Asked) (desk : a.door ≡ 0) (some : 0 < a.size)
+    (mode : IsFalse (is_online a.mode)) (p : List Entry) (now : ℕ) where
   -- the START that has made its rounds
   abbrev its : Start
   its = desk_start a (length p) now (length (desk_buffers a p))
@@ -68,6 +71,12 @@ module _ (laws : Laws) (a : Asked) (some : 0 < a.size) (mode : IsFalse (is_onlin
   lasts : IsLasting p its
   lasts = λ more. told_behind more ∙ sym told_now
 
+  its_desk : is_desk its ≡ true
+  its_desk = ap (λ (door : ℕ). door == 0) desk
+
+  saw : HasSeen p its
+  saw = seen_free 0 (length p) (replicate (length (desk_buffers a p)) now) (omega arith)
+
   desk_leads : (o : Opening) (v : View) (w : World) → (shows : Shows v w) → v.published ≡ p
       → v.clock ≡ now
       → LeadTo o (resting shows.found shows.kept shows.past shows.life v.clock v.antenna)
@@ -94,12 +103,19 @@ module _ (laws : Laws) (a : Asked) (some : 0 < a.size) (mode : IsFalse (is_onlin
           book_is = shows.book_is;
           one = shows.one;
           told_is =
-              told_more shows.past l its
+              told_more shows.past l its its_desk
               ∙ ap (λ (ts : List Told). ts ++ told_of (book l).published its ∷ []) shows.told_is
               ∙ ap (λ (t : Told). v.told ++ t ∷ [])
               (ap (λ (xs : List Entry). told_of xs its) published ∙ told_now);
-          lasting = all_and (IsLasting v.published) l.starts its shows.lasting
-              (subst (λ (xs : List Entry). IsLasting xs its) (sym is) lasts);
+          lasting = subst (AllByRecursion (IsLasting v.published))
+              (sym (filter_more is_desk l.starts its its_desk))
+              (all_and (IsLasting v.published) (desk_starts l) its shows.lasting
+              (subst (λ (xs : List Entry). IsLasting xs its) (sym is) lasts));
+          users_are =
+              filter_less is_users l.starts its (ap (λ (b : Bool). not b) its_desk)
+              ∙ shows.users_are;
+          seen = all_and (HasSeen v.published) l.starts its shows.seen
+              (subst (λ (xs : List Entry). HasSeen xs its) (sym is) saw);
         }),
       )
 
@@ -112,7 +128,8 @@ lines laws = record {
   stores = λ o v w e shows archive follows.
       at_rest o v (with_entry e v) w (store_events e) shows
       (stores_leads laws o v shows.past shows.life e archive follows shows.book_is
-      shows.one shows.told_is shows.lasting shows.found shows.kept shows.acknowledges);
+      shows.one shows.told_is shows.lasting shows.users_are shows.seen shows.found shows.kept
+      shows.acknowledges);
   struck = λ o v w e has shows follows.
       at_rest o v (anew o (found_with has e v) v) w (struck_events e has) shows
       (struck_leads o v shows.past shows.life shows.told_is shows.found shows.kept e has
@@ -120,7 +137,8 @@ lines laws = record {
   fails = λ o v w e has shows archive follows.
       at_rest o v (with_entry e v) w (failed_events e has) shows
       (failed_leads laws o v shows.past shows.life e archive follows shows.book_is
-      shows.one shows.told_is shows.lasting shows.found shows.kept has shows.acknowledges);
+      shows.one shows.told_is shows.lasting shows.users_are shows.seen shows.found shows.kept has
+      shows.acknowledges);
   power = λ o v w shows.
       at_rest o v (anew o v.published v) w power_events shows
       (power_leads o v shows.past shows.life shows.told_is shows.found shows.kept
@@ -133,12 +151,13 @@ lines laws = record {
   radiates = λ o v w reading run id octets good h shows found none.
       at_rest o v (with_sent reading good octets h v) w (radiate_events reading good h) shows
       (radiates_lead o v w shows reading run id octets good found laws.book_calls h none);
-  desk = λ o v w a shows some mode.
+  progress = λ o v w door p shows may. progress_leads o v w door p shows may;
+  desk = λ o v w a shows desk some mode.
       at_rest o v (with_told (desk_told a v.published) v) w (start_events a w v.published v.clock)
       shows
       (subst (λ k. LeadTo o
       (resting shows.found shows.kept shows.past shows.life v.clock v.antenna)
       (desk_events a k (length v.published) v.clock (length (desk_buffers a v.published)))
       (with_told (desk_told a v.published) v)) (starts_so v w shows)
-      (desk_leads laws a some mode v.published v.clock o v w shows refl refl));
+      (desk_leads laws a desk some mode v.published v.clock o v w shows refl refl));
 }

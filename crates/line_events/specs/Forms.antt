@@ -17,6 +17,7 @@ use Rattle.station_world.specs.World.{reopens, calls, sends, reads, loses_power,
 use Rattle.station_world.specs.Comes.{AllCome}
 use Rattle.station_world.specs.Calls.{publishes_nothing, call_events, desk_events}
 use Rattle.line_events.specs.Shows.{Told, View, Shows}
+use Rattle.line_events.specs.Progress.{Progress, progress_events, progressed, MayProgress}
 
 -- ---- an entry's line
 
@@ -109,7 +110,12 @@ abbrev pub new_book : Opening → List Entry → books.State
 new_book o entries = books.opened (record o { entries = entries })
 
 abbrev pub anew : Opening → List Entry → View → View
-anew o entries v = record v { published = entries; book = new_book o entries }
+anew o entries v = record v { published = entries; book = new_book o entries; users = [] }
+
+-- a START of a user is taken, makes a round, or ends
+abbrev pub with_progress : ℕ → Progress → View → View
+with_progress door p v =
+    record v { users = progressed door (length v.published) p v.users }
 
 -- a START has handed over what it did
 abbrev pub with_told : Told → View → View
@@ -130,6 +136,7 @@ first_view o = record {
   clock = 0;
   antenna = [];
   told = [];
+  users = [];
 }
 
 -- ---- what is claimed of them
@@ -167,7 +174,11 @@ pub record LinesAreEvents : Type 0 where
       → reply_to v.book (take reading) ≡ took (Radiate run id octets)
       → IsTrue (publishes_nothing h)
       → LeadTo o w (radiate_events reading good h) (with_sent reading good octets h v)
+  -- a START of a user is taken, makes a round, or ends
+  pub progress : (o : Opening) (v : View) (w : World) (door : ℕ) (p : Progress) → Shows v w
+      → MayProgress door v.published p
+      → LeadTo o w (progress_events door w p) (with_progress door p v)
   -- a START of the desk
-  pub desk : (o : Opening) (v : View) (w : World) (a : Asked) → Shows v w → 0 < a.size
-      → IsFalse (is_online a.mode)
+  pub desk : (o : Opening) (v : View) (w : World) (a : Asked) → Shows v w → a.door ≡ 0
+      → 0 < a.size → IsFalse (is_online a.mode)
       → LeadTo o w (start_events a w v.published v.clock) (with_told (desk_told a v.published) v)

@@ -1,3 +1,4 @@
 pub mod Shows
+pub mod Progress
 pub mod Forms
 pub mod Laws

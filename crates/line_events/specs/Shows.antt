@@ -1,17 +1,34 @@
 -- What a world shows between two lines of a script: no entry waits, and no store stands open. This
 -- product's own.
-use Rattle.std.specs.Prelude.{◌≡◌, ℕ, ℤ, Option, Some, None, List, [], ◌∷◌, ◌++◌, map}
-use Rattle.std.specs.List.{AllByRecursion, flat_map}
+use Rattle.std.specs.Prelude.{◌≡◌, ℕ, ◌≤◌, ◌==◌, ℤ, Bool, not, Option, Some, None, List, [], ◌∷◌}
+use Rattle.std.specs.Prelude.{◌++◌, length, map}
+use Rattle.std.specs.List.{AllByRecursion, filter, flat_map}
 use Rattle.archive_terms.specs.Archive.{Entry}
 use Rattle.archive_terms.specs.Delivery.{Item, Terms, started}
-use Rattle.archive_terms.specs.Rounds.{outcomes, handed_buffers}
+use Rattle.archive_terms.specs.Rounds.{outcomes, handed_buffers, last_front}
 use Rattle.archive_terms.specs.Continuity.{told_buffers}
 use Rattle.station_book.specs.State as books
 use Rattle.station_world.specs.File.{settled}
 use Rattle.station_world.specs.Life.{Start, Life, book}
 use Rattle.station_world.specs.World.{World}
 
--- ---- what STARTs handed over
+-- ---- whose a START is
+
+-- the desk has door 0, and a user's door another number
+abbrev pub is_desk : Start → Bool
+is_desk s = s.door == 0
+
+abbrev pub is_users : Start → Bool
+is_users s = not (is_desk s)
+
+-- a life's STARTs of the desk, and of users
+abbrev pub desk_starts : Life → List Start
+desk_starts l = filter is_desk l.starts
+
+abbrev pub users_starts : Life → List Start
+users_starts l = filter is_users l.starts
+
+-- ---- what STARTs of the desk handed over
 
 -- what a START has handed over, as it is told: its door, what it asks for, and its buffers in order,
 -- each frame with its continuity
@@ -29,9 +46,9 @@ told_of published s = record {
       (handed_buffers (outcomes s.terms published s.rounds started));
 }
 
--- what the STARTs of a life have handed over, and those of lives, in their order
+-- what the desk's STARTs of a life have handed over, and those of lives, in their order
 abbrev pub told_in : Life → List Told
-told_in l = map (told_of (book l).published) l.starts
+told_in l = map (told_of (book l).published) (desk_starts l)
 
 abbrev pub told_by : List Life → List Told
 told_by all = flat_map told_in all
@@ -41,16 +58,24 @@ abbrev pub IsLasting : List Entry → Start → Type 0
 IsLasting published s =
     (more : List Entry) → told_of (published ++ more) s ≡ told_of published s
 
+-- ---- what STARTs saw
+
+-- the rounds of a START, the desk's or a user's, saw no more than is published
+abbrev pub HasSeen : List Entry → Start → Type 0
+HasSeen published s = last_front 0 s.rounds ≤ length published
+
 -- ---- worlds
 
--- the published entries, the book, the moment that the clock reads, what the antenna was sent, and
--- what each START so far has handed over, the first one first
+-- the published entries, the book, the moment that the clock reads, what the antenna was sent, what
+-- each START of the desk so far has handed over, the first one first, and the STARTs of users in the
+-- life that goes on, with their rounds
 pub record View : Type 0 where
   pub published : List Entry
   pub book : books.State
   pub clock : ℕ
   pub antenna : List (List ℕ)
   pub told : List Told
+  pub users : List Start
 
 -- a world that rests
 abbrev pub resting : List Entry → List Entry → List Life → Life → ℕ → List (List ℕ) → World
@@ -63,8 +88,9 @@ resting found kept past life clock antenna = record {
 }
 
 -- It shows this: what is acknowledged is published, in the book of the life that goes on; its clock
--- reads this, and its antenna was sent this; and its STARTs, those of past lives first, have handed
--- this over, which stays so.
+-- reads this, and its antenna was sent this; its STARTs of the desk, those of past lives first, have
+-- handed this over, which stays so; the life has these STARTs of users; and none of its STARTs saw
+-- more than is published.
 pub record Shows (v : View) (w : World) : Type 0 where
   pub found : List Entry
   pub kept : List Entry
@@ -75,4 +101,6 @@ pub record Shows (v : View) (w : World) : Type 0 where
   pub book_is : book life ≡ v.book
   pub one : v.book.published ≡ v.published
   pub told_is : told_by (past ++ life ∷ []) ≡ v.told
-  pub lasting : AllByRecursion (IsLasting v.published) life.starts
+  pub lasting : AllByRecursion (IsLasting v.published) (desk_starts life)
+  pub users_are : users_starts life ≡ v.users
+  pub seen : AllByRecursion (HasSeen v.published) life.starts

@@ -9,6 +9,7 @@ use Rattle.gate_journal.specs.File.{StandsFor}
 use Rattle.gate_journal.specs.JournalState.{IsOldOrNew}
 use Rattle.station_book.specs.State.{Opening}
 use Rattle.station_world.specs.File.{acknowledged, in_store}
+use Rattle.station_world.specs.Life.{Start}
 use Rattle.station_world.specs.World.{World, Event, offers, begins_store, after_events}
 use Rattle.station_world.specs.Archives.{StandsForOne}
 use Rattle.station_uplink.specs.declared.turn.Turn.{Turn}
@@ -34,8 +35,8 @@ use Rattle.station_law.specs.Lines.{offered, connected, uplinked, turn_at, turne
 use Rattle.script_world.specs.Events.{struck_by, stored_under, by_refusal, entry_line, events_of}
 use Rattle.script_world.specs.Script.{view_of, StandsBehind}
 
-module _ (o : Opening) (state : State) (starts : List Handed) (w : World)
-    (shows : Shows (view_of state starts) w) (image : List ℕ) where
+module _ (o : Opening) (state : State) (starts : List Handed) (users : List Start) (w : World)
+    (shows : Shows (view_of state starts users) w) (image : List ℕ) where
   abbrev published : List Entry
   published = state.store.published
 

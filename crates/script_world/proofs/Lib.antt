@@ -1,5 +1,6 @@
-pub mod Rounds
-pub mod Lines
+mod Images
+mod Leading
+mod Rounds
+mod Lines
 mod Radiated
-pub mod Runs
-pub mod Images
+mod Runs

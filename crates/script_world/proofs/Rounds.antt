@@ -1,20 +1,32 @@
--- What connections call publishes nothing.
+-- The rounds of a connection lead where they leave the book.
 use Rattle.std.proofs.Common.{ℕ, zero, suc, Bool, true, false, ◌&&◌, not, IsTrue, Option, Some}
-use Rattle.std.proofs.Common.{None, List, [], ◌∷◌, ◌++◌, refl, slice_get}
+use Rattle.std.proofs.Common.{None, List, [], ◌∷◌, ◌++◌, length, refl, sym, subst}
 use Rattle.std.proofs.lemmas.Bool.{and_parts}
+use Rattle.std.proofs.lemmas.List.Sums.{fold-append}
+use Rattle.archive_terms.specs.Archive.{Entry}
 use Rattle.station_config.specs.declared.site.Site.{Site}
-use Rattle.station_book.specs.State.{Event as Answered}
+use Rattle.station_book.specs.Origin.{opening_of}
+use Rattle.station_book.specs.State.{Opening, Event as Answered}
 use Rattle.station_book.specs.State as books
-use Rattle.station_book.specs.History.{replay}
-use Rattle.station_world.specs.Calls.{is_publishing, publishes_nothing}
+use Rattle.station_book.specs.History.{replay, then_after}
+use Rattle.station_world.specs.Life.{Start}
+use Rattle.station_world.specs.World.{World, Event, after_events}
+use Rattle.station_world.specs.Calls.{is_publishing, publishes_nothing, call_events}
 use Rattle.session_core.specs.Session as sessions
 use Rattle.drill_text.specs.declared.end_word.EndWord.{EndWord}
-use Rattle.drill_text.specs.declared.script_line.ScriptLine.{ScriptLine}
-use Rattle.drill_text.specs.declared.script_line.ScriptLine.TheVariants.{Open}
+use Rattle.line_events.specs.Shows.{View, Shows}
+use Rattle.line_events.specs.Forms.{LeadTo, LinesAreEvents, with_progress}
+use Rattle.line_events.specs.Progress.{Progress, progress_events, progressed, MayProgress}
+use Rattle.session_events.specs.Rounds.{SawFront, RoundsMayCome, progress_in}
 use Rattle.station_links.specs.Connected.{Connected}
 use Rattle.station_links.specs.Rounds.{round_at, round_of, end_after, quits}
-use Rattle.station_law.specs.Doors.{Doors, Act, act_of, acted, acted_on, opens, act, ordered, rounds_of}
-use Rattle.station_law.specs.Connections.{events_of_act}
+use Rattle.station_law.specs.Doors.{rounds_of}
+use Rattle.script_world.specs.Events.{round_events, rounds_events}
+use Rattle.script_world.specs.Seen.{sees_published}
+use Rattle.script_world.specs.Users.{users_rounds}
+use Rattle.script_world.proofs.Leading.{lead_both}
+
+-- ---- what a round calls publishes nothing
 
 both : (a b : Bool) → IsTrue a → IsTrue b → IsTrue (a && b)
 both true b h k = k
@@ -39,39 +51,77 @@ module _ (site : Site) (c reading : ℕ) where
   ends b None = refl
   ends b (Some why) = refl
 
-  rounds : (n : ℕ) (b : books.State) (l : Option Connected)
-      → IsTrue (publishes_nothing (rounds_of site c reading n b l).events)
-  rounds zero b l = refl
-  rounds (suc n) b None = refl
-  rounds (suc n) b (Some l) =
+  quiet : (b : books.State) (l : Connected)
+      → IsTrue (publishes_nothing (round_of site c l b reading).events)
+  quiet b l =
       let r = round_at site c l b reading in
-      let o = round_of site c l b reading in
       let asked : List Answered = sessions.round_events site c l.state r in
-      nothing_both o.events (rounds_of site c reading n (replay b o.events) o.next).events
-      (nothing_both asked (quits c (replay b asked) (end_after site l r))
+      nothing_both asked (quits c (replay b asked) (end_after site l r))
       (asks (sessions.before_step l.state r) r.told)
-      (ends (replay b asked) (end_after site l r)))
-      (rounds n (replay b o.events) o.next)
+      (ends (replay b asked) (end_after site l r))
 
-module _ (d : Doors) (reading : ℕ) where
-  opens_quietly : (c : ℕ) (at : Option (Option Connected))
-      → IsTrue (publishes_nothing (events_of_act (opens d reading c at)))
-  opens_quietly c None = refl
-  opens_quietly c (Some None) = refl
-  opens_quietly c (Some (Some l)) = refl
+  -- ---- a round leads on
 
-  acts_on : (a : Act) (at : Option (Option Connected))
-      → IsTrue (publishes_nothing (events_of_act (acted_on d reading a at)))
-  acts_on a None = refl
-  acts_on a (Some None) = refl
-  acts_on a (Some (Some l)) =
-      rounds d.site a.c reading a.rounds d.book (Some (ordered a.order l))
+  module _ (law : LinesAreEvents) (v : View) where
+    abbrev o : Opening
+    o = opening_of site [] 0
 
-  acts : (asked : Option Act) → IsTrue (publishes_nothing (events_of_act (acted d reading asked)))
-  acts None = refl
-  acts (Some a) = acts_on a (slice_get d.connections a.c)
+    abbrev left : books.State → List Start → View
+    left b users = record v { book = b; users = users }
 
-  pub doors_publish_nothing : (line : ScriptLine)
-      → IsTrue (publishes_nothing (events_of_act (act d reading line)))
-  doors_publish_nothing (Open c) = opens_quietly c (slice_get d.connections c)
-  doors_publish_nothing line = acts (act_of line)
+    -- calls that publish nothing, and what a round makes of a START
+    one_leads : (w : World) (b : books.State) (users : List Start) (h : List Answered)
+        (p : Progress) → Shows (left b users) w → IsTrue (publishes_nothing h)
+        → MayProgress c v.published p
+        → LeadTo o w (round_events o w c h p)
+        (left (replay b h) (progressed c (length b.published) p users))
+    one_leads w b users h p shows none may =
+        let first = law.book o (left b users) w h shows none in
+        let there : World = after_events o w (call_events h) in
+        let next : View = left (replay b h) users in
+        subst (λ (xs : List Entry). LeadTo o w (round_events o w c h p)
+        (left (replay b h) (progressed c (length xs) p users))) (sym shows.one)
+        (lead_both o w (call_events h) (progress_events c there p) next (with_progress c p next)
+        first (law.progress o next there c p first.1 may))
+
+    -- a round, and those behind it
+    then_leads : (w : World) (b : books.State) (h k : List Answered) (events more : List Event)
+        (between users : List Start) → LeadTo o w events (left (replay b h) between)
+        → LeadTo o (after_events o w events) more (left (replay (replay b h) k) users)
+        → LeadTo o w (events ++ more) (left (replay b (h ++ k)) users)
+    then_leads w b h k events more between users first second =
+        subst (λ (x : books.State). LeadTo o w (events ++ more) (left x users))
+        (sym (fold-append then_after b h k))
+        (lead_both o w events more (left (replay b h) between) (left (replay (replay b h) k) users)
+        first second)
+
+module _ (law : LinesAreEvents) (may : RoundsMayCome) (site : Site) (c reading : ℕ) (v : View) where
+  pub rounds_lead : (n : ℕ) (w : World) (b : books.State) (l : Option Connected)
+      (users : List Start) → Shows (record v { book = b; users = users }) w
+      → LeadTo (opening_of site [] 0) w (rounds_events site c reading w n b l)
+      (record v {
+        book = replay b (rounds_of site c reading n b l).events;
+        users = users_rounds site c reading n b l users;
+      })
+  rounds_lead zero w b l users shows = (tt, shows)
+  rounds_lead (suc n) w b None users shows = (tt, shows)
+  rounds_lead (suc n) w b (Some l) users shows =
+      let o = opening_of site [] 0 in
+      let r = round_at site c l b reading in
+      let turned = round_of site c l b reading in
+      let p : Progress = progress_in c site l.state r in
+      let events : List Event = round_events o w c turned.events p in
+      let there : World = after_events o w events in
+      let behind : books.State = replay b turned.events in
+      let between : List Start = progressed c (length b.published) p users in
+      let right : MayProgress c v.published p =
+      may.may c site l.state r v.published
+      (subst (λ (xs : List Entry). SawFront (length xs) r.told) shows.one
+      (sees_published site c reading b l)) in
+      let first = one_leads site c reading law v w b users turned.events p shows
+      (quiet site c reading b l) right in
+      then_leads site c reading law v w b turned.events
+      (rounds_of site c reading n behind turned.next).events events
+      (rounds_events site c reading there n behind turned.next) between
+      (users_rounds site c reading n behind turned.next between) first
+      (rounds_lead n there behind turned.next between first.1)

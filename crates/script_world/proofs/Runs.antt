@@ -6,7 +6,8 @@ use Rattle.station_book.specs.State.{Opening}
 use Rattle.station_book.specs.Origin.{opening_of}
 use Rattle.station_config.specs.declared.site.Site.{Site}
 use Rattle.drill_text.specs.declared.script_line.ScriptLine.{ScriptLine}
-use Rattle.station_world.specs.World.{World, before_all, Event, after_event, after_events}
+use Rattle.station_world.specs.Life.{Start}
+use Rattle.station_world.specs.World.{World, before_all, Event, after_events}
 use Rattle.station_world.specs.Comes.{AllCome}
 use Rattle.station_world.specs.Headline.{HeadlineLaw}
 use Rattle.station_world.specs.Stays.{WhatWasDoneStays}
@@ -17,31 +18,14 @@ use Rattle.script_store.specs.Said.{Handed, handed_by}
 use Rattle.station_law.specs.Lines.{step_read}
 use Rattle.station_law.specs.Connections.{AreSessions}
 use Rattle.station_law.specs.Runs.{after, handed_after}
+use Rattle.session_events.specs.Rounds.{RoundsMayCome}
 use Rattle.script_world.specs.Events.{events_read}
 use Rattle.script_world.specs.Script.{origin, view_of, answers, events_from, script_events}
-use Rattle.script_world.specs.Script.{IsInWorld}
+use Rattle.script_world.specs.Script.{users_after, IsInWorld}
+use Rattle.script_world.specs.Users.{users_behind}
+use Rattle.script_world.proofs.Leading.{behind_both, come_both, lead_both}
 use Rattle.script_world.proofs.Lines.{HandsOver, read_leads}
 use Rattle.script_world.proofs.Radiated.{sent_behind}
-
--- ---- lists of events
-
-behind_both : (o : Opening) (w : World) (h k : List Event)
-    → after_events o w (h ++ k) ≡ after_events o (after_events o w h) k
-behind_both o w [] k = refl
-behind_both o w (e ∷ h) k = behind_both o (after_event o w e) h k
-
-come_both : (o : Opening) (w : World) (h k : List Event) → AllCome o w h
-    → AllCome o (after_events o w h) k → AllCome o w (h ++ k)
-come_both o w [] k first second = second
-come_both o w (e ∷ h) k first second =
-    (first.0, come_both o (after_event o w e) h k first.1 second)
-
-lead_both : (o : Opening) (w : World) (h k : List Event) (v u : View) → LeadTo o w h v
-    → LeadTo o (after_events o w h) k u → LeadTo o w (h ++ k) u
-lead_both o w h k v u first second = (
-  come_both o w h k first.0 second.0,
-  subst (Shows u) (sym (behind_both o w h k)) second.1,
-)
 
 -- no line changes the site
 abbrev pub SiteStays : Type 0
@@ -52,7 +36,8 @@ pub site_stays : AreSessions (λ (line : ScriptLine). Some line) → SiteStays
 site_stays sessions state None = refl
 site_stays sessions state (Some line) = (sessions.history state line).site
 
-module _ (law : LinesAreEvents) (hands : HandsOver) (headline : HeadlineLaw) (site : Site) where
+module _ (law : LinesAreEvents) (may : RoundsMayCome) (hands : HandsOver) (headline : HeadlineLaw)
+    (site : Site) where
   abbrev o : Opening
   o = origin site
 
@@ -85,30 +70,35 @@ module _ (law : LinesAreEvents) (hands : HandsOver) (headline : HeadlineLaw) (si
       ∙ shows.acknowledges) whole
 
   -- each line goes on
-  goes : (state : State) (starts : List Handed) (w : World) (line : Option ScriptLine)
-      → state.doors.site ≡ site → Reached w → Shows (view_of state starts) w
+  goes : (state : State) (starts : List Handed) (users : List Start) (w : World)
+      (line : Option ScriptLine) → state.doors.site ≡ site → Reached w
+      → Shows (view_of state starts users) w
       → LeadTo o w (events_read state w line)
-      (view_of (step_read state line).next (handed_by starts (step_read state line).said))
-  goes state starts w line is reached shows =
+      (view_of (step_read state line).next (handed_by starts (step_read state line).said)
+      (users_behind state line users))
+  goes state starts users w line is reached shows =
       subst (λ (s : Site). LeadTo (opening_of s [] 0) w (events_read state w line)
-      (view_of (step_read state line).next (handed_by starts (step_read state line).said))) is
-      (read_leads law hands state starts w shows
-      (archive_of (view_of state starts) w reached shows) line)
+      (view_of (step_read state line).next (handed_by starts (step_read state line).said)
+      (users_behind state line users))) is
+      (read_leads law may hands state starts users w shows
+      (archive_of (view_of state starts users) w reached shows) line)
 
   module _ (sites : SiteStays) {L : Type 0} (reads : L → Option ScriptLine) where
-    lines_lead : (state : State) (starts : List Handed) (w : World) (lines : List L)
-        → state.doors.site ≡ site → Reached w → Shows (view_of state starts) w
+    lines_lead : (state : State) (starts : List Handed) (users : List Start) (w : World)
+        (lines : List L) → state.doors.site ≡ site → Reached w
+        → Shows (view_of state starts users) w
         → LeadTo o w (events_from reads o state w lines)
         (view_of (after (answers reads) state lines)
-        (handed_after (answers reads) state starts lines))
-    lines_lead state starts w [] is reached shows = (tt, shows)
-    lines_lead state starts w (line ∷ lines) is reached shows =
+        (handed_after (answers reads) state starts lines) (users_after reads state users lines))
+    lines_lead state starts users w [] is reached shows = (tt, shows)
+    lines_lead state starts users w (line ∷ lines) is reached shows =
         let events : List Event = events_read state w (reads line) in
-        let one = goes state starts w (reads line) is reached shows in
+        let one = goes state starts users w (reads line) is reached shows in
         let next = answers reads state line in
         let later : World = after_events o w events in
         lead_both o w events (events_from reads o next.next later lines) _ _ one
-        (lines_lead next.next (handed_by starts next.said) later lines
+        (lines_lead next.next (handed_by starts next.said)
+        (users_behind state (reads line) users) later lines
         (sites state (reads line) ∙ is) (reached_on w events reached one.0) one.1)
 
     -- the events of some lines, and of those behind them
@@ -135,11 +125,11 @@ module _ (law : LinesAreEvents) (hands : HandsOver) (headline : HeadlineLaw) (si
     script_leads : (lines : List L)
         → LeadTo o before_all (script_events reads site lines)
         (view_of (after (answers reads) (start site) lines)
-        (handed_after (answers reads) (start site) [] lines))
+        (handed_after (answers reads) (start site) [] lines) (users_after reads (start site) [] lines))
     script_leads lines =
         let begun = law.begins o in
         lead_both o before_all first_events (events_from reads o (start site) first lines) _ _ begun
-        (lines_lead (start site) [] first lines refl
+        (lines_lead (start site) [] [] first lines refl
         (record { so_far = first_events; come = begun.0; is = refl }) begun.1)
 
     script_splits : (lines more : List L)

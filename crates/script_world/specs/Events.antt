@@ -1,6 +1,6 @@
 -- The lines of a script as events of a station's world. This product's own.
-use Rattle.std.specs.Prelude.{ℕ, ◌==◌, Bool, true, false, not, nat_lt, if◌then◌else◌, Option, Some}
-use Rattle.std.specs.Prelude.{None, List, [], ◌∷◌}
+use Rattle.std.specs.Prelude.{ℕ, zero, suc, ◌==◌, Bool, true, false, not, nat_lt, if◌then◌else◌}
+use Rattle.std.specs.Prelude.{Option, Some, None, List, [], ◌∷◌, ◌++◌, slice_get}
 use Rattle.cds_time.specs.declared.cds.Cds.{Cds}
 use Rattle.archive_terms.specs.Archive.{Entry, is_valid}
 use Rattle.archive_terms.specs.Selection.{by_quality}
@@ -9,9 +9,11 @@ use Rattle.record_form.specs.Entry.{entry_of}
 use Rattle.sle_numbers.specs.RequestedFrameQuality.{number_of}
 use Rattle.cltu_queue.specs.declared.taken.Taken.{Taken}
 use Rattle.cltu_queue.specs.declared.taken.Taken.TheVariants.{Radiate}
-use Rattle.station_book.specs.State.{take, interrupted, Event as Answered}
+use Rattle.station_config.specs.declared.site.Site.{Site}
+use Rattle.station_book.specs.Origin.{opening_of}
+use Rattle.station_book.specs.State.{Opening, take, interrupted, Event as Answered}
 use Rattle.station_book.specs.State as books
-use Rattle.station_book.specs.History.{event_at, after}
+use Rattle.station_book.specs.History.{event_at, after, replay}
 use Rattle.station_uplink.specs.declared.turn.Turn.{Turn}
 use Rattle.station_uplink.specs.declared.turn.Turn.TheVariants as turns
 use Rattle.station_uplink.specs.Turns.{turn_of, found, events_of as turned_events}
@@ -21,10 +23,14 @@ use Rattle.drill_text.specs.declared.script_line.ScriptLine.TheVariants.{Crash, 
 use Rattle.station_desk.specs.declared.limits.TheConstants.{BUFFER_ITEMS}
 use Rattle.station_desk.specs.Start.{moment}
 use Rattle.station_world.specs.Life.{Asked}
-use Rattle.station_world.specs.World.{World, Event}
+use Rattle.station_world.specs.World.{World, Event, after_events}
 use Rattle.station_world.specs.Calls.{call_events}
+use Rattle.station_links.specs.Connected.{Connected}
+use Rattle.station_links.specs.Rounds.{round_at, round_of}
 use Rattle.line_events.specs.Forms.{store_events, struck_events, failed_events, power_events}
 use Rattle.line_events.specs.Forms.{clock_events, start_events, radiate_events}
+use Rattle.line_events.specs.Progress.{Progress, progress_events}
+use Rattle.session_events.specs.Rounds.{progress_in}
 use Rattle.script_store.specs.declared.order.Order.{Order}
 use Rattle.script_store.specs.declared.order.Strike.{Strike}
 use Rattle.script_store.specs.declared.order.Strike.TheVariants.{Stop, Fail}
@@ -32,10 +38,9 @@ use Rattle.script_store.specs.declared.refusal.Refusal.{Refusal}
 use Rattle.script_store.specs.Store.{Store}
 use Rattle.script_store.specs.Orders.{is_hit, leaves_entry}
 use Rattle.script_store.specs.Entries.{refusal}
-use Rattle.station_law.specs.Doors.{act}
+use Rattle.station_law.specs.Doors.{Act, act_of, ordered}
 use Rattle.station_law.specs.State.{State}
 use Rattle.station_law.specs.Lines.{turn_at}
-use Rattle.station_law.specs.Connections.{events_of_act}
 
 -- ---- an entry's line
 
@@ -79,6 +84,36 @@ desk_line state w start stop quality =
     if nat_lt (moment stop) (moment start) then []
     else start_events (asked start stop quality) w state.store.published state.clock
 
+-- ---- rounds of a connection
+
+-- a round calls the book, and behind that makes something of the START of its door
+abbrev pub round_events : Opening → World → ℕ → List Answered → Progress → List Event
+round_events o w c h p =
+    call_events h ++ progress_events c (after_events o w (call_events h)) p
+
+-- so many rounds at a reading of the clock, as long as the connection is there
+abbrev pub rounds_events : Site → ℕ → ℕ → World → ℕ → books.State → Option Connected → List Event
+rounds_events site c reading w zero b l = []
+rounds_events site c reading w (suc n) b None = []
+rounds_events site c reading w (suc n) b (Some l) =
+    let o = opening_of site [] 0 in
+    let turned = round_of site c l b reading in
+    let events = round_events o w c turned.events
+    (progress_in c site l.state (round_at site c l b reading)) in
+    events
+    ++ rounds_events site c reading (after_events o w events) n (replay b turned.events) turned.next
+
+-- those of a line, where the connection is there
+abbrev pub acted_events : State → World → Act → Option (Option Connected) → List Event
+acted_events state w a (Some (Some l)) =
+    rounds_events state.doors.site a.c state.clock w a.rounds state.doors.book
+    (Some (ordered a.order l))
+acted_events state w a _ = []
+
+abbrev pub act_events : State → World → Option Act → List Event
+act_events state w None = []
+act_events state w (Some a) = acted_events state w a (slice_get state.doors.connections a.c)
+
 -- ---- turns of the uplink
 
 -- a CLTU whose send fails is interrupted
@@ -98,15 +133,15 @@ turn_events state (turns.Take fail) = take_events state.doors.book state.clock f
 turn_events state turn = call_events (turned_events (turn_at state turn))
 
 -- of a line that is a turn, or else a connection's
-abbrev pub events_by : State → ScriptLine → Option Turn → List Event
-events_by state line (Some turn) = turn_events state turn
-events_by state line None = call_events (events_of_act (act state.doors state.clock line))
+abbrev pub events_by : State → World → ScriptLine → Option Turn → List Event
+events_by state w line (Some turn) = turn_events state turn
+events_by state w line None = act_events state w (act_of line)
 
 -- ---- lines
 
--- Of a line in a world. A connection's line is its calls of the book, and a turn of the uplink its
--- calls and what it sends; a line that changes nothing, or orders something of the disk's later
--- calls, is no event.
+-- Of a line in a world. A connection's line is, round by round, its calls of the book and what it
+-- makes of a START, and a turn of the uplink its calls and what it sends; a line that changes
+-- nothing, or orders something of the disk's later calls, is no event.
 abbrev pub events_of : State → World → ScriptLine → List Event
 events_of state w Skip = []
 events_of state w (Offer entry) =
@@ -115,7 +150,7 @@ events_of state w (Desk start stop quality) = desk_line state w start stop (numb
 events_of state w (Clock at) = clock_events (moment at)
 events_of state w (Crash k pick) = if k == 0 then power_events else []
 events_of state w (Fault k) = []
-events_of state w line = events_by state line (turn_of line)
+events_of state w line = events_by state w line (turn_of line)
 
 -- none of a line that can't be read
 abbrev pub events_read : State → World → Option ScriptLine → List Event

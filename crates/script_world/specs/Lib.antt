@@ -1,2 +1,4 @@
 pub mod Events
+pub mod Users
+pub mod Seen
 pub mod Script

@@ -5,6 +5,7 @@ use Rattle.station_book.specs.State.{Opening}
 use Rattle.station_config.specs.declared.site.Site.{Site}
 use Rattle.drill_text.specs.declared.script_line.ScriptLine.{ScriptLine}
 use Rattle.gate_journal.specs.JournalState.{IsOldOrNew}
+use Rattle.station_world.specs.Life.{Start}
 use Rattle.station_world.specs.World.{World, before_all, lives, Event, after_events}
 use Rattle.station_world.specs.Comes.{Begins, AllCome}
 use Rattle.station_world.specs.Headline.{Headline}
@@ -18,25 +19,28 @@ use Rattle.script_store.specs.Answer.{Answer}
 use Rattle.station_law.specs.Lines.{step, step_read}
 use Rattle.station_law.specs.Runs.{after, handed_after}
 use Rattle.script_world.specs.Events.{events_of, events_read}
+use Rattle.script_world.specs.Users.{users_behind}
 
 -- the origin of a site's book in a script
 abbrev pub origin : Site → Opening
 origin site = opening_of site [] 0
 
--- what each START of a script has handed over, the first one first
+-- what each START of the desk in a script has handed over, the first one first
 abbrev pub told_since : List Handed → List Told
 told_since [] = []
 told_since (last ∷ earlier) = told_since earlier
     ++ record { door = last.connection; terms = last.terms; buffers = last.buffers } ∷ []
 
--- what a world shows in which a script stands in this state, and its STARTs have handed this over
-abbrev pub view_of : State → List Handed → View
-view_of state starts = record {
+-- what a world shows in which a script stands in this state, the desk's STARTs have handed this over,
+-- and users have these STARTs
+abbrev pub view_of : State → List Handed → List Start → View
+view_of state starts users = record {
   published = state.store.published;
   book = state.doors.book;
   clock = state.clock;
   antenna = state.uplink.sent;
   told = told_since starts;
+  users = users;
 }
 
 -- It holds of the world behind any first of some events, and of each world that further events lead
@@ -54,6 +58,12 @@ module _ {L : Type 0} (reads : L → Option ScriptLine) where
   -- what a line answers
   abbrev pub answers : State → L → Answer State
   answers state line = step_read state (reads line)
+
+  -- the STARTs of users in the life that goes on behind lines
+  abbrev pub users_after : State → List Start → List L → List Start
+  users_after state users [] = users
+  users_after state users (line ∷ lines) =
+      users_after (answers state line).next (users_behind state (reads line) users) lines
 
   -- the octets of each CLTU that lines tell as radiated, in order
   abbrev pub radiated_from : State → List L → List (List ℕ)
@@ -80,13 +90,16 @@ module _ {L : Type 0} (reads : L → Option ScriptLine) where
 
   -- Some lines of a script, and further ones: the events of all may come, those of the first lines
   -- first. The state behind these is that of the world behind their events, as is what each START
-  -- has handed over; and what they tell as radiated is what its antenna was sent. And at each moment,
-  -- also within a line, and whatever comes then, the headline holds, and what was done stays.
+  -- of the desk has handed over, and which STARTs users have, with the rounds of each; and what they
+  -- tell as radiated is what its antenna was sent. And at each moment, also within a line, and
+  -- whatever comes then, the headline holds, of the STARTs of users as of the desk's, and what was
+  -- done stays.
   pub record IsInWorld (site : Site) (lines more : List L) : Type 0 where
     pub come : AllCome (origin site) before_all (script_events site (lines ++ more))
     pub begins : Begins (script_events site lines) (script_events site (lines ++ more))
     pub shows : Shows (view_of (after answers (start site) lines)
-        (handed_after answers (start site) [] lines)) (world_behind site lines)
+        (handed_after answers (start site) [] lines) (users_after (start site) [] lines))
+        (world_behind site lines)
     pub radiated : radiated_from (start site) lines ≡ (world_behind site lines).antenna
     pub headline : AtEachMoment Headline (origin site) (script_events site (lines ++ more))
     pub stays : AtEachMoment LivesGoOn (origin site) (script_events site (lines ++ more))
@@ -105,7 +118,7 @@ pub record StandsBehind (o : Opening) (w : World) (events : List Event) (image :
 -- stores, stands for one of the lists of the world's file behind some of the line's events.
 abbrev pub ImagesAreOfTheFile : Type 0
 ImagesAreOfTheFile =
-    (o : Opening) (state : State) (starts : List Handed) (w : World) (line : ScriptLine)
-    (image : List ℕ) → Shows (view_of state starts) w
+    (o : Opening) (state : State) (starts : List Handed) (users : List Start) (w : World)
+    (line : ScriptLine) (image : List ℕ) → Shows (view_of state starts users) w
     → IsOldOrNew state.store.published (step state line).given image
     → StandsBehind o w (events_of state w line) image

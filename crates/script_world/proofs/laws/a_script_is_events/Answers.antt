@@ -9,9 +9,9 @@ returns c =
     let sites = site_stays c.connections_are_sessions.ensures.lines in
     record {
       lines = λ site lines more. in_world c.lines_are_events.ensures
-          c.a_start_hands_over.ensures.last c.headline_law.ensures site sites
+          c.what_a_round_makes_may_come.ensures c.a_start_hands_over.ensures.last c.headline_law.ensures site sites
           (λ (line : ScriptLine). Some line) c.what_was_done_stays.ensures lines more;
       texts = λ site lines more. in_world c.lines_are_events.ensures
-          c.a_start_hands_over.ensures.last c.headline_law.ensures site sites reading
+          c.what_a_round_makes_may_come.ensures c.a_start_hands_over.ensures.last c.headline_law.ensures site sites reading
           c.what_was_done_stays.ensures lines more;
     }

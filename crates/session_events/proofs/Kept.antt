@@ -1,0 +1,148 @@
+-- What rounds leave of STARTs that were there.
+use Rattle.std.proofs.Common.{◌≡◌, ℕ, zero, suc, Bool, true, Option, Some, None, List, [], ◌∷◌, ◌++◌}
+use Rattle.std.proofs.Common.{length, slice_get, refl, sym, ap, subst, ◌∙◌, append_assoc, append-nil}
+use Rattle.archive_terms.specs.Rounds.{Round as DeliveryRound}
+use Rattle.station_config.specs.declared.site.Site.{Site}
+use Rattle.session_core.specs.Session.{State, Round, after_round, after_rounds}
+use Rattle.station_world.specs.Comes.{Begins}
+use Rattle.station_world.specs.Life.{Start, begun, change_at, with_round, with_end}
+use Rattle.line_events.specs.Progress.{Progress, none_runs, taken_now, goes_by, ended_now, is_going}
+use Rattle.line_events.specs.Progress.{going_by, going_in, changed_at, change_going, progressed}
+use Rattle.session_events.specs.Rounds.{front_in, progress_of}
+use Rattle.session_events.specs.Starts.{starts_over}
+
+-- ---- the last START, which goes on
+
+module _ (door : ℕ) where
+  last_goes : (xs : List Start) (g : Start) → is_going door g ≡ true
+      → going_in door (xs ++ g ∷ []) ≡ Some (length xs)
+  last_goes [] g is = ap (λ (b : Bool). going_by b None) is
+  last_goes (x ∷ xs) g is =
+      ap (λ (o : Option ℕ). going_by (is_going door x) o) (last_goes xs g is)
+
+  last_changes : (change : Start → Start) (xs : List Start) (g : Start)
+      → change_at (length xs) change (xs ++ g ∷ []) ≡ xs ++ change g ∷ []
+  last_changes change [] g = refl
+  last_changes change (x ∷ xs) g = ap (λ (all : List Start). x ∷ all) (last_changes change xs g)
+
+  pub changes_last : (change : Start → Start) (xs : List Start) (g : Start)
+      → is_going door g ≡ true → change_going door change (xs ++ g ∷ []) ≡ xs ++ change g ∷ []
+  changes_last change xs g is =
+      ap (λ (o : Option ℕ). changed_at o change (xs ++ g ∷ [])) (last_goes xs g is)
+      ∙ last_changes change xs g
+
+-- ---- a START that is there stays
+
+-- with its door, its terms and the rounds that it had
+pub record StaysAt (s : Start) (all : List Start) (place : ℕ) : Type 0 where
+  pub start : Start
+  pub there : slice_get all place ≡ Some start
+  pub door : start.door ≡ s.door
+  pub terms : start.terms ≡ s.terms
+  pub begins : Begins s.rounds start.rounds
+
+same_there : (s : Start) (all : List Start) (place : ℕ) → slice_get all place ≡ Some s
+    → StaysAt s all place
+same_there s all place there = record {
+  start = s;
+  there = there;
+  door = refl;
+  terms = refl;
+  begins = ([], sym (append-nil s.rounds));
+}
+
+there_before : (s : Start) (all others : List Start) (place : ℕ) → slice_get all place ≡ Some s
+    → slice_get (all ++ others) place ≡ Some s
+there_before s [] others place there = absurd (cc there)
+there_before s (x ∷ all) others zero there = there
+there_before s (x ∷ all) others (suc place) there = there_before s all others place there
+
+-- a change that lets it go on
+abbrev LetsGoOn : (Start → Start) → Type 0
+LetsGoOn change =
+    (x : Start) → ((change x).door ≡ x.door) × ((change x).terms ≡ x.terms)
+    × Begins x.rounds (change x).rounds
+
+changed_stays : (change : Start → Start) → LetsGoOn change → (at : ℕ) (s : Start) (all : List Start)
+    (place : ℕ) → slice_get all place ≡ Some s → StaysAt s (change_at at change all) place
+changed_stays change lets at s [] place there = absurd (cc there)
+changed_stays change lets zero s (x ∷ all) zero there =
+    let same : x ≡ s = cc there in
+    subst (λ (y : Start). StaysAt y (change x ∷ all) 0) same (record {
+      start = change x;
+      there = refl;
+      door = (lets x).0;
+      terms = (lets x).1;
+      begins = (lets x).2;
+    })
+changed_stays change lets zero s (x ∷ all) (suc place) there =
+    same_there s (change x ∷ all) (suc place) there
+changed_stays change lets (suc at) s (x ∷ all) zero there =
+    same_there s (x ∷ change_at at change all) 0 there
+changed_stays change lets (suc at) s (x ∷ all) (suc place) there =
+    let one = changed_stays change lets at s all place there in record {
+      start = one.start;
+      there = one.there;
+      door = one.door;
+      terms = one.terms;
+      begins = one.begins;
+    }
+
+going_stays : (change : Start → Start) → LetsGoOn change → (o : Option ℕ) (s : Start)
+    (all : List Start) (place : ℕ) → slice_get all place ≡ Some s
+    → StaysAt s (changed_at o change all) place
+going_stays change lets None s all place there = same_there s all place there
+going_stays change lets (Some at) s all place there = changed_stays change lets at s all place there
+
+progress_stays : (door front : ℕ) (p : Progress) (s : Start) (all : List Start) (place : ℕ)
+    → slice_get all place ≡ Some s → StaysAt s (progressed door front p all) place
+progress_stays door front none_runs s all place there = same_there s all place there
+progress_stays door front (taken_now a) s all place there =
+    same_there s (all ++ begun a front ∷ []) place
+    (there_before s all (begun a front ∷ []) place there)
+progress_stays door front (goes_by r) s all place there =
+    going_stays (with_round r) (λ x. (refl, refl, (r ∷ [], refl))) (going_in door all) s all place
+    there
+progress_stays door front ended_now s all place there =
+    going_stays with_end (λ x. (refl, refl, ([], sym (append-nil x.rounds)))) (going_in door all) s
+    all place there
+
+begins_both : (a b c : List DeliveryRound) → Begins a b → Begins b c → Begins a c
+begins_both a b c first second = (
+  first.0 ++ second.0,
+  second.1 ∙ ap (λ (xs : List DeliveryRound). xs ++ second.0) first.1
+      ∙ append_assoc a first.0 second.0,
+)
+
+module _ (door : ℕ) (site : Site) where
+  pub over_stays : (rounds : List Round) (t : State) (s : Start) (all : List Start) (place : ℕ)
+      → slice_get all place ≡ Some s → StaysAt s (starts_over door site t rounds all) place
+  over_stays [] t s all place there = same_there s all place there
+  over_stays (r ∷ rounds) t s all place there =
+      let front = front_in r.told in
+      let p = progress_of door site t r in
+      let one = progress_stays door front p s all place there in
+      let rest =
+      over_stays rounds (after_round site t r) one.start (progressed door front p all) place
+      one.there in
+      record {
+        start = rest.start;
+        there = rest.there;
+        door = rest.door ∙ one.door;
+        terms = rest.terms ∙ one.terms;
+        begins = begins_both s.rounds one.start.rounds rest.start.rounds one.begins rest.begins;
+      }
+
+  -- rounds in two parts
+  pub over_both : (rounds more : List Round) (t : State) (all : List Start)
+      → starts_over door site t (rounds ++ more) all
+      ≡ starts_over door site (after_rounds site t rounds) more
+      (starts_over door site t rounds all)
+  over_both [] more t all = refl
+  over_both (r ∷ rounds) more t all =
+      over_both rounds more (after_round site t r)
+      (progressed door (front_in r.told) (progress_of door site t r) all)
+
+pub last_there : (xs : List Start) (g : Start) → slice_get (xs ++ g ∷ []) (length xs) ≡ Some g
+last_there [] g = refl
+last_there (x ∷ xs) g = last_there xs g

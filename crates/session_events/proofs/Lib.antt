@@ -1,0 +1,4 @@
+mod Rounds
+mod Asking
+mod Kept
+mod Starts
