@@ -4,7 +4,6 @@ use Rattle.std.proofs.Common.{Option, Some, None, refl, sym, ap, subst, ◌∙�
 use Rattle.std.proofs.Common.{append_assoc, arith, inl, inr}
 use Rattle.std.proofs.Common.{⊎_elim, false}
 use Rattle.std.proofs.lemmas.Bool.Decides.{leb_tells}
-use Rattle.std.proofs.lemmas.List.{take_all}
 use Rattle.std.specs.List.{flat_map}
 use Rattle.std.specs.Option.{IfSome}
 use Rattle.octet_core.specs.Fault.{last_count, count_up, Rose}
@@ -31,9 +30,8 @@ use Rattle.script_commands.specs.Drilled.{GainsAll, GainsSome, HasText, text_by,
 use Rattle.script_commands.specs.Drilled.{DrillOutcome, ran, cut_off, given_up, unread, too_long}
 use Rattle.script_commands.specs.Drilled.{never}
 use Rattle.script_commands.specs.Drilled.{Drilled, Completes}
-use Rattle.script_commands.specs.Headline.{HasTranscript, HasWorld, IsRadiated, HasRadiation}
-use Rattle.script_commands.specs.Headline.{terms_of}
-use Rattle.script_commands.specs.Headline.{IsDelivered, HasRun, IsSent, sent, IsStreamed, IsReadOf}
+use Rattle.script_commands.specs.Headline.{HasTranscript, HasWorld, HasRun, IsSent, sent}
+use Rattle.script_commands.specs.Headline.{IsStreamed, IsReadOf}
 use Rattle.script_commands.specs.Laws.{Laws}
 use Rattle.script_head.specs.Lines.{lines_of}
 use Rattle.command_ends.specs.Outside.{Outside}
@@ -71,12 +69,6 @@ module _ (laws : Laws) (script : List ℕ) (s : Start) (is : IsStartOf script s)
   pub streamed : IsStreamed s
   streamed = λ place. laws.streams place (messages_of s)
       (laws.messages (told_by (archive_at s) s) read_of)
-
-  pub delivered : IsDelivered s
-  delivered = λ latency moments.
-      rw (take_all (length (archive_at s)) (archive_at s) (omega arith)) at
-      (laws.rounds (terms_of latency s) (archive_at s) (length (archive_at s)) moments
-      (omega arith) refl)
 
   -- ---- where its messages stand
 
@@ -147,18 +139,6 @@ has_transcript laws (Some script) = λ site lines _. laws.told site lines
 pub has_world : Laws → (input : Option (List ℕ)) → HasWorld input
 has_world laws None = tt
 has_world laws (Some script) = λ site first more rest _. laws.world site first more
-
--- what radiated behind first lines, by the headline at the world of their events
-radiated_so : Laws → (site : Site) (first : List (List ℕ)) → IsRadiated site first
-radiated_so laws site first =
-    let here = laws.world site first [] in
-    let come = subst (AllCome (origin site) before_all) here.begins.1 here.come in
-    let now = here.headline (script_events reading site first) here.begins.0 here.begins come in
-    record { told = here.radiated; sent_good = now.antenna; lawful = now.radiation }
-
-pub has_radiation : Laws → (input : Option (List ℕ)) → HasRadiation input
-has_radiation laws None = tt
-has_radiation laws (Some script) = λ site first rest _. radiated_so laws site first
 
 -- ---- completeness
 

@@ -1,16 +1,11 @@
--- The laws that a drill's promise rests on: of scripts and their connections, of deliveries, of
--- buffers and what a user reads of them, and of streams.
-use Rattle.std.specs.Prelude.{◌≡◌, ℕ, ◌<◌, IsFalse, List, []}
-use Rattle.std.specs.Prelude.{length, map, take, None}
+-- The laws that a drill's promise rests on: of scripts and their connections, of buffers and what a
+-- user reads of them, and of streams.
+use Rattle.std.specs.Prelude.{ℕ, List, [], map, None}
 use Rattle.std.specs.List.{AllByRecursion}
 use Rattle.cds_time.specs.declared.cds.Cds.{Cds}
 use Rattle.isp1_tml.specs.Message.{Content, IsMessage, spellings}
 use Rattle.isp1_tml.specs.Stream.{IsStream}
 use Rattle.archive_terms.specs.Archive.{Entry, IsArchive}
-use Rattle.archive_terms.specs.Selection.{is_stop_closed}
-use Rattle.archive_terms.specs.Delivery.{Terms, is_online, started}
-use Rattle.archive_terms.specs.Delivery.{offline_buffers}
-use Rattle.archive_terms.specs.Rounds.{free_round, picked_at, outcomes, handed_buffers}
 use Rattle.station_config.specs.declared.site.Site.{Site}
 use Rattle.station_law.specs.State.{start as new_world}
 use Rattle.station_desk.specs.ToldBuffer.{ToldBuffer, buffer_message}
@@ -26,11 +21,6 @@ use Rattle.script_world.specs.Script.{AreInWorld}
 use Rattle.piece_laws.specs.Pieces.{AreOfOctets}
 
 pub record Laws : Type 0 where
-  pub rounds : (t : Terms) (entries : List Entry) (front : ℕ) (moments : List ℕ) → 0 < t.size
-      → IsFalse (is_online t.mode)
-      → handed_buffers (outcomes t entries (map (free_round front) moments) started)
-      ≡ take (length moments) (offline_buffers t.size (picked_at t entries front)
-      (is_stop_closed t.selection (take front entries)))
   pub told : (site : Site) (lines : List (List ℕ)) → AreTold step_text (new_world site) lines
   pub readable : (entries : List Entry) (start stop : Cds) (quality : ℕ) → IsArchive entries
       → AreReadable (told_desk entries start stop quality)

@@ -5,21 +5,19 @@ use Rattle.command_ends.specs.Ends.{code}
 use Rattle.command_ends.specs.Outside.{Outside}
 use Rattle.script_commands.specs.Drilled.{ended, HasText, HasReads, HasWrites, HasScript, Completes}
 use Rattle.script_commands.specs.Start.{EachStart}
-use Rattle.script_commands.specs.Headline.{HasTranscript, HasWorld, HasRadiation, IsDelivered}
-use Rattle.script_commands.specs.Headline.{IsSent}
-use Rattle.script_commands.specs.Headline.{IsStreamed, IsReadOf}
+use Rattle.script_commands.specs.Headline.{HasTranscript, HasWorld, IsSent, IsStreamed, IsReadOf}
 use Rattle.script_commands.specs.Connection.{EachConnection, IsSessionOf, IsLosslessOf}
-use Rattle.script_commands.specs.Connection.{IsDeliveredTo}
-use Rattle.script_commands.specs.Connection.{HasHistory}
+use Rattle.script_commands.specs.Connection.{IsDeliveredTo, HasHistory}
 
 -- By the status that the exit code is: what was written, which calls failed, what the script is,
 -- and that it ends with its own status. Then where the text of each line stands; that the lines are
 -- events of a world, which has the headline at each moment, so that what each START has handed over
--- is right behind all later ones; what radiated; and of each START what delivers its buffers, where its messages
--- stand in the output, that they are a stream, and what a user reads of them. And of each
--- connection: that what is said of it is *Session*, on the script's one book, which loses nothing that
--- it asks, so that none ends with `aborted 127`; and that each START on it was handed what *Delivery*
--- of it hands over of the archive, then and behind any later lines, a power failure too.
+-- is right behind all later ones, what radiated is lawful, and a recovery keeps what it is to keep;
+-- and of each START of the desk where its messages stand in the output, that they are a stream, and
+-- what a user reads of them. And of each connection: that what is said of it is *Session*, on the
+-- script's one book, which loses nothing that it asks, so that none ends with `aborted 127`; and that
+-- each START on it was handed what *Delivery* of it hands over of the archive, then and behind any
+-- later lines, a power failure too.
 pub record IsDrill (before after : Outside) (exit : ℕ) : Type 0 where
   pub status : Status
   pub exit_is : exit ≡ code status
@@ -30,8 +28,6 @@ pub record IsDrill (before after : Outside) (exit : ℕ) : Type 0 where
   pub complete : Completes before after status
   pub transcript : HasTranscript before.left
   pub world : HasWorld before.left
-  pub radiation : HasRadiation before.left
-  pub delivered : EachStart before.left IsDelivered
   pub sent : EachStart before.left (IsSent before after status)
   pub streamed : EachStart before.left IsStreamed
   pub read : EachStart before.left IsReadOf

@@ -5,7 +5,6 @@ ghost use Rattle.script_commands.specs.Promise.{IsDrill};
 ghost use Rattle.script_commands.specs.Laws.{Laws};
 
 use crate::run::run_script;
-use archive_terms::laws::offline_rounds;
 use command_ends::{Status, put_line};
 use connection_laws::laws::{connections_lose_nothing, each_start_is_delivered};
 use isp1_tml::laws::spelled_is_read;
@@ -42,7 +41,6 @@ fn laws()
     connections_lose_nothing();
     each_start_is_delivered();
     a_start_is_read();
-    offline_rounds();
     pieces_are_octets();
     spelled_is_read();
 }

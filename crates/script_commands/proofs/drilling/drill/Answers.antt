@@ -1,7 +1,6 @@
 use Rattle.command_ends.specs.Outside.{Outside, showing}
-use Rattle.script_commands.proofs.Promises.{delivered, read_of, streamed}
-use Rattle.script_commands.proofs.Promises.{each_start, each_sent, has_transcript, has_world}
-use Rattle.script_commands.proofs.Promises.{has_radiation, completes}
+use Rattle.script_commands.proofs.Promises.{read_of, streamed, each_start, each_sent}
+use Rattle.script_commands.proofs.Promises.{has_transcript, has_world, completes}
 use Rattle.script_commands.proofs.Sessions.{each_connection, is_session, is_lossless, is_delivered}
 use Rattle.script_commands.proofs.Sessions.{has_history}
 use Rattle.script_commands.proofs.drilling.drill.Goals as goal
@@ -25,8 +24,6 @@ returns g c =
       complete = completes before after c.read_and_run.result c.read_and_run.ensures;
       transcript = has_transcript laws before.left;
       world = has_world laws before.left;
-      radiation = has_radiation laws before.left;
-      delivered = each_start before.left _ (delivered laws);
       sent = each_sent laws before after c.read_and_run.result c.read_and_run.ensures.text;
       streamed = each_start before.left _ (streamed laws);
       read = each_start before.left _ (read_of laws);
