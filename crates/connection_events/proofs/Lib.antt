@@ -1,0 +1,5 @@
+mod Doors
+mod Rounds
+mod Lines
+mod Lists
+mod InWorld
