@@ -1,7 +1,7 @@
-mod Among
-mod Calls
-mod Sessions
-mod Doors
-mod Publishing
-mod Workers
-mod Runs
+pub mod Among
+pub mod Calls
+pub mod Sessions
+pub mod Doors
+pub mod Publishing
+pub mod Workers
+pub mod Runs

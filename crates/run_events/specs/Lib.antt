@@ -1,0 +1,5 @@
+pub mod Stores
+pub mod Turns
+pub mod Runs
+pub mod Beside
+pub mod Laws
