@@ -145,6 +145,11 @@ def failures(one):
     yield "a power failure between two buffers", one + FRAMES[1] + login(1, ONLC1) + asked \
         + b"crash 0 old\n" + login(1, ONLC1) + asked + b"round 1 1\n", \
         said + b"crash\narchive 2\n" + said + sent(1, frame_buffer(2, False))
+    yield "an end of data that no later frame makes false, over a power failure", one \
+        + login(1, ONLC1) + b"ask 1 start 20000/0/0 20000/1000/0 2\nround 1 1\n" \
+        + b"mark 20000/1000/0\nround 1 1\ncrash 0 torn\nframe 20000/1000/0 0 41 0 0010a2\n", \
+        bound(1) + sent(1, STARTED) + sent(1, frame_buffer(1, True)) + sent(1, END) \
+        + b"crash\narchive 2\nbackward\n"
     yield "a break ends a delivery", one + login(1, ONLC1) + asked + b"break 1\n" \
         + login(1, ONLC1) + asked, said + b"ended 1 fault\n" + said
 
