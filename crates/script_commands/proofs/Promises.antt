@@ -8,7 +8,6 @@ use Rattle.std.specs.List.{flat_map}
 use Rattle.std.specs.Option.{IfSome}
 use Rattle.octet_core.specs.Fault.{last_count, count_up, Rose}
 use Rattle.archive_terms.specs.Archive.{IsArchive}
-use Rattle.station_config.specs.declared.site.Site.{Site}
 use Rattle.station_desk.specs.Start.{moment}
 use Rattle.sle_numbers.specs.RequestedFrameQuality.{number_of}
 use Rattle.station_desk.specs.ToldBuffer.{ToldBuffer, buffer_message}

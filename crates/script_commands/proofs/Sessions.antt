@@ -10,7 +10,8 @@ use Rattle.station_law.specs.Standing.{there, is_free}
 use Rattle.station_law.specs.State.{State, start as new_world}
 use Rattle.script_commands.specs.Connection.{Connection, IsConnectionOf, EachConnection}
 use Rattle.script_commands.specs.Connection.{IsSessionOf}
-use Rattle.script_commands.specs.Connection.{IsLosslessOf, IsDeliveredTo, HasHistory, world_before}
+use Rattle.script_commands.specs.Connection.{IsLosslessOf, IsDeliveredTo, AreOfWorld, HasHistory}
+use Rattle.script_commands.specs.Connection.{world_before}
 use Rattle.script_commands.specs.Connection.{world_behind}
 use Rattle.script_commands.specs.Connection.{life_of}
 use Rattle.script_commands.specs.Laws.{Laws}
@@ -68,6 +69,11 @@ module _ (laws : Laws) (script : List ℕ) (o : Connection) (is : IsConnectionOf
   pub is_delivered : IsDeliveredTo o
   is_delivered = λ some. laws.deliveries o.site o.earlier (take some o.later) is.line o.c
       (valid_site script o.site _ is.stands) is.says is.free
+      (laws.pieces o.c (take some o.later) (world_behind o))
+
+  pub of_world : AreOfWorld o
+  of_world = λ some line says. laws.in_world o.site o.earlier (take some o.later) line o.c
+      (valid_site script o.site _ is.stands) says is.free
       (laws.pieces o.c (take some o.later) (world_behind o))
 
 pub each_connection : (input : Option (List ℕ)) (IsSo : Connection → Type 0)

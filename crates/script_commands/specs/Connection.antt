@@ -14,6 +14,11 @@ use Rattle.station_law.specs.Standing.{is_free}
 use Rattle.station_law.specs.State.{State, start as new_world}
 use Rattle.connection_laws.specs.Delivered.{IsDelivered}
 use Rattle.connection_laws.specs.Lossless.{IsLossless}
+use Rattle.return_pdu.specs.declared.service.Service.{Service as ReturnService}
+use Rattle.session_core.specs.Lists.{Began}
+use Rattle.session_laws.specs.Handing.{Start as SessionStart, IsStart}
+use Rattle.script_world.specs.Script.{world_behind as world_of}
+use Rattle.connection_events.specs.InWorld.{IsStartOf}
 use Rattle.script_head.specs.Lines.{lines_of}
 use Rattle.script_commands.specs.Script.{script_of, runs}
 
@@ -82,6 +87,21 @@ IsDeliveredTo o =
     (some : ℕ)
     → IsDelivered reading (began o.site o.c (world_before o).clock) (rounds_of o some)
     (world_at o some)
+
+-- its session, from the clock's reading at its line on
+abbrev pub session_of : Connection → Began
+session_of o = began o.site o.c (world_before o).clock
+
+-- Each START of RAF and of RCF in its rounds, over any first few lines, is one of the STARTs of the
+-- station's world behind these, of which the headline is said: at its door, with what it asks for, and
+-- what was done for it begins what that START has done.
+abbrev pub AreOfWorld : Connection → Type 0
+AreOfWorld o =
+    (some : ℕ) (line : List ℕ) → reading line ≡ Some (Open o.c)
+    → (service : ReturnService) (a : SessionStart)
+    → IsStart service (session_of o) (rounds_of o some) a
+    → IsStartOf service (session_of o) a
+    (world_of reading o.site (o.earlier ++ line ∷ take some o.later))
 
 -- That book has one legal history: at each line that runs, it goes on where the line before left
 -- it, and a recovery begins a new one.

@@ -30,9 +30,10 @@ HasTranscript input =
     → AreTold step_text (new_world site) lines)
 
 -- The lines that run are events of a station's world. Behind any first ones of them stands the
--- world of their events: its state is the script's, its STARTs did what was handed over, and what the
--- lines tell as radiated is what its antenna was sent. And at each moment, also within a line, the
--- headline holds against each later world.
+-- world of their events: its state is the script's, its STARTs of the desk did what was handed over,
+-- its users have the STARTs that the rounds of their connections make, and what the lines tell as
+-- radiated is what its antenna was sent. And at each moment, also within a line, the headline holds
+-- against each later world.
 abbrev pub HasWorld : Option (List ℕ) → Type 0
 HasWorld input =
     IfSome input (λ script. (site : Site) (first more rest : List (List ℕ))

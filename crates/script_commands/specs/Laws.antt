@@ -18,6 +18,7 @@ use Rattle.connection_laws.specs.Delivered.{AreDelivered}
 use Rattle.connection_laws.specs.Lossless.{AreLossless}
 use Rattle.drill_text.specs.Reading.{reading}
 use Rattle.script_world.specs.Script.{AreInWorld}
+use Rattle.connection_events.specs.InWorld.{StartsAreInWorld}
 use Rattle.piece_laws.specs.Pieces.{AreOfOctets}
 
 pub record Laws : Type 0 where
@@ -30,6 +31,7 @@ pub record Laws : Type 0 where
   pub lossless : AreLossless reading
   pub deliveries : AreDelivered reading
   pub world : AreInWorld reading
+  pub in_world : StartsAreInWorld reading
   pub pieces : AreOfOctets
   pub streams : (place : ℕ) (messages : List Content) → AllByRecursion IsMessage messages
       → IsStream place (spellings messages) messages [] None

@@ -7,7 +7,8 @@ use Rattle.script_commands.specs.Drilled.{ended, HasText, HasReads, HasWrites, H
 use Rattle.script_commands.specs.Start.{EachStart}
 use Rattle.script_commands.specs.Headline.{HasTranscript, HasWorld, IsSent, IsStreamed, IsReadOf}
 use Rattle.script_commands.specs.Connection.{EachConnection, IsSessionOf, IsLosslessOf}
-use Rattle.script_commands.specs.Connection.{IsDeliveredTo, HasHistory}
+use Rattle.script_commands.specs.Connection.{IsDeliveredTo, AreOfWorld}
+use Rattle.script_commands.specs.Connection.{HasHistory}
 
 -- By the status that the exit code is: what was written, which calls failed, what the script is,
 -- and that it ends with its own status. Then where the text of each line stands; that the lines are
@@ -15,9 +16,10 @@ use Rattle.script_commands.specs.Connection.{IsDeliveredTo, HasHistory}
 -- is right behind all later ones, what radiated is lawful, and a recovery keeps what it is to keep;
 -- and of each START of the desk where its messages stand in the output, that they are a stream, and
 -- what a user reads of them. And of each connection: that what is said of it is *Session*, on the
--- script's one book, which loses nothing that it asks, so that none ends with `aborted 127`; and that
+-- script's one book, which loses nothing that it asks, so that none ends with `aborted 127`; that
 -- each START on it was handed what *Delivery* of it hands over of the archive, then and behind any
--- later lines, a power failure too.
+-- later lines, a power failure too; and that it is one of the STARTs of the world, of which the
+-- headline is said.
 pub record IsDrill (before after : Outside) (exit : ℕ) : Type 0 where
   pub status : Status
   pub exit_is : exit ≡ code status
@@ -34,4 +36,5 @@ pub record IsDrill (before after : Outside) (exit : ℕ) : Type 0 where
   pub sessions : EachConnection before.left IsSessionOf
   pub lossless : EachConnection before.left IsLosslessOf
   pub deliveries : EachConnection before.left IsDeliveredTo
+  pub in_world : EachConnection before.left AreOfWorld
   pub history : HasHistory before.left

@@ -6,6 +6,7 @@ ghost use Rattle.script_commands.specs.Laws.{Laws};
 
 use crate::run::run_script;
 use command_ends::{Status, put_line};
+use connection_events::laws::starts_are_in_the_world;
 use connection_laws::laws::{connections_lose_nothing, each_start_is_delivered};
 use isp1_tml::laws::spelled_is_read;
 use octet_core::{Sink, Source};
@@ -40,6 +41,7 @@ fn laws()
     connections_are_sessions();
     connections_lose_nothing();
     each_start_is_delivered();
+    starts_are_in_the_world();
     a_start_is_read();
     pieces_are_octets();
     spelled_is_read();

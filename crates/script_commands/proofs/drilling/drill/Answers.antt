@@ -2,7 +2,7 @@ use Rattle.command_ends.specs.Outside.{Outside, showing}
 use Rattle.script_commands.proofs.Promises.{read_of, streamed, each_start, each_sent}
 use Rattle.script_commands.proofs.Promises.{has_transcript, has_world, completes}
 use Rattle.script_commands.proofs.Sessions.{each_connection, is_session, is_lossless, is_delivered}
-use Rattle.script_commands.proofs.Sessions.{has_history}
+use Rattle.script_commands.proofs.Sessions.{of_world, has_history}
 use Rattle.script_commands.proofs.drilling.drill.Goals as goal
 
 pub returns : goal.returns
@@ -30,5 +30,6 @@ returns g c =
       sessions = each_connection before.left _ (is_session laws);
       lossless = each_connection before.left _ (is_lossless laws);
       deliveries = each_connection before.left _ (is_delivered laws);
+      in_world = each_connection before.left _ (of_world laws);
       history = has_history laws before.left;
     }
