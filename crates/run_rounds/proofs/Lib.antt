@@ -1,0 +1,6 @@
+pub mod Filling
+pub mod Sessions
+pub mod Working
+pub mod Doors
+pub mod Staying
+pub mod Joining

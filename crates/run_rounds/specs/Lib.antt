@@ -1,0 +1,5 @@
+pub mod Doors
+pub mod Sessions
+pub mod Workers
+pub mod Rounds
+pub mod Laws
