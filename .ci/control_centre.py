@@ -283,7 +283,7 @@ class Station:
         env = {**os.environ, "STATION_ADDRESS": "127.0.0.1", "STATION_STOP": str(self.stop_port)}
         if not stops:
             del env["STATION_STOP"]
-        self.process = subprocess.Popen([programs["station"], *words, *map(str, self.ports)],
+        self.process = subprocess.Popen([programs["provider"], "run", *words, *map(str, self.ports)],
                                         stdin=subprocess.PIPE, stdout=subprocess.PIPE,
                                         stderr=subprocess.PIPE, env={**env, **given})
         try:

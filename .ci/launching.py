@@ -42,7 +42,7 @@ case $1 in
     ci)
         [ -z "$CHANGES" ] || echo >>"$CHANGES"
         sed 's/[ :].*/ proved/; s/^/rt: /; s/cds_time proved/cds_time is kept: so/' crates.txt
-        for main in provider_cli explain_cli capture_cli picture_cli station_cli user_cli; do
+        for main in provider_cli explain_cli capture_cli picture_cli user_cli; do
             mkdir -p crates/$main/out
             printf '#!/bin/sh\n%s\necho "proved program: $*"\n' "$ECHOES" >crates/$main/out/$main
             chmod +x crates/$main/out/$main
@@ -334,7 +334,7 @@ def drawing(copy, check):
     for how, times in [(b"`bin/provider prove`", 2), (b"`bin/provider prove picture`", 2)]:
         check(f"unproved picture, {how}", found[2].count(how), times)
     where = "".join(f"{copy.top}/crates/{name}_cli try --seconds 600 -- {word}\n"
-                    for name, word in [("provider", "drill"), ("picture", "picture")])
+                    for name, word in [("drill", "drill"), ("picture", "picture")])
     check("unproved picture, words", copy.noted("words"), where.encode())
     check("unproved picture, input", copy.noted("input"), b"4\nx\n\nya\nb")
     path = copy.top / PROGRAM.replace("provider_cli", "picture_cli")
@@ -370,22 +370,21 @@ def drawing(copy, check):
 
 
 def running(copy, check):
-    """`run` is a program of its own, and wants a proof."""
+    """`run` is a command of the provider's program, and wants a proof."""
     words = [b"run", b"10", b"1", b"a b", b"1", b"", b"65535", b"5101"]
     copy.forget()
     status, output, errors = copy.run(words)
-    check("unproved run", (status, output, errors.count(b"`bin/provider prove run`")), (1, b"", 1))
+    check("unproved run", (status, output, errors.count(b"`bin/provider prove`")), (1, b"", 1))
     check("unproved run, rt", copy.noted("words"), None)
-    path = copy.top / PROGRAM.replace("provider_cli", "station_cli")
-    check("prove run", copy.run([b"prove", b"run"])[:2], (0, bytes(path) + b"\n"))
-    said = b"proved program: " + b" ".join(words[1:]) + b"\n"
+    copy.run([b"prove"])
+    said = b"proved program: " + b" ".join(words) + b"\n"
     check("proved run", copy.run(words), (0, said, b""))
-    shutil.rmtree(path.parent)
+    copy.forget()
     for place, word in [(1, b"9"), (1, b"1099511627777"), (2, b"0"), (2, b"65537"), (4, b"0"),
                         (4, b"65536"), (6, b"01"), (7, b"+1"), (7, b"")]:
         line = [*words[:place], word, *words[place + 1:]]
         check(f"launcher, refused {line}", copy.run(line), USAGE)
-    for line in [words[:6], [*words, *[b"1"] * 15], [b"prove", b"run", b"x"]]:
+    for line in [words[:6], [*words, *[b"1"] * 15], [b"prove", b"run"]]:
         check(f"launcher, refused {line}", copy.run(line), USAGE)
 
 
@@ -419,12 +418,12 @@ def operating(copy, check):
     """What an operator has besides `run`: where a station hears a stop, `stop`, and `check`."""
     copy.forget()
     shows = {"ECHOES": 'echo "[${STATION_STOP-none}]"'}
-    copy.run([b"prove", b"run"], given=shows)
+    copy.run([b"prove"], given=shows)
     words = [b"run", b"10", b"1", b"a", b"1", b"c", b"5101"]
     for given, told in [({}, b"5199"), ({"STATION_STOP": "7"}, b"7"), ({"STATION_STOP": ""}, b"none")]:
         output = copy.run(words, given=given)[1]
         check(f"a run with {given}", output.split(b"\n")[0], b"[" + told + b"]")
-    shutil.rmtree((copy.top / PROGRAM.replace("provider_cli", "station_cli")).parent)
+    copy.forget()
     with socket.create_server(("127.0.0.1", 0)) as station:
         port = {"STATION_STOP": str(station.getsockname()[1])}
         operator = copy.start([b"stop"], port)

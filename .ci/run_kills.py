@@ -1,7 +1,7 @@
 #!/usr/bin/env python3
 """Kills a station under load, and compares what its users had been handed with what its files hold.
 
-usage: run_kills.py STATION PROVIDER [ROUNDS] [SEED]
+usage: run_kills.py PROVIDER [ROUNDS] [SEED]
 
 In each round a station goes on over the archive of the one before, but for every tenth, whose archive
 is new. A front end feeds it at full speed, two users follow all frames, online and offline, and one
@@ -22,9 +22,9 @@ import time
 from control_centre import (Station, User, cds, check, cltu_start, elements, frame, instance, items,
                             programs, site, start, started, told_at, told_counts, transfer)
 
-programs.update(station=os.path.abspath(sys.argv[1]), provider=os.path.abspath(sys.argv[2]))
-ROUNDS = int(sys.argv[3]) if len(sys.argv) > 3 else 100
-SEED = int(sys.argv[4]) if len(sys.argv) > 4 else random.SystemRandom().randrange(1_000_000)
+programs.update(provider=os.path.abspath(sys.argv[1]))
+ROUNDS = int(sys.argv[2]) if len(sys.argv) > 2 else 100
+SEED = int(sys.argv[3]) if len(sys.argv) > 3 else random.SystemRandom().randrange(1_000_000)
 ROUNDS_AN_ARCHIVE = 10
 COMMANDS = "sagr=1.spack=P.fsl-fg=1.cltu=cltu1"
 LAST = 86_399_999

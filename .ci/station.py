@@ -1,7 +1,7 @@
 #!/usr/bin/env python3
 """Drives a station over the loopback, as users, a front end and an operator do.
 
-usage: station.py STATION PROVIDER USER
+usage: station.py PROVIDER USER
 
 Users bind, hear heartbeats, start deliveries, read their transfer buffers back and unbind; sixteen of
 them at once, of timely, complete and offline instances, of channels and of telecommands: one of them
@@ -25,8 +25,8 @@ from control_centre import (BACKLOG, END_OF_DATA, HEARTBEAT, PATIENCE, Station, 
                             site, start, started, stop, stopped, told_at, told_counts, transfer)
 
 TOP = os.path.dirname(os.path.dirname(os.path.abspath(__file__)))
-STATION, PROVIDER, USER = map(os.path.abspath, sys.argv[1:])
-programs.update(station=STATION, provider=PROVIDER)
+PROVIDER, USER = map(os.path.abspath, sys.argv[1:])
+programs.update(provider=PROVIDER)
 
 
 def one_user(folder):
@@ -386,7 +386,7 @@ def stops(folder):
         check("its log", log, [f"stop 127.0.0.1:{port}: address in use"])
     for given in [{"STATION_STOP": "0"}, {"STATION_STOP": "x"}, {"STATION_ADDRESS": "here"}]:
         words = ["10", "1", station.path, "1", os.path.join(folder, "cltus"), "2"]
-        found = subprocess.run([STATION, *words], capture_output=True, stdin=subprocess.DEVNULL,
+        found = subprocess.run([PROVIDER, "run", *words], capture_output=True, stdin=subprocess.DEVNULL,
                                env={**os.environ, **given})
         check(f"environment {given}", (found.returncode, found.stdout), (2, b"usage\n"))
 
@@ -431,7 +431,7 @@ def refusals(folder):
     for words in [[], ["10", "1", "a", "1", "b"], ["9", "1", "a", "1", "b", "2"],
                   ["10", "0", "a", "1", "b", "2"], ["10", "1", "a", "0", "b", "2"],
                   ["10", "1", "a", "1", "b", "65536"], ["10", "1", "a", "1", "b", *["2"] * 17]]:
-        found = subprocess.run([programs["station"], *words], capture_output=True, stdin=subprocess.DEVNULL)
+        found = subprocess.run([PROVIDER, "run", *words], capture_output=True, stdin=subprocess.DEVNULL)
         check(f"words {words}", (found.returncode, found.stdout), (2, b"usage\n"))
 
 

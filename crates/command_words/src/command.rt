@@ -1,15 +1,16 @@
 // The words of the command line.
-ghost use Rattle.std.specs.Prelude.{◌≡◌, IfOk, OnErr};
-ghost use Rattle.command_words.specs.Command.{asked, of_two, rehearsal_of, NeedsDisk};
+ghost use Rattle.std.specs.Prelude.{◌≡◌, IfOk, OnErr, map};
+ghost use Rattle.command_words.specs.Command.{asked, of_more, of_two, rehearsal_of, NeedsDisk};
 ghost use Rattle.command_words.specs.Command.{IsInRange};
 
 use crate::commands::Plan;
 use crate::number::frames_of;
 use octet_core::{Memory, Octets};
+use run_plan::RunPlan;
 use std::alloc::Global;
 
 /// Reads the words of the command line, and answers none where they are no command. It takes memory
-/// for a path alone.
+/// for a path and for the words of a run alone.
 pub fn plan(alloc: Global, words: &[&str]) -> Result<Option<Plan>, Memory>
     ensures plan { IfOk result (λ plan. plan ≡ asked words.now) }
     ensures range { IfOk result IsInRange }
@@ -22,7 +23,8 @@ pub fn plan(alloc: Global, words: &[&str]) -> Result<Option<Plan>, Memory>
             None
         }),
         [word, value] => plan_of_two(alloc, word, value),
-        _ => Ok(None),
+        [word, others @ ..] => plan_of_more(alloc, word, others),
+        [] => Ok(None),
     }
 }
 
@@ -53,5 +55,23 @@ fn plan_of_rehearsal(value: &str) -> Option<Plan>
     match frames_of(value.as_bytes()) {
         Some(n) => Some(Plan::Rehearse { n }),
         None => None,
+    }
+}
+
+// Reads a command's word and the words behind it, where they are two or more.
+fn plan_of_more(alloc: Global, word: &str, others: &[&str]) -> Result<Option<Plan>, Memory>
+    ensures plan { IfOk result (λ plan. plan
+        ≡ of_more word.now (map (λ word. word.now) others.now)) }
+    ensures range { IfOk result IsInRange }
+    ensures memory { OnErr result (NeedsDisk (of_more word.now
+        (map (λ word. word.now) others.now))) }
+{
+    if word != "run" {
+        return Ok(None);
+    }
+    match RunPlan::read(alloc, others) {
+        Ok(Some(plan)) => Ok(Some(Plan::Run(plan))),
+        Ok(None) => Ok(None),
+        Err(memory) => Err(memory),
     }
 }

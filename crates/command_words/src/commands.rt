@@ -1,9 +1,10 @@
 // What a command line may ask for.
 
 use octet_core::Octets;
+use run_plan::RunPlan;
 
 /// What the words of the command line ask for.
-#[derive(Debug, Drop, PartialEq, Eq)]
+#[derive(Debug, Drop)]
 pub enum Plan {
     /// `drill`: run the script on the input.
     Drill,
@@ -22,4 +23,6 @@ pub enum Plan {
         /// How many frames, 1 to 20,000.
         n: u32,
     },
+    /// `run TURNS LINKS PATH FEED ANTENNA PORT..`: run a station, with what these words ask for.
+    Run(RunPlan),
 }

@@ -1,146 +1,304 @@
-// The ground station's provider, over its standard input and output and the file of a path.
+// The ground station's provider, over its standard input and output, the file of a path, and for a
+// station its sockets and its antenna's files.
 //
 // `provider_commands` has the commands, and `command_words` the words that ask for them. Here stand
-// the disk over the file that a command names, and what the program promises of the words that the
-// system gave.
+// the disk over the file that a command names, what `run_host` has for a run, and what the program
+// promises of the words that the system gave. No other command than `run` opens a socket.
 #![tactic(auto)]
 
-ghost use Rattle.std.specs.Prelude.{◌≡◌, IfOk, IfErr, IfSome, OnErr, IsSome, map, string_bytes};
-ghost use Rattle.std.specs.IoError.{error_kind};
+ghost use Rattle.std.specs.Prelude.{◌≡◌, true, false, None, Some, IfOk, IfSome, OnErr, IsSome, map};
+ghost use Rattle.std.specs.Prelude.{string_bytes};
 ghost use Rattle.std.specs.Process.{exit_status};
-ghost use Rattle.std.specs.Str.{IsUtf8};
-ghost use Rattle.command_words.specs.Command.{plan_of, asked, NeedsDisk};
+ghost use Rattle.disk_model.specs.RawFile.{HasFile};
+ghost use Rattle.run_plan.specs.RunPlan.{IsInRange};
 ghost use Rattle.command_ends.specs.Ends.{IsUntold};
 ghost use Rattle.command_ends.specs.Outside.{showing};
+ghost use Rattle.command_words.specs.Command.{plan_of, asked, NeedsDisk};
+ghost use Rattle.command_words.specs.declared.commands.Plan.TheVariants.{Run};
 ghost use Rattle.provider_commands.specs.Provided.{IsAnswered, IsFileOf, IsOnFile};
+ghost use Rattle.provider_commands.specs.Running.{AreReady};
 
-use command_ends::Status;
+use command_ends::{Status, tell};
 use command_words::{Plan, plan, texts_of, words_of};
 use disk_model::FileDisk;
 use octet_core::{Octets, ReaderSource, Sink, Source, WriterSink};
+use operator_side::Stamped;
 use provider_commands::{Equipment, provide_on};
+use run_host::{
+    LateAntenna, LateFrames, MachineClock, MachineDoor, RunFiles, RunPlace, RunSockets,
+    SocketFault, draw_of, machine_clock, open_files, open_sockets, tell_begin, tell_end, text_of,
+};
+use run_plan::RunPlan;
 use std::alloc::{AllocError, Global};
-use std::io::ErrorKind;
+use std::io::Eprint;
+use std::net::{Net, TcpListener, TcpStream};
 use std::process::ExitCode;
-use std::{env, io, str};
+use std::random::RandomSource;
+use std::sync::Wait;
+use std::thread::Threads;
+use std::{env, io, rt};
+
+// What the program runs on.
+type Kit<'a, R, I, O> = Equipment<
+    I,
+    O,
+    FileDisk,
+    MachineDoor<'a, R>,
+    MachineClock<'a, R>,
+    LateFrames<Stamped<'a, R>>,
+    LateAntenna,
+>;
 
 fn main(rt: HostRuntime) -> ExitCode {
+    let alloc = rt.alloc();
     let mut kit = Equipment {
         input: ReaderSource::new(rt.reader()),
         output: WriterSink::new(io::writer(&rt)),
         disk: None,
+        doors: Vec::new(alloc),
+        clocks: Vec::new(alloc),
+        frames: LateFrames { feed: None },
+        antenna: LateAntenna::none(),
+        antenna_clock: machine_clock(&rt, alloc),
+        draw: 0,
+        passes: None,
     };
-    let words = words_of(rt.alloc(), env::args(&rt));
-    exit_of(&rt, words, &mut kit)
-}
-
-// Runs the command of the words that the system gave, and answers the exit code to end with.
-fn exit_of<I: Source, O: Sink>(
-    rt: &HostRuntime,
-    words: Result<Vec<String>, AllocError>,
-    kit: &mut Equipment<I, O, FileDisk>,
-) -> ExitCode
-    ensures answered { IfOk words (λ words. IsAnswered (plan_of (map string_bytes words.items))
-        (showing (I.left kit.old.input) (I.faults kit.old.input)
-        (O.written kit.old.output) (O.faults kit.old.output))
-        (showing (I.left kit.new.input) (I.faults kit.new.input)
-        (O.written kit.new.output) (O.faults kit.new.output))
-        (exit_status result)) }
-    ensures memory { OnErr words (IsUntold (O.written kit.old.output) (O.written kit.new.output)
-        (O.faults kit.old.output) (O.faults kit.new.output) (exit_status result)) }
-    ensures unread { OnErr words (kit.new.input ≡ kit.old.input) }
-{
-    let exit = match words {
-        Ok(words) => answer(rt, words.as_slice(), kit),
-        Err(_) => Status::Memory.code(),
+    let words = words_of(alloc, env::args(&rt));
+    let host = Host {
+        files: &rt,
+        rt: &rt,
+        alloc,
     };
-    ExitCode::from(exit)
+    host.exit_of(words, &mut kit)
 }
 
-// Runs the command of these words on the kit, and on the file that they name, and answers its exit
-// code.
-fn answer<I: Source, O: Sink>(
-    rt: &HostRuntime,
-    words: &[String],
-    kit: &mut Equipment<I, O, FileDisk>,
-) -> u8
-    ensures { IsAnswered (plan_of (map string_bytes words.now))
-        (showing (I.left kit.old.input) (I.faults kit.old.input)
-        (O.written kit.old.output) (O.faults kit.old.output))
-        (showing (I.left kit.new.input) (I.faults kit.new.input)
-        (O.written kit.new.output) (O.faults kit.new.output))
-        result }
+// The disk over a new file at this path.
+fn made(files: &HostRuntime, path: &Octets) -> io::Result<FileDisk>
+    ensures { IfOk result (λ disk. HasFile path.now true disk.file None) }
 {
-    match texts_of(rt.alloc(), words) {
-        Ok(texts) => provide_found(rt, texts.as_slice(), kit),
-        Err(_) => Status::Memory.code(),
-    }
+    FileDisk::create(files, text_of(path)?)
 }
 
-// Runs the command of these words on the kit, and on the file that they name.
-fn provide_found<I: Source, O: Sink>(
-    rt: &HostRuntime,
-    words: &[&str],
-    kit: &mut Equipment<I, O, FileDisk>,
-) -> u8
-    ensures { IsAnswered (asked words.now)
-        (showing (I.left kit.old.input) (I.faults kit.old.input)
-        (O.written kit.old.output) (O.faults kit.old.output))
-        (showing (I.left kit.new.input) (I.faults kit.new.input)
-        (O.written kit.new.output) (O.faults kit.new.output))
-        result }
+// The disk over the file at this path.
+fn opened(files: &HostRuntime, path: &Octets) -> io::Result<FileDisk>
+    ensures { IfOk result (λ disk. HasFile path.now false disk.file None) }
 {
-    match disk_of(rt, words) {
-        Ok(disk) => provide_over(rt.alloc(), words, disk, kit),
-        Err(error) => provide_on(rt.alloc(), words, Err(error), kit),
-    }
+    FileDisk::open(files, text_of(path)?)
 }
 
-// Runs the command of these words on the kit, over the file that was found for them.
-fn provide_over<I: Source, O: Sink>(
+// The machine that the program runs on: its files, and its threads, sockets and clock.
+#[derive(Drop)]
+struct Host<'a, R> {
+    files: &'a HostRuntime,
+    rt: &'a R,
     alloc: Global,
-    words: &[&str],
-    disk: Option<FileDisk>,
-    kit: &mut Equipment<I, O, FileDisk>,
-) -> u8
-    requires given { NeedsDisk (asked words.now) → IsSome disk }
-    requires file { IfSome disk (λ disk. IsFileOf (asked words.now) disk.file) }
-    ensures { IsOnFile (asked words.now)
-        (showing (I.left kit.old.input) (I.faults kit.old.input)
-        (O.written kit.old.output) (O.faults kit.old.output))
-        (showing (I.left kit.new.input) (I.faults kit.new.input)
-        (O.written kit.new.output) (O.faults kit.new.output))
-        result }
-{
-    provide_on(alloc, words, Ok(disk), kit)
 }
 
-// The disk over the file that a command names, and none for another command: `init` makes the file
-// where there is none, `list` doesn't.
-fn disk_of(rt: &HostRuntime, words: &[&str]) -> io::Result<Option<FileDisk>>
-    ensures given { IfOk result (λ disk. NeedsDisk (asked words.now) → IsSome disk) }
-    ensures none { IfOk result (λ disk. ¬ NeedsDisk (asked words.now) → disk ≡ None) }
-    ensures needed { OnErr result (NeedsDisk (asked words.now)) }
-    ensures faults { IfOk result (λ disk. IfSome disk (λ disk. disk.faults ≡ 0)) }
-    ensures file { IfOk result (λ disk. IfSome disk (λ disk. IsFileOf (asked words.now)
-        disk.file)) }
+impl<'a, R> Host<'a, R>
+where
+    R: Threads
+        + Wait
+        + rt::Clock
+        + Net<Stream = TcpStream, Listener = TcpListener>
+        + RandomSource
+        + Eprint
+        + Sync,
 {
-    match plan(rt.alloc(), words) {
-        Ok(Some(Plan::Init { path })) => Ok(Some(FileDisk::create(rt, text_of(&path)?)?)),
-        Ok(Some(Plan::List { path })) => Ok(Some(FileDisk::open(rt, text_of(&path)?)?)),
-        Ok(_) => Ok(None),
-        Err(_) => Err(ErrorKind::OutOfMemory.into()),
+    // Runs the command of the words that the system gave, and answers the exit code to end with.
+    fn exit_of<I: Source, O: Sink>(
+        &self,
+        words: Result<Vec<String>, AllocError>,
+        kit: &mut Kit<'a, R, I, O>,
+    ) -> ExitCode
+        requires { kit.old.passes ≡ None }
+        ensures answered { IfOk words (λ words. IsAnswered (plan_of (map string_bytes words.items))
+            (showing (I.left kit.old.input) (I.faults kit.old.input)
+            (O.written kit.old.output) (O.faults kit.old.output))
+            (showing (I.left kit.new.input) (I.faults kit.new.input)
+            (O.written kit.new.output) (O.faults kit.new.output))
+            (exit_status result)) }
+        ensures memory { OnErr words (IsUntold (O.written kit.old.output) (O.written kit.new.output)
+            (O.faults kit.old.output) (O.faults kit.new.output) (exit_status result)) }
+        ensures unread { OnErr words (kit.new.input ≡ kit.old.input) }
+    {
+        let exit = match words {
+            Ok(words) => self.answer(words.as_slice(), kit),
+            Err(_) => Status::Memory.code(),
+        };
+        ExitCode::from(exit)
     }
-}
 
-// A path as a text, which it was on the command line.
-fn text_of(path: &Octets) -> io::Result<&str>
-    ensures text { IfOk result (λ text. text.now ≡ path.now) }
-    ensures no_text { OnErr result (¬ IsUtf8 path.now) }
-    ensures kind { IfErr result (λ error. error_kind error ≡ ErrorKind.InvalidInput) }
-{
-    match str::from_utf8(path.as_slice()) {
-        Ok(text) => Ok(text),
-        Err(_) => Err(ErrorKind::InvalidInput.into()),
+    // Runs the command of these words on the kit, and on the file that they name, and answers its exit
+    // code.
+    fn answer<I: Source, O: Sink>(&self, words: &[String], kit: &mut Kit<'a, R, I, O>) -> u8
+        requires { kit.old.passes ≡ None }
+        ensures { IsAnswered (plan_of (map string_bytes words.now))
+            (showing (I.left kit.old.input) (I.faults kit.old.input)
+            (O.written kit.old.output) (O.faults kit.old.output))
+            (showing (I.left kit.new.input) (I.faults kit.new.input)
+            (O.written kit.new.output) (O.faults kit.new.output))
+            result }
+    {
+        match texts_of(self.alloc, words) {
+            Ok(texts) => self.provide_asked(texts.as_slice(), kit),
+            Err(_) => Status::Memory.code(),
+        }
+    }
+
+    // Runs the command of these words on the kit, and on the file that they name: `init` makes it where
+    // there is none, no other command does.
+    fn provide_asked<I: Source, O: Sink>(&self, words: &[&str], kit: &mut Kit<'a, R, I, O>) -> u8
+        requires { kit.old.passes ≡ None }
+        ensures { IsAnswered (asked words.now)
+            (showing (I.left kit.old.input) (I.faults kit.old.input)
+            (O.written kit.old.output) (O.faults kit.old.output))
+            (showing (I.left kit.new.input) (I.faults kit.new.input)
+            (O.written kit.new.output) (O.faults kit.new.output))
+            result }
+    {
+        match plan(self.alloc, words) {
+            Ok(Some(Plan::Run(run))) => self.provide_run(words, &run, kit),
+            Ok(Some(Plan::Init { path })) => {
+                self.provide_found(words, made(self.files, &path), kit)
+            },
+            Ok(Some(Plan::List { path })) => {
+                self.provide_found(words, opened(self.files, &path), kit)
+            },
+            Ok(Some(Plan::Drill)) => self.provide_over(words, None, kit),
+            Ok(Some(Plan::Rehearse { .. })) => self.provide_over(words, None, kit),
+            Ok(None) => self.provide_over(words, None, kit),
+            Err(_) => Status::Memory.code(),
+        }
+    }
+
+    // Runs the command of these words on the kit, over the file that was found for them.
+    fn provide_found<I: Source, O: Sink>(
+        &self,
+        words: &[&str],
+        found: io::Result<FileDisk>,
+        kit: &mut Kit<'a, R, I, O>,
+    ) -> u8
+        requires needs { NeedsDisk (asked words.now) }
+        requires file { IfOk found (λ disk. IsFileOf (asked words.now) disk.file) }
+        requires ready { AreReady (asked words.now) kit.old.doors.items kit.old.clocks.items
+            kit.old.passes }
+        ensures { IsAnswered (asked words.now)
+            (showing (I.left kit.old.input) (I.faults kit.old.input)
+            (O.written kit.old.output) (O.faults kit.old.output))
+            (showing (I.left kit.new.input) (I.faults kit.new.input)
+            (O.written kit.new.output) (O.faults kit.new.output))
+            result }
+    {
+        match found {
+            Ok(disk) => self.provide_over(words, Some(disk), kit),
+            Err(error) => provide_on(self.rt, self.alloc, words, Err(error), kit),
+        }
+    }
+
+    // Runs the command of these words on the kit, over the file that was found for them, if they need
+    // one.
+    fn provide_over<I: Source, O: Sink>(
+        &self,
+        words: &[&str],
+        disk: Option<FileDisk>,
+        kit: &mut Kit<'a, R, I, O>,
+    ) -> u8
+        requires given { NeedsDisk (asked words.now) → IsSome disk }
+        requires file { IfSome disk (λ disk. IsFileOf (asked words.now) disk.file) }
+        requires ready { AreReady (asked words.now) kit.old.doors.items kit.old.clocks.items
+            kit.old.passes }
+        ensures { IsOnFile (asked words.now)
+            (showing (I.left kit.old.input) (I.faults kit.old.input)
+            (O.written kit.old.output) (O.faults kit.old.output))
+            (showing (I.left kit.new.input) (I.faults kit.new.input)
+            (O.written kit.new.output) (O.faults kit.new.output))
+            result }
+    {
+        provide_on(self.rt, self.alloc, words, Ok(disk), kit)
+    }
+
+    // Runs the station of a plan, where the environment says of it. It tells on standard error how the
+    // run ended.
+    fn provide_run<I: Source, O: Sink>(
+        &self,
+        words: &[&str],
+        run: &RunPlan,
+        kit: &mut Kit<'a, R, I, O>,
+    ) -> u8
+        requires asks { asked words.now ≡ Some (Run run.now) }
+        requires range { IsInRange run.now }
+        requires first { kit.old.passes ≡ None }
+        ensures { IsAnswered (asked words.now)
+            (showing (I.left kit.old.input) (I.faults kit.old.input)
+            (O.written kit.old.output) (O.faults kit.old.output))
+            (showing (I.left kit.new.input) (I.faults kit.new.input)
+            (O.written kit.new.output) (O.faults kit.new.output))
+            result }
+    {
+        let Some(place) = RunPlace::read(self.files) else {
+            return tell(b"usage\n", Status::Usage, &mut kit.output);
+        };
+        let exit = self.provide_at(words, run, place, kit);
+        tell_end(self.rt, self.alloc, exit);
+        exit
+    }
+
+    // Runs the station of a plan at a place, over its files.
+    fn provide_at<I: Source, O: Sink>(
+        &self,
+        words: &[&str],
+        run: &RunPlan,
+        place: RunPlace,
+        kit: &mut Kit<'a, R, I, O>,
+    ) -> u8
+        requires asks { asked words.now ≡ Some (Run run.now) }
+        requires range { IsInRange run.now }
+        requires first { kit.old.passes ≡ None }
+        ensures { IsAnswered (asked words.now)
+            (showing (I.left kit.old.input) (I.faults kit.old.input)
+            (O.written kit.old.output) (O.faults kit.old.output))
+            (showing (I.left kit.new.input) (I.faults kit.new.input)
+            (O.written kit.new.output) (O.faults kit.new.output))
+            result }
+    {
+        let RunFiles { disk, antenna } = match open_files(self.files, run) {
+            Ok(files) => files,
+            Err(error) => return provide_on(self.rt, self.alloc, words, Err(error), kit),
+        };
+        kit.antenna = LateAntenna::over(antenna);
+        match open_sockets(self.rt, self.alloc, run, place) {
+            Ok(sockets) => self.provide_wired(words, disk, sockets, kit),
+            Err(SocketFault::Port) => tell(b"read fault\n", Status::ReadFault, &mut kit.output),
+            Err(SocketFault::Memory) => Status::Memory.code(),
+        }
+    }
+
+    // Runs the station of the words over its file and its sockets.
+    fn provide_wired<I: Source, O: Sink>(
+        &self,
+        words: &[&str],
+        disk: FileDisk,
+        sockets: RunSockets<'a, R>,
+        kit: &mut Kit<'a, R, I, O>,
+    ) -> u8
+        requires file { IsFileOf (asked words.now) disk.file }
+        requires ready { AreReady (asked words.now) sockets.doors.items sockets.clocks.items
+            kit.old.passes }
+        ensures { IsOnFile (asked words.now)
+            (showing (I.left kit.old.input) (I.faults kit.old.input)
+            (O.written kit.old.output) (O.faults kit.old.output))
+            (showing (I.left kit.new.input) (I.faults kit.new.input)
+            (O.written kit.new.output) (O.faults kit.new.output))
+            result }
+    {
+        kit.doors = sockets.doors;
+        kit.clocks = sockets.clocks;
+        kit.frames = LateFrames {
+            feed: Some(sockets.frames),
+        };
+        kit.antenna_clock = sockets.antenna_clock;
+        kit.draw = draw_of(self.rt);
+        tell_begin(self.rt, self.alloc);
+        self.provide_over(words, Some(disk), kit)
     }
 }

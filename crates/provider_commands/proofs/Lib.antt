@@ -1,1 +1,2 @@
 pub mod Unprovided
+mod Ran

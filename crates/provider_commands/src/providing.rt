@@ -1,41 +1,55 @@
 // The provider's program over any input and output.
-ghost use Rattle.std.specs.Prelude.{◌≡◌, Some, IfOk, IfErr, OnErr, IsSome};
+ghost use Rattle.std.specs.Prelude.{◌≡◌, None, Some, IfOk, IfErr, OnErr, IsSome};
 ghost use Rattle.std.specs.IoError.{error_kind};
-ghost use Rattle.command_words.specs.Command.{asked, NeedsDisk};
+ghost use Rattle.run_plan.specs.RunPlan.{IsInRange};
+ghost use Rattle.station_run.specs.Ran.{outside};
 ghost use Rattle.command_ends.specs.Outside.{showing};
+ghost use Rattle.command_words.specs.Command.{asked, NeedsDisk};
 ghost use Rattle.provider_commands.specs.Provided.{IsProvided, IsNoDisk};
+ghost use Rattle.provider_commands.specs.Running.{AreReady, HasStarted, HasNotStarted, IsRan};
+ghost use Rattle.provider_commands.specs.Running.{IsReady, NotStartedOn, StartedOn};
 
+use crate::equipment::Equipment;
+use antenna_core::Antenna;
 use archive_commands::{init_archive, list_archive};
+use cds_time::Clock;
 use command_ends::{Status, tell};
 use command_words::{Plan, plan};
 use disk_model::Disk;
+use door_model::Door;
 use octet_core::{Sink, Source};
+use recorder::FrameSource;
 use rehearsal::laws::a_rehearsal_is_a_script;
+use run_command::run;
+use run_plan::RunPlan;
 use script_commands::{drill, rehearse};
 use std::alloc::Global;
-use std::io;
 use std::io::ErrorKind;
-
-/// What the program runs on.
-#[derive(Debug, Drop)]
-pub struct Equipment<I, O, D> {
-    /// Where a script comes from.
-    pub input: I,
-    /// Where every line goes to.
-    pub output: O,
-    /// What the archive file lies on, for a command that has one.
-    pub disk: Option<D>,
-}
+use std::sync::Wait;
+use std::thread::Threads;
+use std::{io, rt};
 
 /// Runs the command that the words are on the disk that was found for it, or says that none could
-/// be had, and answers the exit code.
-pub fn provide_on<I: Source, O: Sink, D: Disk>(
+/// be had, and answers the exit code. For `run` it may wait, and so promises no return.
+pub fn provide_on<
+    R: Threads + Wait + rt::Clock + Sync,
+    I: Source,
+    O: Sink,
+    D: Disk,
+    G: Door,
+    C: Clock,
+    F: FrameSource,
+    A: Antenna,
+>(
+    rt: &R,
     alloc: Global,
     words: &[&str],
     opening: io::Result<Option<D>>,
-    kit: &mut Equipment<I, O, D>,
+    kit: &mut Equipment<I, O, D, G, C, F, A>,
 ) -> u8
-    requires { IfOk opening (λ disk. NeedsDisk (asked words.now) → IsSome disk) }
+    requires disk { IfOk opening (λ disk. NeedsDisk (asked words.now) → IsSome disk) }
+    requires ready { IfOk opening (λ _. AreReady (asked words.now) kit.old.doors.items
+        kit.old.clocks.items kit.old.passes) }
     ensures provided { IfOk opening (λ disk. IsProvided
         D.pending D.extent D.moment D.images_since D.faults
         (asked words.now) disk kit.new.disk
@@ -52,7 +66,7 @@ pub fn provide_on<I: Source, O: Sink, D: Disk>(
     match opening {
         Ok(disk) => {
             kit.disk = disk;
-            provide(alloc, words, kit)
+            provide(rt, alloc, words, kit)
         }
         Err(error) => tell_no_disk(&error, &mut kit.output),
     }
@@ -71,15 +85,44 @@ fn tell_no_disk<O: Sink>(error: &io::Error, output: &mut O) -> u8
     }
 }
 
-/// Runs the command that the words are, and answers its exit code.
-pub fn provide<I: Source, O: Sink, D: Disk>(
-    alloc: Global,
-    words: &[&str],
-    kit: &mut Equipment<I, O, D>,
-) -> u8
-    requires { NeedsDisk (asked words.now) → IsSome kit.old.disk }
-    ensures { IsProvided D.pending D.extent D.moment D.images_since D.faults
+/// Runs the command that the words are, and answers its exit code. For `run` it may wait, and so
+/// promises no return.
+pub fn provide<
+    R: Threads + Wait + rt::Clock + Sync,
+    I: Source,
+    O: Sink,
+    D: Disk,
+    G: Door,
+    C: Clock,
+    F: FrameSource,
+    A: Antenna,
+>(rt: &R, alloc: Global, words: &[&str], kit: &mut Equipment<I, O, D, G, C, F, A>) -> u8
+    requires disk { NeedsDisk (asked words.now) → IsSome kit.old.disk }
+    requires ready { AreReady (asked words.now) kit.old.doors.items kit.old.clocks.items
+        kit.old.passes }
+    ensures provided { IsProvided D.pending D.extent D.moment D.images_since D.faults
         (asked words.now) kit.old.disk kit.new.disk
+        (showing (I.left kit.old.input) (I.faults kit.old.input)
+        (O.written kit.old.output) (O.faults kit.old.output))
+        (showing (I.left kit.new.input) (I.faults kit.new.input)
+        (O.written kit.new.output) (O.faults kit.new.output))
+        result }
+    ensures started { HasStarted D.pending D.faults D.moment D.images_since D.makes D.fails
+        D.fails_to_read F.answers F.faults A.sent A.faults G.shown G.faults G.Link.calls
+        G.Link.faults C.readings
+        (asked words.now) kit.old.draw kit.old.disk kit.new.disk
+        (outside kit.old.frames kit.old.antenna kit.old.antenna_clock kit.old.doors.items
+        kit.old.clocks.items)
+        (outside kit.new.frames kit.new.antenna kit.new.antenna_clock kit.new.doors.items
+        kit.new.clocks.items)
+        kit.new.passes
+        (showing (I.left kit.old.input) (I.faults kit.old.input)
+        (O.written kit.old.output) (O.faults kit.old.output))
+        (showing (I.left kit.new.input) (I.faults kit.new.input)
+        (O.written kit.new.output) (O.faults kit.new.output))
+        result }
+    ensures not_started { HasNotStarted D.pending D.faults
+        (asked words.now) kit.old.disk kit.new.disk kit.new.passes
         (showing (I.left kit.old.input) (I.faults kit.old.input)
         (O.written kit.old.output) (O.faults kit.old.output))
         (showing (I.left kit.new.input) (I.faults kit.new.input)
@@ -101,9 +144,72 @@ pub fn provide<I: Source, O: Sink, D: Disk>(
             exit
         }
         Ok(Some(Plan::Rehearse { n })) => rehearse(alloc, n, &mut kit.output),
+        Ok(Some(Plan::Run(plan))) => run_on(rt, alloc, &plan, kit),
         Ok(None) => tell(b"usage\n", Status::Usage, &mut kit.output),
         Err(_) => Status::Memory.code(),
     }
+}
+
+// Runs the station of a plan, and answers its exit code.
+fn run_on<
+    R: Threads + Wait + rt::Clock + Sync,
+    I: Source,
+    O: Sink,
+    D: Disk,
+    G: Door,
+    C: Clock,
+    F: FrameSource,
+    A: Antenna,
+>(rt: &R, alloc: Global, plan: &RunPlan, kit: &mut Equipment<I, O, D, G, C, F, A>) -> u8
+    requires range { IsInRange plan.now }
+    requires disk { IsSome kit.old.disk }
+    requires ready { IsReady kit.old.doors.items kit.old.clocks.items kit.old.passes }
+    ensures started { StartedOn D.pending D.faults D.moment D.images_since D.makes D.fails
+        D.fails_to_read F.answers F.faults A.sent A.faults G.shown G.faults G.Link.calls
+        G.Link.faults C.readings
+        plan.now kit.old.draw kit.old.disk kit.new.disk
+        (outside kit.old.frames kit.old.antenna kit.old.antenna_clock kit.old.doors.items
+        kit.old.clocks.items)
+        (outside kit.new.frames kit.new.antenna kit.new.antenna_clock kit.new.doors.items
+        kit.new.clocks.items)
+        kit.new.passes
+        (showing (I.left kit.old.input) (I.faults kit.old.input)
+        (O.written kit.old.output) (O.faults kit.old.output))
+        (showing (I.left kit.new.input) (I.faults kit.new.input)
+        (O.written kit.new.output) (O.faults kit.new.output))
+        result }
+    ensures not_started { NotStartedOn D.pending D.faults
+        kit.old.disk kit.new.disk kit.new.passes
+        (showing (I.left kit.old.input) (I.faults kit.old.input)
+        (O.written kit.old.output) (O.faults kit.old.output))
+        (showing (I.left kit.new.input) (I.faults kit.new.input)
+        (O.written kit.new.output) (O.faults kit.new.output))
+        result }
+    ensures ran { IsRan
+        (showing (I.left kit.old.input) (I.faults kit.old.input)
+        (O.written kit.old.output) (O.faults kit.old.output))
+        (showing (I.left kit.new.input) (I.faults kit.new.input)
+        (O.written kit.new.output) (O.faults kit.new.output))
+        result }
+{
+    let (exit, disk, passes) = run(
+        rt,
+        alloc,
+        &mut kit.input,
+        &mut kit.output,
+        taken(&mut kit.disk),
+        &mut kit.frames,
+        &mut kit.antenna,
+        &mut kit.antenna_clock,
+        kit.doors.as_mut_slice(),
+        kit.clocks.as_mut_slice(),
+        plan.turns,
+        plan.links,
+        kit.draw,
+    );
+    kit.disk = Some(disk);
+    kit.passes = passes;
+    exit
 }
 
 // The disk that a kit has, taken out of it.

@@ -5,6 +5,7 @@ ghost use Rattle.station_run.specs.declared.report.RunReport.{RunReport};
 ghost use Rattle.station_run.specs.declared.report.StartFault.{StartFault};
 ghost use Rattle.station_run.specs.Ran.{RanOver, RefusesStart, outside};
 ghost use Rattle.station_config.specs.declared.site.Site.{Site};
+ghost use Rattle.run_laws.specs.Lossless.{IsLossless};
 ghost use Rattle.run_command.specs.Configured.{Configures};
 ghost use Rattle.run_command.specs.Ends.{EndsBefore, EndsBehind, NotStarted};
 ghost use Rattle.run_command.specs.Statuses.{started_with};
@@ -19,6 +20,7 @@ use disk_model::Disk;
 use door_model::Door;
 use octet_core::{Sink, Source};
 use recorder::FrameSource;
+use run_laws::laws::a_run_loses_nothing;
 use station_book::Event;
 use station_config::Site;
 use station_run::run_station;
@@ -63,12 +65,14 @@ fn run_site<
         F.answers F.faults A.sent A.faults G.shown G.faults G.Link.calls G.Link.faults C.readings
         site.now turns links draw disk result.1
         (outside frames.old antenna.old antenna_clock.old doors.old clocks.old)
-        (outside frames.new antenna.new antenna_clock.new doors.new clocks.new) report) }
+        (outside frames.new antenna.new antenna_clock.new doors.new clocks.new) report
+        × IsLossless (D.pending disk) report) }
     ensures not_started { IfNone result.2 ((fault : StartFault)
         × EndsBefore (O.written output.old) (O.written output.new) (O.faults output.old)
         (O.faults output.new) (started_with fault) result.0
         × RefusesStart fault (D.pending disk) (D.faults disk) (D.faults result.1)) }
 {
+    a_run_loses_nothing::<D, F, A, G, C>();
     let (ran, disk) = run_station(
         rt,
         alloc,
@@ -132,7 +136,8 @@ pub fn run<
         F.answers F.faults A.sent A.faults G.shown G.faults G.Link.calls G.Link.faults C.readings
         site turns links draw disk result.1
         (outside frames.old antenna.old antenna_clock.old doors.old clocks.old)
-        (outside frames.new antenna.new antenna_clock.new doors.new clocks.new) report) }
+        (outside frames.new antenna.new antenna_clock.new doors.new clocks.new) report
+        × IsLossless (D.pending disk) report) }
     ensures not_started { IfNone result.2 ((own : RunStatus) × EndsBefore (O.written output.old)
         (O.written output.new) (O.faults output.old) (O.faults output.new) own result.0
         × NotStarted D.pending D.faults (I.left input.old) (I.faults input.old)

@@ -1,4 +1,8 @@
 // The files of a run.
+ghost use Rattle.std.specs.Prelude.{◌≡◌, false, None, IfOk, IfErr, OnErr};
+ghost use Rattle.std.specs.IoError.{error_kind};
+ghost use Rattle.std.specs.Str.{IsUtf8};
+ghost use Rattle.disk_model.specs.RawFile.{HasFile};
 
 use antenna_file::FileAntenna;
 use disk_model::FileDisk;
@@ -19,7 +23,9 @@ pub struct RunFiles {
 
 /// Opens the files that a plan names: the archive's, which has to be there, and the antenna's,
 /// which is made where there is none. What can't be opened is told on standard error.
-pub fn open_files(files: &HostRuntime, plan: &RunPlan) -> io::Result<RunFiles> {
+pub fn open_files(files: &HostRuntime, plan: &RunPlan) -> io::Result<RunFiles>
+    ensures { IfOk result (λ opened. HasFile plan.now.path false opened.disk.file None) }
+{
     let (archive, cltus) = (text_of(&plan.path)?, text_of(&plan.antenna)?);
     Ok(RunFiles {
         disk: told(files, "archive", archive, FileDisk::open(files, archive))?,
@@ -33,7 +39,9 @@ fn told<T: Drop>(
     what: &str,
     path: &str,
     opened: io::Result<T>,
-) -> io::Result<T> {
+) -> io::Result<T>
+    ensures { result ≡ opened }
+{
     if let Err(error) = &opened {
         let line = format!(in files.alloc(); "{what} {path}: {error}\n");
         report(&mut Stamped::new(files, files.alloc()), line);
@@ -41,8 +49,12 @@ fn told<T: Drop>(
     opened
 }
 
-// A path as a text, which it was on the command line.
-fn text_of(path: &Octets) -> io::Result<&str> {
+/// A path as a text, which it was on the command line.
+pub fn text_of(path: &Octets) -> io::Result<&str>
+    ensures text { IfOk result (λ text. text.now ≡ path.now) }
+    ensures no_text { OnErr result (¬ IsUtf8 path.now) }
+    ensures kind { IfErr result (λ error. error_kind error ≡ ErrorKind.InvalidInput) }
+{
     match str::from_utf8(path.as_slice()) {
         Ok(text) => Ok(text),
         Err(_) => Err(ErrorKind::InvalidInput.into()),

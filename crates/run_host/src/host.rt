@@ -1,22 +1,17 @@
 // The sockets and the clocks of a run.
 ghost use Rattle.std.specs.Prelude.{◌≡◌, IfOk, length, vec_len};
-ghost use Rattle.run_plan.specs.RunPlan.{IsInRange};
 
-use crate::files::RunFiles;
 use crate::place::RunPlace;
-use crate::watching::{WatchFault, watch_of};
+use crate::watching::{SocketFault, watch_of};
 use cds_time::SystemClock;
-use octet_core::{Memory, Sink, Source};
+use octet_core::Memory;
 use operator_side::{Stamped, Stop, Watch, WatchedTime, report};
-use run_command::run;
 use run_plan::RunPlan;
 use std::alloc::Global;
 use std::io::Eprint;
 use std::net::{IpAddr, Ipv4Addr, Net, SocketAddr, TcpListener, TcpStream};
 use std::random::RandomSource;
 use std::rt;
-use std::sync::Wait;
-use std::thread::Threads;
 use std::time::Duration;
 use tcp_door::TcpDoor;
 use tcp_feed::TcpFeed;
@@ -24,14 +19,11 @@ use tcp_feed::TcpFeed;
 // How many milliseconds a call of a link waits at most.
 const WAIT_MILLIS: u64 = 10;
 
-// The exit code of want of memory, and of a port that can't be had with its line.
-const MEMORY: u8 = 70;
+/// A clock of the machine.
+pub type MachineClock<'a, R> = SystemClock<WatchedTime<'a, R>>;
 
-const READ_FAULT: u8 = 6;
-
-const WRITE_FAULT: u8 = 7;
-
-type MachineClock<'a, R> = SystemClock<WatchedTime<'a, R>>;
+/// A door of the machine.
+pub type MachineDoor<'a, R> = TcpDoor<Stamped<'a, R>>;
 
 // A door at this address for each port of a plan, which ends at the stop.
 fn doors_of<'a, R: Net<Stream = TcpStream, Listener = TcpListener> + rt::Clock + Eprint + Sync>(
@@ -40,7 +32,7 @@ fn doors_of<'a, R: Net<Stream = TcpStream, Listener = TcpListener> + rt::Clock +
     address: IpAddr,
     ports: &[u16],
     stop: Option<&Stop>,
-) -> Result<Vec<TcpDoor<Stamped<'a, R>>>, Memory>
+) -> Result<Vec<MachineDoor<'a, R>>, Memory>
     ensures { IfOk result (λ doors. vec_len doors ≡ length ports.now) }
 {
     let wait = Duration::from_millis(WAIT_MILLIS);
@@ -66,7 +58,7 @@ fn clocks_of<R: Net<Stream = TcpStream, Listener = TcpListener> + rt::Clock + Ep
 {
     let mut clocks = Vec::with_capacity(alloc, count)?;
     for _place in 0..count {
-        clocks.push(SystemClock::new(WatchedTime::new(rt, alloc, None)))?;
+        clocks.push(machine_clock(rt, alloc))?;
     }
     Ok(clocks)
 }
@@ -86,8 +78,8 @@ fn frames_of<'a, R: Net<Stream = TcpStream, Listener = TcpListener> + rt::Clock 
     Ok(frames)
 }
 
-// Where the random numbers of sessions begin, and 0 where the machine has none.
-fn draw_of<R: RandomSource>(rt: &R) -> u32 {
+/// Where the random numbers of sessions begin, and 0 where the machine has none.
+pub fn draw_of<R: RandomSource>(rt: &R) -> u32 {
     let mut octets = [0; 4];
     match rt.fill_bytes(&mut octets) {
         Ok(()) => u32::from_be_bytes(octets) & 0x7fff_ffff,
@@ -95,93 +87,58 @@ fn draw_of<R: RandomSource>(rt: &R) -> u32 {
     }
 }
 
-/// Runs the station of a plan at a place over its files, with the configuration of the input, and
-/// answers the exit code. Where the port at which a stop is asked for can't be had, it doesn't run.
-pub fn run_over<
-    R: Threads
-        + Wait
-        + rt::Clock
-        + Net<Stream = TcpStream, Listener = TcpListener>
-        + RandomSource
-        + Eprint
-        + Sync,
-    I: Source,
-    O: Sink,
->(
-    rt: &R,
-    alloc: Global,
-    plan: &RunPlan,
-    place: RunPlace,
-    files: RunFiles,
-    input: &mut I,
-    output: &mut O,
-) -> u8
-    requires { IsInRange plan.now }
-{
-    match watch_of(rt, alloc, plan.ports.as_slice(), place) {
-        Ok(watch) => run_watched(rt, alloc, plan, place, watch, files, input, output),
-        Err(WatchFault::Port) => match output.put_all(b"read fault\n") {
-            Ok(()) => READ_FAULT,
-            Err(_) => WRITE_FAULT,
-        },
-        Err(WatchFault::Memory) => MEMORY,
-    }
+/// What a run has beside its files.
+#[derive(Drop)]
+pub struct RunSockets<'a, R: rt::Clock + Eprint + Sync> {
+    /// A door for each port of the plan.
+    pub doors: Vec<MachineDoor<'a, R>>,
+    /// A clock for each door.
+    pub clocks: Vec<MachineClock<'a, R>>,
+    /// The source of entries.
+    pub frames: TcpFeed<Stamped<'a, R>>,
+    /// The clock of the antenna's worker, whose readings look for a stop.
+    pub antenna_clock: MachineClock<'a, R>,
 }
 
-// Runs the station, with this watch for a stop.
-fn run_watched<
-    R: Threads
-        + Wait
-        + rt::Clock
-        + Net<Stream = TcpStream, Listener = TcpListener>
-        + RandomSource
-        + Eprint
-        + Sync,
-    I: Source,
-    O: Sink,
+/// A clock of the machine that looks for no stop.
+pub fn machine_clock<
+    R: Net<Stream = TcpStream, Listener = TcpListener> + rt::Clock + Eprint + Sync,
+>(rt: &R, alloc: Global) -> MachineClock<'_, R> {
+    SystemClock::new(WatchedTime::new(rt, alloc, None))
+}
+
+/// Opens the sockets of a plan at a place: a door for each port, the source of entries, and where a
+/// stop is asked for. An address of a door or the source that can't be had is a fault of its calls.
+pub fn open_sockets<
+    'a,
+    R: Net<Stream = TcpStream, Listener = TcpListener> + rt::Clock + Eprint + Sync,
 >(
-    rt: &R,
+    rt: &'a R,
     alloc: Global,
     plan: &RunPlan,
     place: RunPlace,
-    watch: Option<Watch>,
-    files: RunFiles,
-    input: &mut I,
-    output: &mut O,
-) -> u8
-    requires { IsInRange plan.now }
+) -> Result<RunSockets<'a, R>, SocketFault>
+    ensures doors { IfOk result (λ sockets. vec_len sockets.doors ≡ length plan.now.ports) }
+    ensures clocks { IfOk result (λ sockets. vec_len sockets.clocks ≡ length plan.now.ports) }
 {
     let ports = plan.ports.as_slice();
+    let watch = watch_of(rt, alloc, ports, place)?;
     let stop = watch.as_ref().map(Watch::stop);
-    let Ok(mut doors) = doors_of(rt, alloc, place.address, ports, stop) else {
-        return MEMORY;
-    };
-    let Ok(mut clocks) = clocks_of(rt, alloc, ports.len()) else {
-        return MEMORY;
-    };
-    let Ok(mut frames) = frames_of(rt, alloc, plan.feed, stop) else {
-        return MEMORY;
-    };
-    let RunFiles { disk, mut antenna } = files;
-    let mut clock = SystemClock::new(WatchedTime::new(rt, alloc, watch));
+    let doors = doors_of(rt, alloc, place.address, ports, stop)?;
+    let clocks = clocks_of(rt, alloc, ports.len())?;
+    let frames = frames_of(rt, alloc, plan.feed, stop)?;
+    Ok(RunSockets {
+        doors,
+        clocks,
+        frames,
+        antenna_clock: SystemClock::new(WatchedTime::new(rt, alloc, watch)),
+    })
+}
+
+/// Tells on standard error that a run begins.
+pub fn tell_begin<R: Eprint + rt::Clock>(rt: &R, alloc: Global) {
     let line = format!(in alloc; "station: began\n");
     report(&mut Stamped::new(rt, alloc), line);
-    let (exit, _disk, _pass) = run(
-        rt,
-        alloc,
-        input,
-        output,
-        disk,
-        &mut frames,
-        &mut antenna,
-        &mut clock,
-        doors.as_mut_slice(),
-        clocks.as_mut_slice(),
-        plan.turns,
-        plan.links,
-        draw_of(rt),
-    );
-    exit
 }
 
 /// Tells on standard error which exit code a run ended with.

@@ -8,18 +8,18 @@ use std::io::Eprint;
 use std::net::{IpAddr, Ipv4Addr, Net, SocketAddr, TcpListener, TcpStream};
 use std::rt;
 
-/// Why nothing looks for a stop.
-#[derive(Clone, Copy, Debug)]
-pub(crate) enum WatchFault {
-    /// The port at which one is asked for can't be had.
+/// Why the sockets of a run can't be had.
+#[derive(Clone, Copy, Debug, PartialEq, Eq)]
+pub enum SocketFault {
+    /// The port at which a stop is asked for can't be.
     Port,
     /// Memory was refused.
     Memory,
 }
 
-impl From<Memory> for WatchFault {
-    fn from(_memory: Memory) -> WatchFault {
-        WatchFault::Memory
+impl From<Memory> for SocketFault {
+    fn from(_memory: Memory) -> SocketFault {
+        SocketFault::Memory
     }
 }
 
@@ -39,7 +39,7 @@ pub(crate) fn watch_of<R: Net<Stream = TcpStream, Listener = TcpListener> + rt::
     alloc: Global,
     ports: &[u16],
     place: RunPlace,
-) -> Result<Option<Watch>, WatchFault> {
+) -> Result<Option<Watch>, SocketFault> {
     let Some(port) = place.stop else {
         return Ok(None);
     };
@@ -50,7 +50,7 @@ pub(crate) fn watch_of<R: Net<Stream = TcpStream, Listener = TcpListener> + rt::
             let why = error.kind();
             let line = format!(in alloc; "stop {address}: {why}\n");
             report(&mut Stamped::new(rt, alloc), line);
-            return Err(WatchFault::Port);
+            return Err(SocketFault::Port);
         }
     };
     let stop = Stop::at(alloc, port)?;

@@ -1,4 +1,4 @@
-use Rattle.provider_cli.proofs.provide_over.Goals as goal
+use Rattle.provider_cli.proofs.Host.provide_over.Goals as goal
 
 -- what is promised on the disk that was found
 pub returns : goal.returns

@@ -1,0 +1,30 @@
+-- What came of a run, by whether its workers were started.
+use Rattle.std.proofs.Common.{◌≡◌, ◌∙◌, ℕ, ◌≤◌, List, [], ◌++◌, length, take, drop, Option, Some}
+use Rattle.std.proofs.Common.{None, IfSome, sym, subst, ap, append-nil, arith}
+use Rattle.std.proofs.lemmas.List.{drop_all, take_all}
+use Rattle.std.specs.Prelude.{IfNone}
+
+-- what follows from either holds
+pub by_passes : {P : Type 0} (passes : Option P) (IsSo : P → Type 0) (Else Goal : Type 0)
+    → IfSome passes IsSo → IfNone passes Else → ((pass : P) → IsSo pass → Goal) → (Else → Goal)
+    → Goal
+by_passes (Some pass) IsSo Else Goal so else by_so by_else = by_so pass so
+by_passes None IsSo Else Goal so else by_so by_else = by_else else
+
+-- what holds of a pass on the disk that was taken holds on the one that was there
+pub started_on : {D P : Type 0} (disk : Option D) (taken : D) (passes : Option P)
+    (First : P → Type 0) (IsSo : D → P → Type 0) → disk ≡ Some taken
+    → ((pass : P) → First pass → IsSo taken pass) → IfSome passes First
+    → IfSome disk (λ found. IfSome passes (IsSo found))
+started_on None taken passes First IsSo is so told = absurd cc
+started_on (Some disk) taken None First IsSo is so told = tt
+started_on (Some disk) taken (Some pass) First IsSo is so told =
+    subst (λ found. IfSome found (λ disk. IsSo disk pass)) (sym is) (so pass told)
+
+-- a slice of a whole vector that was lent and changed is the vector then
+pub put_back : {A : Type 0} (n : ℕ) (xs ys : List A) → length xs ≡ n → length xs ≡ length ys
+    → take n (xs ++ drop (length xs) ys) ≡ xs
+put_back n xs ys is same =
+    let none : drop (length xs) ys ≡ [] = drop_all (length xs) ys (omega (arith, same)) in
+    ap (λ rest. take n (xs ++ rest)) none ∙ ap (take n) (append-nil xs)
+    ∙ take_all n xs (omega (arith, is))

@@ -1,0 +1,28 @@
+use Rattle.std.proofs.Common.{◌∙◌, ap, inl, inr, length}
+use Rattle.provider_commands.proofs.Ran.{by_passes, put_back, started_on}
+use Rattle.provider_commands.proofs.providing.run_on.Goals as goal
+
+pub returns-clause-started : goal.returns-clause-started
+returns-clause-started g c =
+    let doors = put_back c.args.kit.now.doors.len c.run-exit.new.doors c.args.kit.now.doors.items
+    (c.run-exit.auto.doors ∙ c.as_mut_slice.ensures.len)
+    (c.run-exit.auto.doors ∙ ap length c.as_mut_slice.ensures.value) in
+    let clocks = put_back c.args.kit.now.clocks.len c.run-exit.new.clocks
+    c.args.kit.now.clocks.items (c.run-exit.auto.clocks ∙ c.as_mut_slice-2.ensures.len)
+    (c.run-exit.auto.clocks ∙ ap length c.as_mut_slice-2.ensures.value) in
+    started_on c.args.kit.now.disk c.taken.result c.run-exit.result.2 _ _ c.taken.ensures
+    (λ pass told. record {
+      site = told.0;
+      report = told.1;
+      pass_is = told.2;
+      configures = told.3;
+      ends = told.4;
+      ran = rw (doors, clocks)
+          (rw (c.as_mut_slice.ensures.value, c.as_mut_slice-2.ensures.value) at told.5);
+      lossless = told.6;
+    }) c.run-exit.ensures.started
+
+pub returns-clause-ran : goal.returns-clause-ran
+returns-clause-ran g c =
+    by_passes c.run-exit.result.2 _ _ _ c.run-exit.ensures.started c.run-exit.ensures.not_started
+    (λ pass told. inl (told.1, told.4)) (λ told. inr (told.0, told.1))

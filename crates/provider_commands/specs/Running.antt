@@ -1,0 +1,95 @@
+-- What the program promises of a station's run, by the objects that it ran over. This product's own
+-- rules.
+use Rattle.std.specs.Prelude.{◌≡◌, ◌⊎◌, ℕ, ◌≤◌, Option, None, Some, IfNone, IfSome, IsSomeAnd, List}
+use Rattle.std.specs.Prelude.{length}
+use Rattle.cds_time.specs.declared.cds.Cds.{Cds}
+use Rattle.disk_model.specs.Images.{Pending}
+use Rattle.disk_model.specs.declared.call.Call.{Call as DiskCall}
+use Rattle.recorder.specs.Feeds.{Answer}
+use Rattle.link_model.specs.declared.call.Call.{Call as LinkCall}
+use Rattle.door_model.specs.Shown.{Shown}
+use Rattle.turn_lock.specs.PassState.{PassState}
+use Rattle.station_config.specs.declared.site.Site.{Site}
+use Rattle.station_book.specs.State.{Event, Opening}
+use Rattle.station_run.specs.Ran.{Outside as Around, RanOver}
+use Rattle.station_run.specs.declared.report.RunReport.{RunReport}
+use Rattle.run_laws.specs.Lossless.{IsLossless}
+use Rattle.run_command.specs.Configured.{Configures}
+use Rattle.run_command.specs.Ends.{EndsBefore, EndsBehind, NotStarted}
+use Rattle.run_command.specs.declared.status.RunStatus.{RunStatus}
+use Rattle.run_plan.specs.declared.plan.RunPlan.{RunPlan}
+use Rattle.command_ends.specs.Outside.{Outside}
+use Rattle.command_words.specs.declared.commands.Plan.{Plan}
+use Rattle.command_words.specs.declared.commands.Plan.TheVariants.{Run}
+
+-- a station has 1 to 16 doors, a clock for each, and no pass of an earlier run
+abbrev pub IsReady : {G C P : Type 0} → List G → List C → Option P → Type 0
+IsReady doors clocks passes =
+    (1 ≤ length doors) × (length doors ≤ 16) × (length clocks ≡ length doors) × (passes ≡ None)
+
+abbrev pub AreReady : {G C P : Type 0} → Option Plan → List G → List C → Option P → Type 0
+AreReady (Some (Run run)) doors clocks passes = IsReady doors clocks passes
+AreReady _ doors clocks passes = Unit {0}
+
+-- A run whose workers were started writes what they did, and another one writes why they weren't,
+-- each with the line of its status.
+abbrev pub IsRan : Outside → Outside → ℕ → Type 0
+IsRan before after exit =
+    ((report : RunReport) × EndsBehind before.written after.written before.write_faults
+    after.write_faults report exit)
+    ⊎ ((own : RunStatus) × EndsBefore before.written after.written before.write_faults
+    after.write_faults own exit)
+
+module _ {D F A G L C : Type 0} (pending : D → Option Pending) (disk_faults moment : D → ℕ)
+    (images_since : D → ℕ → List ℕ → Type 0) (makes fails : D → DiskCall → D → Type 0)
+    (fails_to_read : D → D → Type 0) (answers : F → Option (List Answer)) (source_faults : F → ℕ)
+    (sent : A → Option (List (List ℕ))) (antenna_faults : A → ℕ) (shown : G → Option Shown)
+    (door_faults : G → ℕ) (calls : L → Option (List LinkCall)) (link_faults : L → ℕ)
+    (readings : C → Option (List Cds)) where
+  -- A run of the site that its input configures, whose workers were started: its text and its exit
+  -- code are those of its report, which says what they did; its closed pass is handed out; no reply
+  -- in it is Lost, and, over a disk that tells, none is Foreign.
+  pub record Started (run : RunPlan) (draw : ℕ) (disk disk_now : D) (old new : Around F A G C)
+      (pass : PassState Event Opening) (before after : Outside) (exit : ℕ) : Type 0 where
+    pub site : Site
+    pub report : RunReport
+    pub pass_is : report.pass ≡ pass
+    pub configures : Configures before.left site
+    pub ends : EndsBehind before.written after.written before.write_faults after.write_faults report
+        exit
+    pub ran : RanOver pending disk_faults moment images_since makes fails fails_to_read answers
+        source_faults sent antenna_faults shown door_faults calls link_faults readings site
+        run.turns run.links draw disk disk_now old new report
+    pub lossless : IsLossless (pending disk) report
+
+  abbrev pub StartedOn : RunPlan → ℕ → Option D → Option D → Around F A G C → Around F A G C
+      → Option (PassState Event Opening) → Outside → Outside → ℕ → Type 0
+  StartedOn run draw disk disk_now old new passes before after exit =
+      IfSome disk (λ found. IfSome passes (λ pass. IsSomeAnd disk_now
+      (λ left. Started run draw found left old new pass before after exit)))
+
+  abbrev pub HasStarted : Option Plan → ℕ → Option D → Option D → Around F A G C → Around F A G C
+      → Option (PassState Event Opening) → Outside → Outside → ℕ → Type 0
+  HasStarted plan draw disk disk_now old new passes before after exit =
+      (run : RunPlan) → plan ≡ Some (Run run)
+      → StartedOn run draw disk disk_now old new passes before after exit
+
+module _ {D : Type 0} (pending : D → Option Pending) (disk_faults : D → ℕ) where
+  -- A run whose workers weren't started: its text and its exit code say why.
+  pub record Unstarted (disk disk_now : D) (before after : Outside) (exit : ℕ) : Type 0 where
+    pub own : RunStatus
+    pub ends : EndsBefore before.written after.written before.write_faults after.write_faults own
+        exit
+    pub cause : NotStarted pending disk_faults before.left before.read_faults after.read_faults disk
+        disk_now own
+
+  abbrev pub NotStartedOn : {P : Type 0} → Option D → Option D → Option P → Outside → Outside → ℕ
+      → Type 0
+  NotStartedOn disk disk_now passes before after exit =
+      IfSome disk (λ found. IfNone passes (IsSomeAnd disk_now
+      (λ left. Unstarted found left before after exit)))
+
+  abbrev pub HasNotStarted : {P : Type 0} → Option Plan → Option D → Option D → Option P → Outside
+      → Outside → ℕ → Type 0
+  HasNotStarted plan disk disk_now passes before after exit =
+      (run : RunPlan) → plan ≡ Some (Run run) → NotStartedOn disk disk_now passes before after exit

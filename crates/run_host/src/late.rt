@@ -1,0 +1,73 @@
+// A source of entries and an antenna that only a run has.
+
+use antenna_core::Antenna;
+use antenna_file::FileAntenna;
+use octet_core::{Failed, Faults};
+use recorder::{Feed, FrameSource};
+use std::io::Write;
+use tcp_feed::TcpFeed;
+
+/// A source of entries over TCP, or none yet, which opens no socket and has come to its end.
+#[derive(Drop)]
+pub struct LateFrames<W: Write + Send + Drop> {
+    /// The source, if there is one.
+    pub feed: Option<TcpFeed<W>>,
+}
+
+impl<W: Write + Send + Drop> FrameSource for LateFrames<W> {
+    ghost use Rattle.std.specs.Prelude.{None, option_map, unwrap_or};
+
+    ghost answers = { λ _. None };
+
+    ghost faults = { λ frames. unwrap_or (option_map (λ feed. feed.faults) frames.feed) 0 };
+
+    fn next(&mut self) -> Feed {
+        match &mut self.feed {
+            Some(feed) => feed.next(),
+            None => Feed::End,
+        }
+    }
+}
+
+/// An antenna over files, or none yet, which opens no file, and whose calls fail.
+#[derive(Drop)]
+pub struct LateAntenna {
+    /// The antenna, if there is one.
+    pub antenna: Option<FileAntenna>,
+    // How often a call has failed while there was none.
+    missed: Faults,
+}
+
+impl LateAntenna {
+    /// No antenna yet.
+    pub fn none() -> LateAntenna {
+        LateAntenna {
+            antenna: None,
+            missed: Faults::new(),
+        }
+    }
+
+    /// This antenna.
+    pub fn over(antenna: FileAntenna) -> LateAntenna {
+        LateAntenna {
+            antenna: Some(antenna),
+            missed: Faults::new(),
+        }
+    }
+}
+
+impl Antenna for LateAntenna {
+    ghost use Rattle.std.specs.Prelude.{None, option_map, unwrap_or};
+
+    ghost sent = { λ _. None };
+
+    ghost faults = { λ late. unwrap_or (option_map (λ antenna. antenna.faults) late.antenna)
+        late.missed };
+
+    fn send(&mut self, octets: &[u8]) -> Result<(), Failed> {
+        match &mut self.antenna {
+            Some(antenna) => antenna.send(octets),
+            None => self.missed.fail(),
+        }
+    }
+}
