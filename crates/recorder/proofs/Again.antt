@@ -20,7 +20,8 @@ use Rattle.recorder.specs.Feeds.{Answer}
 use Rattle.recorder.specs.Polling.{IsPolled}
 use Rattle.recorder.specs.Offers.{Dropped, Offered, offered, by_refusal, after_offer, after_offers}
 use Rattle.recorder.specs.Offers.{offered_to, none_dropped}
-use Rattle.recorder.specs.Steps.{Tells, TellsOffered, Reopened, IsMended, IsStored}
+use Rattle.recorder.specs.Steps.{Tells, TellsOffered, Reopened, IsMended, IsStored, WaitsAgain}
+use Rattle.recorder.specs.Steps.{offered_again}
 use Rattle.recorder.proofs.NoRoom.{more_after}
 
 -- an archive that holds as many entries, in as many octets, as another
@@ -131,6 +132,27 @@ module _ {D : Type 0} (pending : D → Option Pending) (makes : D → Call → D
         rests = none;
       }
 
+  -- nothing is refused that is offered once more
+  all_taken : (broken opened : ArchiveState D) (entries : List Entry)
+      → broken ≡ with_failed first.archive broken.disk → Acknowledges pending start entries
+      → Acknowledges pending broken entries → Reopened pending makes broken opened
+      → opened.count ≡ broken.count → offered_again first.dropped broken opened
+      ≡ offered (with_those opened first.archive.times first.archive.waiting) first.dropped
+  all_taken broken opened entries is was acknowledged reopened count =
+      ap (λ (es : List Entry). after_offers (offered opened first.dropped) es)
+      (ap (λ (a : ArchiveState D). a.waiting) is)
+      ∙ (taken_again start opened first.dropped
+      (is_like broken opened entries is was acknowledged reopened count) polled rests).again
+
+  -- so what waits then is what waited
+  pub waits_again : (broken : ArchiveState D) (entries : List Entry)
+      → broken ≡ with_failed first.archive broken.disk → Acknowledges pending start entries
+      → Acknowledges pending broken entries → WaitsAgain pending makes first.dropped broken
+  waits_again broken entries is was acknowledged opened reopened count =
+      ap (λ (o : Offered D). o.archive.waiting)
+      (all_taken broken opened entries is was acknowledged reopened count)
+      ∙ sym (ap (λ (a : ArchiveState D). a.waiting) is)
+
   told_so : (broken new : ArchiveState D) (recorded : Recorded) (entries : List Entry)
       → broken ≡ with_failed first.archive broken.disk → Acknowledges pending start entries
       → Acknowledges pending broken entries
@@ -139,12 +161,9 @@ module _ {D : Type 0} (pending : D → Option Pending) (makes : D → Call → D
       subst (λ (es : List Entry). Tells es first.dropped recorded)
       (ap (λ (a : ArchiveState D). a.waiting) is) lands.told
   told_so broken new recorded entries is was acknowledged (inr again) =
-      let like = is_like broken again.opened entries is was acknowledged again.reopened
-      again.count in
-      let all = ap (λ (es : List Entry). after_offers (offered again.opened first.dropped) es)
-      (ap (λ (a : ArchiveState D). a.waiting) is)
-      ∙ (taken_again start again.opened first.dropped like polled rests).again in
-      subst (λ (o : Offered D). Tells o.archive.waiting o.dropped recorded) all again.stores.told
+      subst (λ (o : Offered D). Tells o.archive.waiting o.dropped recorded)
+      (all_taken broken again.opened entries is was acknowledged again.reopened again.count)
+      again.stores.told
 
   pub mended_taken : (broken new : ArchiveState D) (result : Result Recorded RecordFault)
       → broken ≡ with_failed first.archive broken.disk → Keeps pending start broken

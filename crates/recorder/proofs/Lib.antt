@@ -1,6 +1,7 @@
 mod OneMore
 mod Landing
 mod Mending
+mod Moments
 mod Again
 mod NoRoom
 mod Short

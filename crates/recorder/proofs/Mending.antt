@@ -1,9 +1,11 @@
 -- What a store that failed and the reopen behind it come to, by what the calls ensure.
-use Rattle.std.proofs.Common.{◌≡◌, ◌⊎◌, inl, inr, true, false, ℕ, ◌+◌, ◌-◌, List, [], ◌∷◌, ◌++◌}
+use Rattle.std.proofs.Common.{◌≡◌, ◌⊎◌, inr, true, false, ℕ, ◌+◌, ◌-◌, List, [], ◌∷◌, ◌++◌}
 use Rattle.std.proofs.Common.{◌<◌, ◌≤◌, length, take, drop, Option, Some, None, IfSome, Result, Ok}
-use Rattle.std.proofs.Common.{Err, IsSome, IfOk, IfErr, OnErr, refl, sym, ap, subst, ◌∙◌, arith}
+use Rattle.std.proofs.Common.{Err, IsTrue, IsSome, IfOk, IfErr, OnErr, refl, sym, ap, subst, ◌∙◌}
+use Rattle.std.proofs.Common.{arith}
+use Rattle.std.specs.List.{list_all}
 use Rattle.std.proofs.lemmas.List.{append-nil}
-use Rattle.archive_terms.specs.Archive.{Entry}
+use Rattle.archive_terms.specs.Archive.{Entry, is_valid}
 use Rattle.octet_core.specs.Fault.{Rose}
 use Rattle.disk_model.specs.Images.{Pending}
 use Rattle.disk_model.specs.Calls.{AllMade, FailedAtOne}
@@ -154,26 +156,30 @@ module _ {D : Type 0} (pending : D → Option Pending) (faults_of : D → ℕ)
         (same ∙ ap (after_offers (offered opened dropped)) is.all) stores;
   })
 
-  pub lost_twice : before ≡ after_offers (offered opened dropped) lost
+  pub lost_twice : IsTrue (list_all is_valid old.waiting)
+      → before ≡ after_offers (offered opened dropped) lost
       → Rose (faults_of opened.disk) (faults_of new.disk)
       → StoreFails makes fails before.archive new.disk → new ≡ with_failed before.archive new.disk
       → FailsAgain pending faults_of makes fails dropped old new
-  lost_twice same rose failed state =
+  lost_twice valid same rose failed state =
       let all = same ∙ ap (after_offers (offered opened dropped)) is.all in record {
         opened = opened;
         reopened = is.reopened;
         count = is.count;
+        valid = valid;
         cause = rose;
         failed = subst (λ (o : Offered D). StoreFails makes fails o.archive new.disk) all failed;
         state = subst (λ (o : Offered D). new ≡ with_failed o.archive new.disk) all state;
       }
 
-  pub lost_short : IsCutShort (offered opened dropped) lost new
+  pub lost_short : IsTrue (list_all is_valid old.waiting)
+      → IsCutShort (offered opened dropped) lost new
       → IsLostShort pending faults_of makes fails fails_to_read dropped old new
-  lost_short short = record {
+  lost_short valid short = record {
     opened = opened;
     reopened = is.reopened;
     count = is.count;
+    valid = valid;
     offered_again = subst (λ (es : List Entry). IsCutShort (offered opened dropped) es new) is.all
         short;
   }

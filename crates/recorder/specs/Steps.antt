@@ -1,16 +1,18 @@
 -- What a step of the recorder does with the entries that it polled, on any disk: what it stores,
 -- what a reopen finds, and which calls of the disk it makes. This product's own rule.
 use Rattle.std.specs.Prelude.{◌≡◌, ◌⊎◌, ℕ, ◌+◌, ◌-◌, Option, Some, None, IfSome, List, [], ◌∷◌}
-use Rattle.std.specs.Prelude.{length, take}
-use Rattle.archive_terms.specs.Archive.{Entry}
+use Rattle.std.specs.Prelude.{length, take, IsTrue}
+use Rattle.std.specs.List.{list_all}
+use Rattle.archive_terms.specs.Archive.{Entry, is_valid}
 use Rattle.octet_core.specs.Fault.{Rose}
 use Rattle.disk_model.specs.Images.{Pending}
+use Rattle.disk_model.specs.Moments.{HoldsThroughout}
 use Rattle.disk_model.specs.Calls.{AllMade, FailedAtOne}
 use Rattle.disk_model.specs.declared.call.Call.{Call}
-use Rattle.gate_journal.specs.JournalState.{appending, recovering, FailsToRecover}
+use Rattle.gate_journal.specs.JournalState.{appending, recovering, FailsToRecover, IsOldOrNew}
 use Rattle.frame_archive.specs.State.{ArchiveState, at_rest, times_of, wanted, with_stored}
 use Rattle.frame_archive.specs.State.{with_failed}
-use Rattle.frame_archive.specs.Acknowledges.{Uses}
+use Rattle.frame_archive.specs.Acknowledges.{Acknowledges, Uses}
 use Rattle.frame_archive.specs.Run.{Adds}
 use Rattle.frame_archive.specs.Faults.{RefusesReopen}
 use Rattle.frame_archive.specs.declared.fault.ArchiveFault.{ArchiveFault}
@@ -92,6 +94,11 @@ module _ {D : Type 0} (pending : D → Option Pending) (makes : D → Call → D
     pub count : opened.count ≡ old.count
     pub stores : Stores makes (offered_again dropped old opened) new recorded
 
+  -- where none of what waited landed, all of it waits again once it is offered once more
+  abbrev pub WaitsAgain : Dropped → ArchiveState D → Type 0
+  WaitsAgain dropped old = (opened : ArchiveState D) → Reopened old opened
+      → opened.count ≡ old.count → (offered_again dropped old opened).archive.waiting ≡ old.waiting
+
   -- a store failed, and what it left was opened again
   abbrev pub IsMended : Dropped → ArchiveState D → ArchiveState D → Recorded → Type 0
   IsMended dropped old new recorded = Lands dropped old new recorded
@@ -107,11 +114,12 @@ module _ {D : Type 0} (pending : D → Option Pending) (makes fails : D → Call
 
 module _ {D : Type 0} (pending : D → Option Pending) (faults_of : D → ℕ)
     (makes fails : D → Call → D → Type 0) where
-  -- A second store failed, of what was lost.
+  -- A second store failed, of what was lost, which is valid.
   pub record FailsAgain (dropped : Dropped) (old new : ArchiveState D) : Type 0 where
     pub opened : ArchiveState D
     pub reopened : Reopened pending makes old opened
     pub count : opened.count ≡ old.count
+    pub valid : IsTrue (list_all is_valid old.waiting)
     pub cause : Rose (faults_of opened.disk) (faults_of new.disk)
     pub failed : StoreFails makes fails (offered_again dropped old opened).archive new.disk
     pub state : new ≡ with_failed (offered_again dropped old opened).archive new.disk
@@ -133,11 +141,12 @@ module _ {D : Type 0} (pending : D → Option Pending) (faults_of : D → ℕ)
     pub cause : RefusesReopen fault old.count old.failed (pending old.disk) (faults_of old.disk)
         (faults_of new.disk)
 
-  -- Memory was wanted once what was lost was known: of that, some waits.
+  -- Memory was wanted once what was lost was known: of that, some waits. All of it is valid.
   pub record IsLostShort (dropped : Dropped) (old new : ArchiveState D) : Type 0 where
     pub opened : ArchiveState D
     pub reopened : Reopened pending makes old opened
     pub count : opened.count ≡ old.count
+    pub valid : IsTrue (list_all is_valid old.waiting)
     pub offered_again : IsCutShort (offered opened dropped) old.waiting new
 
   -- What is left of an archive whose store failed. After want of memory all that waited still
@@ -163,6 +172,15 @@ module _ {D : Type 0} (pending : D → Option Pending) (faults_of : D → ℕ)
   IsLeft faults.Memory old polled new = IsCutShort (offered old none_dropped) polled new
       ⊎ IsLeftBroken faults.Memory (offered_to old polled) new
   IsLeft fault old polled new = IsLeftBroken fault (offered_to old polled) new
+
+-- ---- at every moment of a step
+
+module _ {D : Type 0} (pending : D → Option Pending) (moment : D → ℕ)
+    (images_since : D → ℕ → List ℕ → Type 0) where
+  -- Each image of the disk stands for what was acknowledged, or for that and a batch, whole.
+  abbrev pub HoldsAllOrNone : ArchiveState D → List Entry → ArchiveState D → Type 0
+  HoldsAllOrNone old batch new = (entries : List Entry) → Acknowledges pending old entries
+      → HoldsThroughout moment images_since old.disk new.disk (IsOldOrNew entries batch)
 
 -- the file was no other one
 abbrev pub IsNoRefusal : RecordFault → Type 0

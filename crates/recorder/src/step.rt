@@ -13,7 +13,8 @@ ghost use Rattle.recorder.specs.Polling.{IsPolled, BreaksOff, Gave};
 ghost use Rattle.recorder.specs.Offers.{IsBatch, offered, after_offers, offered_to, IsCutShort};
 ghost use Rattle.recorder.specs.Offers.{how_many, dropped_of, with_dropped, with_refusal};
 ghost use Rattle.recorder.specs.Steps.{IsStored, IsMended, TellsOffered};
-ghost use Rattle.recorder.specs.Steps.{IsLeft, IsUnmended, IsNoRefusal};
+ghost use Rattle.recorder.specs.Steps.{IsLeft, IsUnmended, IsNoRefusal, WaitsAgain};
+ghost use Rattle.recorder.specs.Steps.{HoldsAllOrNone};
 ghost use Rattle.recorder.specs.declared.record_fault.RecordFault.TheVariants as RecordFault;
 
 use crate::laws::answers_of_two_runs_join;
@@ -57,6 +58,13 @@ pub fn record_step<D: Disk, F: FrameSource>(
     ensures one_batch { IfOk result (λ recorded. recorded.reopened ≡ None
         → archive.new.used ≡ archive.old.used + wanted recorded.entries) }
 
+    // What the disk holds all the while: what was acknowledged, or that and what was taken of
+    // what was polled, whole.
+    ensures any_moment { (polled : List terms.Entry)
+        × Gave polled (F.answers frames.old) (F.answers frames.new)
+        × HoldsAllOrNone D.pending D.moment D.images_since archive.old
+        (offered_to archive.old polled).archive.waiting archive.new }
+
     // Why it failed, and what that leaves.
     ensures still { OnErr result (Keeps D.pending archive.old archive.new) }
     ensures source { IsErrOf result RecordFault.SourceFault → Rose (F.faults frames.old)
@@ -64,6 +72,8 @@ pub fn record_step<D: Disk, F: FrameSource>(
     ensures nothing { IsErrOf result RecordFault.SourceFault → archive.new ≡ archive.old }
     ensures broke_off { IsErrOf result RecordFault.SourceFault → BreaksOff (F.answers frames.old)
         (F.answers frames.new) }
+    ensures sound { IsErrOf result RecordFault.SourceFault
+        ⊎ (F.faults frames.new ≡ F.faults frames.old) }
     ensures left { IfErr result (λ fault. (polled : List terms.Entry)
         × Gave polled (F.answers frames.old) (F.answers frames.new)
         × IsLeft D.pending D.faults D.makes D.fails D.fails_to_read fault archive.old polled
@@ -71,6 +81,7 @@ pub fn record_step<D: Disk, F: FrameSource>(
     ensures honest { IfErr result (λ fault. (entries : List terms.Entry)
         → Acknowledges D.pending archive.old entries → IsNoRefusal fault) }
 {
+    disk_model::laws::images_at_a_moment::<D>();
     let (polled, last) = poll(alloc, frames)?;
     let mut recorded = Recorded {
         entries: Entries::new(alloc),
@@ -105,6 +116,8 @@ fn poll<F: FrameSource>(alloc: Global, frames: &mut F) -> Result<(Entries, bool)
         (F.answers frames.new) }
     ensures cause { IsErrOf result RecordFault.SourceFault → Rose (F.faults frames.old)
         (F.faults frames.new) }
+    ensures sound { IsErrOf result RecordFault.SourceFault
+        ⊎ (F.faults frames.new ≡ F.faults frames.old) }
     ensures faults { IfErr result (λ fault. (fault ≡ RecordFault.SourceFault)
         ⊎ (fault ≡ RecordFault.Memory)) }
 {
@@ -200,6 +213,9 @@ fn mend<D: Disk>(
     ensures source { ¬ (IsErrOf result RecordFault.SourceFault) }
     ensures left { IfErr result (λ fault. IsUnmended D.pending D.faults D.makes D.fails
         D.fails_to_read fault (dropped_of recorded) archive.old archive.new) }
+    ensures any_moment { WaitsAgain D.pending D.makes (dropped_of recorded) archive.old
+        → HoldsAllOrNone D.pending D.moment D.images_since archive.old archive.old.waiting
+        archive.new }
     ensures honest { IfErr result (λ fault. (entries : List terms.Entry)
         → Acknowledges D.pending archive.old entries → IsNoRefusal fault) }
 {

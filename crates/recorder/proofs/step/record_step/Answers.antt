@@ -1,21 +1,25 @@
-use Rattle.std.proofs.Common.{◌≡◌, ◌∷◌, [], List, Err, IfOk, IfErr, refl, sym, ap, subst, ◌∙◌, arith}
+use Rattle.std.proofs.Common.{◌≡◌, List, Err, IfOk, IfErr, refl, sym, ap, subst, ◌∙◌, arith}
 use Rattle.std.proofs.Common.{◌+◌, ℕ, Bool, Option, length, rules}
 use Rattle.std.proofs.lemmas.List.{length-map}
 use Rattle.std.proofs.lemmas.Result.{err_from_is_err_and}
 use Rattle.octet_core.specs.Fault.{Rose}
 use Rattle.archive_terms.specs.Archive.{Entry}
 use Rattle.frame_archive.specs.State.{ArchiveState, with_failed}
+use Rattle.frame_archive.specs.Run.{Keeps}
 use Rattle.record_form.specs.Entry.{entry_of}
 use Rattle.recorder.specs.declared.recorded.Recorded.{Recorded}
 use Rattle.recorder.specs.Polling.{IsPolled}
 use Rattle.recorder.specs.Offers.{Offered, offered, offered_to, none_dropped, dropped_of, how_many}
 use Rattle.recorder.specs.Offers.{IsCutShort}
 use Rattle.recorder.specs.Steps.{Stores, StoreFails, TellsOffered, IsMended, IsStored, IsUnmended}
+use Rattle.recorder.specs.Steps.{WaitsAgain, HoldsAllOrNone}
 use Rattle.recorder.proofs.Mending.{store_failed, stores_so, adds_behind, keeps_behind}
 use Rattle.recorder.proofs.Mending.{mended_stored, unmended_left, not_so}
-use Rattle.recorder.proofs.Again.{mended_taken, mended_answer}
+use Rattle.recorder.proofs.Again.{mended_taken, mended_answer, waits_again}
+use Rattle.recorder.proofs.Moments.{untouched, first_stored, both}
 use Rattle.recorder.proofs.Short.{polled_gave, polled_left, short_left, all_offered}
 use Rattle.recorder.proofs.step.record_step.Goals as goal
+use Rattle.recorder.proofs.step.record_step.Goals.{After-store}
 
 pub returns-in_err-polled-clause-left : goal.returns-in_err-polled-clause-left
 returns-in_err-polled-clause-left g c =
@@ -181,3 +185,86 @@ returns-in-Err-DiskFault-clause-left g c =
     (at (λ (o : Offered g.row.D.Denot). IfErr c.mend.result (λ fault. IsUnmended
     g.D.Disk.pending g.D.Disk.faults g.D.Disk.makes g.D.Disk.fails g.D.Disk.fails_to_read fault
     o.dropped broken c.mend.new.archive)) c.mend.ensures.left)
+
+-- ---- at every moment
+
+pub returns-in_err-polled-clause-any_moment : goal.returns-in_err-polled-clause-any_moment
+returns-in_err-polled-clause-any_moment g c =
+    let p = err_from_is_err_and c.from_residual.result c.from_residual.ensures.1 in
+    let gave = c.in_err-polled.ensures.gave in (
+      gave.0,
+      gave.1,
+      untouched g.D.Disk.pending g.D.Disk.moment g.D.Disk.images_since
+          c.images_at_a_moment.ensures.only_now c.args.archive.now c.args.archive.now
+          (offered_to c.args.archive.now gave.0).archive.waiting c.requires.rests refl,
+    )
+
+pub returns-in_err-offer_each-clause-any_moment : goal.returns-in_err-offer_each-clause-any_moment
+returns-in_err-offer_each-clause-any_moment g c =
+    let polled = c.in_ok-polled.polled in (
+      polled,
+      polled_gave c.in_ok-polled.last polled _ _ c.in_ok-polled.ensures.polled,
+      untouched g.D.Disk.pending g.D.Disk.moment g.D.Disk.images_since
+          c.images_at_a_moment.ensures.only_now c.args.archive.now c.offer_each.new.archive
+          (offered_to c.args.archive.now polled).archive.waiting c.requires.rests
+          (ap (λ (a : ArchiveState g.row.D.Denot). a.disk) c.offer_each.ensures.rest),
+    )
+
+-- whatever became of the first store
+stored : (g : _) (c : After-store g)
+    → HoldsAllOrNone g.D.Disk.pending g.D.Disk.moment g.D.Disk.images_since c.args.archive.now
+    (offered_to c.args.archive.now c.in_ok-polled.polled).archive.waiting c.store.new.self
+stored g c =
+    let mid = c.offer_each.new.archive in
+    let polled = c.in_ok-polled.polled in
+    let same : offered_to c.args.archive.now polled
+    ≡ offered mid (dropped_of c.offer_each.new.recorded) = search rules in
+    let ready = ap (λ (a : ArchiveState g.row.D.Denot). a.is_stale) c.offer_each.ensures.rest
+    ∙ c.requires.ready in
+    subst (λ (o : Offered g.row.D.Denot). HoldsAllOrNone g.D.Disk.pending g.D.Disk.moment
+    g.D.Disk.images_since c.args.archive.now o.archive.waiting c.store.new.self) (sym same)
+    (first_stored g.D.Disk.pending g.D.Disk.moment g.D.Disk.images_since
+    c.images_at_a_moment.ensures.only_now c.args.archive.now mid c.store.new.self c.requires.rests
+    (ap (λ (a : ArchiveState g.row.D.Denot). a.disk) c.offer_each.ensures.rest)
+    c.offer_each.ensures.acknowledged (c.store.ensures.any_moment ready))
+
+pub returns-in-Ok-clause-any_moment : goal.returns-in-Ok-clause-any_moment
+returns-in-Ok-clause-any_moment g c = (
+  c.in_ok-polled.polled,
+  polled_gave c.in_ok-polled.last c.in_ok-polled.polled _ _ c.in_ok-polled.ensures.polled,
+  stored g (goal.at.returns-in-Ok-clause-any_moment g c).After-store,
+)
+
+pub returns-in-Err-Memory-clause-any_moment : goal.returns-in-Err-Memory-clause-any_moment
+returns-in-Err-Memory-clause-any_moment g c = (
+  c.in_ok-polled.polled,
+  polled_gave c.in_ok-polled.last c.in_ok-polled.polled _ _ c.in_ok-polled.ensures.polled,
+  stored g (goal.at.returns-in-Err-Memory-clause-any_moment g c).After-store,
+)
+
+pub returns-in-Err-DiskFault-clause-any_moment : goal.returns-in-Err-DiskFault-clause-any_moment
+returns-in-Err-DiskFault-clause-any_moment g c =
+    let archive = c.args.archive.now in
+    let mid = c.offer_each.new.archive in
+    let now = dropped_of c.offer_each.new.recorded in
+    let polled = c.in_ok-polled.polled in
+    let broken = c.store.new.self in
+    let is = c.in-Err-DiskFault.ensures in
+    let same : offered_to archive polled ≡ offered mid now = search rules in
+    let failed : broken ≡ with_failed (offered_to archive polled).archive broken.disk =
+    subst (λ (o : Offered g.row.D.Denot). broken ≡ with_failed o.archive broken.disk) (sym same)
+    (is.failed (ap (λ f. Err f) c.in-Err-DiskFault.field-0-is)) in
+    let keeps : Keeps g.D.Disk.pending archive broken = λ entries was. is.still entries
+    (c.offer_each.ensures.acknowledged entries was) in (
+      polled,
+      polled_gave c.in_ok-polled.last polled _ _ c.in_ok-polled.ensures.polled,
+      both g.D.Disk.pending g.D.Disk.moment g.D.Disk.images_since archive broken broken
+          c.mend.new.archive (offered_to archive polled).archive.waiting refl
+          (ap (λ (a : ArchiveState g.row.D.Denot). a.waiting) failed) keeps
+          (stored g (goal.at.returns-in-Err-DiskFault-clause-any_moment g c).After-store)
+          (λ entries was. c.mend.ensures.any_moment
+          (subst (λ (o : Offered g.row.D.Denot). WaitsAgain g.D.Disk.pending g.D.Disk.makes
+          o.dropped broken) same
+          (waits_again g.D.Disk.pending g.D.Disk.makes archive polled c.requires.rests broken
+          entries failed was (keeps entries was)))),
+    )
