@@ -37,7 +37,7 @@ use Rattle.station_world.specs.Archives.{Holds}
 use Rattle.station_world.proofs.Lists.{front_archive, and_both}
 use Rattle.run_events.specs.Stores.{Way, at_once, landed, once_more, IsWay, Tail, nothing, taken}
 use Rattle.run_events.specs.Stores.{left_broken, not_opened, lost_then_taken, lost_then_failed}
-use Rattle.run_events.specs.Stores.{unpublished, EndsWith, lost_in}
+use Rattle.run_events.specs.Stores.{unpublished, EndsWith}
 use Rattle.run_events.specs.Laws.{Laws}
 use Rattle.run_events.proofs.Leading.{at_rest, waiting_in, broken_in, tail_file, TailFollows}
 
@@ -336,7 +336,7 @@ module _ {D F : Type 0} (pending : D → Option Pending) (disk_faults : D → �
       : Type 0 where
     pub tail : Tail
     pub ends : EndsWith ended tail
-    pub follows : IsTrue (list_all is_valid (lost_in tail)) → TailFollows had tail
+    pub follows : TailFollows had tail
     pub holds : (found kept : List Entry) → found ++ kept ≡ had
         → Holds pending new (tail_file found kept tail)
 
@@ -357,7 +357,7 @@ module _ {D F : Type 0} (pending : D → Option Pending) (disk_faults : D → �
     with_nothing ended ends same acks = record {
       tail = nothing;
       ends = ends;
-      follows = λ _. tt;
+      follows = tt;
       holds = λ found kept is.
           rest_holds pending new found kept
           (so_far found kept is (subst Acks (sym same) acks))
@@ -402,7 +402,7 @@ module _ {D F : Type 0} (pending : D → Option Pending) (disk_faults : D → �
     by_disk polled acks now (broken, failed, rose, inl left) = record {
       tail = not_opened new.waiting;
       ends = tt;
-      follows = λ _. now.agrees.archive;
+      follows = now.agrees.archive;
       holds = λ found kept is.
           held_broken found kept is now
           (broken_is (offered_to old polled).archive new.disk left.state);
@@ -410,7 +410,7 @@ module _ {D F : Type 0} (pending : D → Option Pending) (disk_faults : D → �
     by_disk polled acks now (broken, failed, rose, inr left) = record {
       tail = lost_then_failed (offered_to old polled).archive.waiting new.waiting;
       ends = tt;
-      follows = λ valid. (first_follows polled acks valid, now.agrees.archive);
+      follows = (first_follows polled acks left.valid, now.agrees.archive);
       holds = λ found kept is.
           held_broken found (kept ++ []) (with_none found kept is) now
           (broken_is (offered_again (offered_to old polled).dropped
@@ -426,7 +426,7 @@ module _ {D F : Type 0} (pending : D → Option Pending) (disk_faults : D → �
     by_memory polled acks now (broken, failed, rose, inl same) = record {
       tail = left_broken new.waiting;
       ends = tt;
-      follows = λ _. now.agrees.archive;
+      follows = now.agrees.archive;
       holds = λ found kept is.
           held_broken found kept is now
           (broken_is (offered_to old polled).archive new.disk same);
@@ -434,7 +434,7 @@ module _ {D F : Type 0} (pending : D → Option Pending) (disk_faults : D → �
     by_memory polled acks now (broken, failed, rose, inr left) = record {
       tail = lost_then_taken (offered_to old polled).archive.waiting new.waiting;
       ends = tt;
-      follows = λ valid. (first_follows polled acks valid, now.agrees.archive);
+      follows = (first_follows polled acks left.valid, now.agrees.archive);
       holds = λ found kept is.
           held_waiting found (kept ++ []) (with_none found kept is) now
           (ap (λ (a : ArchiveState D). a.failed) left.offered_again.state
@@ -449,7 +449,7 @@ module _ {D F : Type 0} (pending : D → Option Pending) (disk_faults : D → �
     by_cut polled now cut = record {
       tail = taken new.waiting;
       ends = tt;
-      follows = λ _. now.agrees.archive;
+      follows = now.agrees.archive;
       holds = λ found kept is.
           held_waiting found kept is now
           (ap (λ (a : ArchiveState D). a.failed) cut.state
@@ -462,7 +462,7 @@ module _ {D F : Type 0} (pending : D → Option Pending) (disk_faults : D → �
     by_unpublished r one = record {
       tail = unpublished one.stored.way r.entries;
       ends = tt;
-      follows = λ _. one.archive;
+      follows = one.archive;
       holds = λ found kept is.
           rest_holds pending new found (kept ++ r.entries)
           (subst (Acknowledges pending new)

@@ -1,11 +1,10 @@
 -- A run as a list of events of a world.
 use mathlib.Core.List.{map-append}
-use Rattle.std.proofs.Common.{◌≡◌, ℕ, ◌+◌, ◌≤◌, IsTrue, Option, Some, None, IfSome, Result, Ok, Err}
+use Rattle.std.proofs.Common.{◌≡◌, ℕ, ◌+◌, ◌≤◌, Option, Some, None, IfSome, Result, Ok, Err}
 use Rattle.std.proofs.Common.{inl, inr, List, [], ◌∷◌, ◌++◌, length, refl, sym, ap, subst, ◌∙◌}
 use Rattle.std.proofs.Common.{append_assoc, append-nil, arith}
-use Rattle.std.specs.List.{list_all}
 use Rattle.cds_time.specs.declared.cds.Cds.{Cds}
-use Rattle.archive_terms.specs.Archive.{Entry, is_valid}
+use Rattle.archive_terms.specs.Archive.{Entry}
 use Rattle.disk_model.specs.Images.{Pending}
 use Rattle.disk_model.specs.declared.call.Call.{Call as DiskCall}
 use Rattle.frame_archive.specs.State.{ArchiveState}
@@ -43,7 +42,7 @@ use Rattle.station_world.specs.Archives.{Holds, StandsForOne, ArchiveLaw}
 use Rattle.run_laws.specs.Lossless.{RunsAreLossless}
 use Rattle.run_laws.proofs.Among.{events}
 use Rattle.run_laws.proofs.Doors.{AreDoors, doors_are}
-use Rattle.run_events.specs.Stores.{Tail, lost_in}
+use Rattle.run_events.specs.Stores.{Tail}
 use Rattle.run_events.specs.Turns.{events_of, turns_with, is_recorders, RecordsIn}
 use Rattle.run_events.specs.Runs.{station_of, events_of_run, LeadsTo, HasHeadline, IsEvents}
 use Rattle.run_events.specs.Runs.{RunsAreEvents}
@@ -115,11 +114,12 @@ module _ {D F A G L C : Type 0} (pending : D → Option Pending) (disk_faults mo
     (lossless : RunsAreLossless pending disk_faults moment images_since makes fails fails_to_read
     answers source_faults sent antenna_faults shown door_faults calls link_faults readings) where
   module _ (site : Site) (turns links draw : ℕ) (disk disk_now : D) (old new : Outside F A G C)
-      (report : RunReport) (told : Pending) (w : World) (valid : IsSite site)
+      (report : RunReport) (valid : IsSite site)
       (over : RanOver pending disk_faults moment images_since makes fails fails_to_read answers
       source_faults sent antenna_faults shown door_faults calls link_faults readings site turns
-      links draw disk disk_now old new report) (is_told : pending disk ≡ Some told)
-      (none_lives : w.now ≡ None) (stands : StandsForOne w.file told.content) where
+      links draw disk disk_now old new report) (told : Pending) (w : World)
+      (is_told : pending disk ≡ Some told) (none_lives : w.now ≡ None)
+      (stands : StandsForOne w.file told.content) where
     abbrev number : ℕ
     number = length old.doors
 
@@ -240,13 +240,10 @@ module _ {D F A G L C : Type 0} (pending : D → Option Pending) (disk_faults mo
     abbrev tail : Tail
     tail = ended.tail
 
-    abbrev IsSure : Type 0
-    IsSure = IsTrue (list_all is_valid (lost_in tail))
-
-    walked : Walked laws o w.past w.clock number over.entries tail IsSure (records [] recorded)
-        steps (born origin) w.antenna h
+    walked : Walked laws o w.past w.clock number over.entries tail (records [] recorded) steps
+        (born origin) w.antenna h
     walked =
-        walk laws o w.past w.clock number over.entries tail IsSure h (records [] recorded) steps
+        walk laws o w.past w.clock number over.entries tail h (records [] recorded) steps
         (born origin) w.antenna
         (subst (λ (x : Opening). IsLegal (opened x) h) over.ran.origin over.ran.history.legal)
         (calls_of_recorder site number h over.ran.recorder_now.own over.ran.antenna_now.own
@@ -271,17 +268,17 @@ module _ {D F A G L C : Type 0} (pending : D → Option Pending) (disk_faults mo
     all = events_of_run opening.0 walked.turns
 
     abbrev last_file : File
-    last_file = end_file laws o w.past w.clock number over.entries tail IsSure (records [] recorded)
+    last_file = end_file laws o w.past w.clock number over.entries tail (records [] recorded)
 
     abbrev last_world : World
     last_world = going w.past w.clock last_file walked.life (w.antenna ++ sent_in steps)
 
-    leads : IsSure → Leads o w all last_world
-    leads sure =
+    leads : Leads o w all last_world
+    leads =
         let start : World =
         going w.past w.clock (at_rest over.entries []) (born origin) w.antenna in
         leads_on o w (restarts opening.0 ∷ []) start (events_of walked.turns) last_world
-        (opening.2, ap (restarted o w) opening.1) (walked.leads sure)
+        (opening.2, ap (restarted o w) opening.1) walked.leads
 
     last_holds : Holds pending over.archive_now last_file
     last_holds = ended.holds over.entries stored refl
@@ -317,17 +314,13 @@ module _ {D F A G L C : Type 0} (pending : D → Option Pending) (disk_faults mo
         others = walked.others;
         beside = walked.beside;
       };
-      come = λ sure. (leads sure).0;
-      lead = λ sure.
-          subst (LeadsTo pending sent h over.archive_now old.antenna new.antenna w)
-          (sym (leads sure).1) leads_to;
-      headline = λ sure. headline_of laws o w all (leads sure).0;
+      come = leads.0;
+      lead = subst (LeadsTo pending sent h over.archive_now old.antenna new.antenna w)
+          (sym leads.1) leads_to;
+      headline = headline_of laws o w all leads.0;
     }
 
   pub runs_are_events : RunsAreEvents pending disk_faults moment images_since makes fails
       fails_to_read answers source_faults sent antenna_faults shown door_faults calls link_faults
       readings
-  runs_are_events site turns links draw disk disk_now old new report told w valid over is_told
-      none_lives stands =
-      is_events site turns links draw disk disk_now old new report told w valid over is_told
-      none_lives stands
+  runs_are_events = is_events

@@ -41,7 +41,7 @@ pub data Mode : Type 0 where
   is_gone : File → Mode
 
 module _ (laws : Laws) (o : Opening) (past : List Life) (clock number : ℕ) (found : List Entry)
-    (tail : Tail) (P : Type 0) where
+    (tail : Tail) where
   abbrev pub file_at : Mode → File
   file_at (records kept steps) = at_rest found kept
   file_at (is_gone f) = f
@@ -57,7 +57,7 @@ module _ (laws : Laws) (o : Opening) (past : List Life) (clock number : ℕ) (fo
   -- all that is acknowledged is published, and what is ahead may be stored
   abbrev pub Fits : Mode → Life → Type 0
   Fits (records kept steps) l = ((book l).published ≡ found ++ kept) × Ahead (found ++ kept) steps
-      × (P → TailFollows (found ++ (kept ++ stored_by steps)) tail)
+      × TailFollows (found ++ (kept ++ stored_by steps)) tail
   Fits (is_gone f) l = Unit {0}
 
   abbrev pub RecorderIn : Mode → List Turn → Type 0
@@ -78,7 +78,7 @@ module _ (laws : Laws) (o : Opening) (past : List Life) (clock number : ℕ) (fo
     pub beside : AllByRecursion StandsBeside turns
     pub life : Life
     pub history : life.history ≡ l.history ++ h
-    pub leads : P → Leads o (at mode l antenna) (events_of turns)
+    pub leads : Leads o (at mode l antenna) (events_of turns)
         (going past clock (end_file mode) life (antenna ++ sent_in steps))
 
   abbrev Walks : List Answered → Type 0
@@ -114,7 +114,7 @@ module _ (laws : Laws) (o : Opening) (past : List Life) (clock number : ℕ) (fo
         let others : List Turn = turns_with (is_others number) rest.turns in
         AllByRecursion IsAlone (cond (not (of_recorder || of_antenna)) (t ∷ others) others)
     beside : IsTrue (list_all is_beside before) × IsTrue (list_all is_beside behind)
-    leads : P → Leads o (at mode l antenna) (before ++ calls e.call ∷ behind) (at next m sent)
+    leads : Leads o (at mode l antenna) (before ++ calls e.call ∷ behind) (at next m sent)
 
   one_more : (mode next : Mode) (steps later : List Step) (l m : Life)
       (antenna sent : List (List ℕ)) (e : Answered) (h : List Answered)
@@ -142,11 +142,11 @@ module _ (laws : Laws) (o : Opening) (past : List Life) (clock number : ℕ) (fo
         life = rest.life;
         history = rest.history ∙ ap (λ (xs : List Answered). xs ++ h) one.life_is.history
             ∙ append_assoc l.history (e ∷ []) h;
-        leads = λ p.
+        leads =
             let whole = leads_on o (at mode l antenna) (events_of_turn t) (at next m sent)
             (events_of rest.turns)
-            (going past clock (end_file next) rest.life (sent ++ sent_in later)) (one.leads p)
-            (rest.leads p) in
+            (going past clock (end_file next) rest.life (sent ++ sent_in later)) one.leads
+            rest.leads in
             subst (λ (f : File). Leads o (at mode l antenna) (events_of (t ∷ rest.turns))
             (going past clock f rest.life (antenna ++ sent_in steps))) one.ends
             (subst (λ (octets : List (List ℕ)).
@@ -200,7 +200,7 @@ module _ (laws : Laws) (o : Opening) (past : List Life) (clock number : ℕ) (fo
         let walked = goes (records now ss) steps m antenna legal_then rest takes right (
           published,
           subst (λ (xs : List Entry). Ahead xs ss) (sym had) fits.1.3,
-          λ p. subst (λ (xs : List Entry). TailFollows (found ++ xs) tail) (sym all) (fits.2 p),
+          subst (λ (xs : List Entry). TailFollows (found ++ xs) tail) (sym all) fits.2,
         ) in
         one_more (records kept (s ∷ ss)) (records now ss) steps steps l m antenna antenna e h walked
         (record {
@@ -227,7 +227,7 @@ module _ (laws : Laws) (o : Opening) (past : List Life) (clock number : ℕ) (fo
           radiates = walked.radiates;
           alone = walked.others;
           beside = (stores_beside fits.1.0 s.entries, refl);
-          leads = λ p.
+          leads =
               leads_on o (going past clock (at_rest found kept) l antenna)
               (store_events fits.1.0 s.entries) (going past clock (at_rest found now) l antenna)
               (calls e.call ∷ []) (going past clock (at_rest found now) m antenna)
@@ -259,13 +259,13 @@ module _ (laws : Laws) (o : Opening) (past : List Life) (clock number : ℕ) (fo
           radiates = walked.radiates;
           alone = walked.others;
           beside = (tail_beside tail, refl);
-          leads = λ p.
+          leads =
               leads_on o (going past clock (at_rest found kept) l antenna) (tail_events tail)
               (going past clock f l antenna) (calls e.call ∷ []) (going past clock f m antenna)
               (tail_leads laws.grows o (going past clock (at_rest found kept) l antenna) tt found
               tail kept
               (subst (λ (xs : List Entry). TailFollows (found ++ xs) tail) (append-nil kept)
-              (fits.2 p)))
+              fits.2))
               (call_leads laws.book_calls o past clock f l antenna e (ap is_publishing call));
         })
 
@@ -308,7 +308,7 @@ module _ (laws : Laws) (o : Opening) (past : List Life) (clock number : ℕ) (fo
           radiates = (record { before = refl; is_take = same; behind = refl }, walked.radiates);
           alone = walked.others;
           beside = (refl, sends_beside s);
-          leads = λ p. r.leads;
+          leads = r.leads;
         })
 
     alone : (steps : List Step) → is_take e.call ≡ false
@@ -335,7 +335,7 @@ module _ (laws : Laws) (o : Opening) (past : List Life) (clock number : ℕ) (fo
           radiates = walked.radiates;
           alone = ((refl, refl), walked.others);
           beside = (refl, refl);
-          leads = λ p.
+          leads =
               call_leads laws.book_calls o past clock (file_at mode) l antenna e quiet;
         })
 
@@ -355,7 +355,7 @@ module _ (laws : Laws) (o : Opening) (past : List Life) (clock number : ℕ) (fo
     beside = tt;
     life = l;
     history = sym (append-nil l.history);
-    leads = λ p. (
+    leads = (
       tt,
       ap (λ (octets : List (List ℕ)). going past clock f l octets) (sym (append-nil antenna)),
     );

@@ -1,10 +1,8 @@
 -- A run of a station as a list of a world's events. This product's own.
-use Rattle.std.specs.Prelude.{◌≡◌, ℕ, ◌+◌, Option, Some, None, IsTrue, Result, List, [], ◌∷◌, ◌++◌}
-use Rattle.std.specs.Prelude.{length}
-use Rattle.std.specs.List.{list_all}
+use Rattle.std.specs.Prelude.{◌≡◌, ℕ, ◌+◌, Option, Some, None, Result, List, [], ◌∷◌, ◌++◌, length}
 use Rattle.cds_time.specs.declared.cds.Cds.{Cds}
 use Rattle.octet_core.specs.Told.{Tells}
-use Rattle.archive_terms.specs.Archive.{Entry, is_valid}
+use Rattle.archive_terms.specs.Archive.{Entry}
 use Rattle.disk_model.specs.Images.{Pending}
 use Rattle.disk_model.specs.Moments.{IsImageOf}
 use Rattle.disk_model.specs.declared.call.Call.{Call as DiskCall}
@@ -28,7 +26,7 @@ use Rattle.station_world.specs.World.{World, before_all, Event, restarts, after_
 use Rattle.station_world.specs.Comes.{AllCome}
 use Rattle.station_world.specs.Headline.{Headline}
 use Rattle.station_world.specs.Archives.{Holds, StandsForOne}
-use Rattle.run_events.specs.Stores.{Tail, EndsWith, lost_in}
+use Rattle.run_events.specs.Stores.{Tail, EndsWith}
 use Rattle.run_events.specs.Turns.{Turn, events_of, answered_in, AreTurns}
 
 -- a station's book before its archive is opened
@@ -62,9 +60,8 @@ HasHeadline o w events =
     → after_events o before_all earlier ≡ w → events ≡ front ++ more
     → Headline (after_events o w front) (after_events o w events)
 
--- A history with what its workers did in their places is a list of events. Its first one opens the
--- archive, which finds these entries. What a failed store lost must be valid, as all is that a
--- source gives, for the rest to come.
+-- A history with what its workers did in their places is a list of events, all of which may come.
+-- Its first one opens the archive, which finds these entries.
 pub record IsEvents {D A : Type 0} (pending : D → Option Pending)
     (sent : A → Option (List (List ℕ))) (o : Opening) (w : World) (entries : List Entry)
     (number : ℕ) (recorded : List Recorded) (ended : Result Tally RecordingFault)
@@ -77,29 +74,38 @@ pub record IsEvents {D A : Type 0} (pending : D → Option Pending)
   pub turns : List Turn
   pub answered : answered_in turns ≡ history
   pub are : AreTurns number entries recorded tail steps turns
-  pub come : IsTrue (list_all is_valid (lost_in tail)) → AllCome o w (events_of_run finding turns)
-  pub lead : IsTrue (list_all is_valid (lost_in tail))
-      → LeadsTo pending sent history archive antenna antenna_now w
+  pub come : AllCome o w (events_of_run finding turns)
+  pub lead : LeadsTo pending sent history archive antenna antenna_now w
       (after_events o w (events_of_run finding turns))
-  pub headline : IsTrue (list_all is_valid (lost_in tail))
-      → HasHeadline o w (events_of_run finding turns)
+  pub headline : HasHeadline o w (events_of_run finding turns)
 
--- The law: of each run of a valid site over a disk that tells, and of each world in which nothing
--- goes on and for one of whose file's lists the disk's content stands.
-abbrev pub RunsAreEvents : {D F A G L C : Type 0} → (D → Option Pending) → (D → ℕ) → (D → ℕ)
-    → (D → ℕ → List ℕ → Type 0) → (D → DiskCall → D → Type 0) → (D → DiskCall → D → Type 0)
-    → (D → D → Type 0) → (F → Option (List Answer)) → (F → ℕ) → (A → Option (List (List ℕ)))
-    → (A → ℕ) → (G → Option Shown) → (G → ℕ) → (L → Option (List LinkCall)) → (L → ℕ)
-    → (C → Option (List Cds)) → Type 0
-RunsAreEvents {D = D} {F = F} {A = A} {G = G} {C = C} pending disk_faults moment images_since
-    makes fails fails_to_read answers source_faults sent antenna_faults shown door_faults calls
-    link_faults readings =
-    (site : Site) (turns links draw : ℕ) (disk disk_now : D) (old new : Outside F A G C)
-    (report : RunReport) (told : Pending) (w : World) → IsSite site
-    → (over : RanOver pending disk_faults moment images_since makes fails fails_to_read answers
-    source_faults sent antenna_faults shown door_faults calls link_faults readings site turns links
-    draw disk disk_now old new report)
-    → pending disk ≡ Some told → w.now ≡ None → StandsForOne w.file told.content
-    → IsEvents pending sent (station_of site (length old.doors)) w over.entries
-    (length old.doors) over.ran.records.records.steps report.recording
-    over.ran.radiates.radiates.steps report.pass.seen over.archive_now old.antenna new.antenna
+module _ {D F A G L C : Type 0} (pending : D → Option Pending) (disk_faults moment : D → ℕ)
+    (images_since : D → ℕ → List ℕ → Type 0) (makes fails : D → DiskCall → D → Type 0)
+    (fails_to_read : D → D → Type 0) (answers : F → Option (List Answer)) (source_faults : F → ℕ)
+    (sent : A → Option (List (List ℕ))) (antenna_faults : A → ℕ) (shown : G → Option Shown)
+    (door_faults : G → ℕ) (calls : L → Option (List LinkCall)) (link_faults : L → ℕ)
+    (readings : C → Option (List Cds)) where
+  module _ {site : Site} {turns links draw : ℕ} {disk disk_now : D} {old new : Outside F A G C}
+      {report : RunReport} (over : RanOver pending disk_faults moment images_since makes fails
+      fails_to_read answers source_faults sent antenna_faults shown door_faults calls link_faults
+      readings site turns links draw disk disk_now old new report) where
+    -- a run is a list of events of this world
+    abbrev pub RunIsEventsOf : World → Type 0
+    RunIsEventsOf w = IsEvents pending sent (station_of site (length old.doors)) w over.entries
+        (length old.doors) over.ran.records.records.steps report.recording
+        over.ran.radiates.radiates.steps report.pass.seen over.archive_now old.antenna new.antenna
+
+    -- A run over a disk that tells is one of each world in which nothing goes on and for one of
+    -- whose file's lists the disk's content stands.
+    abbrev pub RunIsEvents : Type 0
+    RunIsEvents = (told : Pending) (w : World) → pending disk ≡ Some told → w.now ≡ None
+        → StandsForOne w.file told.content → RunIsEventsOf w
+
+  -- The law: of each run of a valid site.
+  abbrev pub RunsAreEvents : Type 0
+  RunsAreEvents = (site : Site) (turns links draw : ℕ) (disk disk_now : D)
+      (old new : Outside F A G C) (report : RunReport) → IsSite site
+      → (over : RanOver pending disk_faults moment images_since makes fails fails_to_read answers
+      source_faults sent antenna_faults shown door_faults calls link_faults readings site turns
+      links draw disk disk_now old new report)
+      → RunIsEvents over

@@ -80,9 +80,3 @@ EndsWith (Err Memory) (left_broken entries) = Unit {0}
 EndsWith (Err Memory) (lost_then_taken lost again) = Unit {0}
 EndsWith (Err Memory) (unpublished way entries) = Unit {0}
 EndsWith _ _ = ⊥
-
--- the entries that a failed store lost, where the step didn't end behind that
-abbrev pub lost_in : Tail → List Entry
-lost_in (lost_then_taken lost again) = lost
-lost_in (lost_then_failed lost again) = lost
-lost_in _ = []

@@ -1,9 +1,9 @@
 -- A run's events with what its sessions make of STARTs beside them.
-use Rattle.std.proofs.Common.{◌≡◌, ℕ, ◌+◌, IsTrue, Option, List, [], ◌∷◌, ◌++◌}
+use Rattle.std.proofs.Common.{◌≡◌, ℕ, ◌+◌, Option, List, [], ◌∷◌, ◌++◌}
 use Rattle.std.proofs.Common.{filter, length, refl, sym, ap, subst, ◌∙◌}
-use Rattle.std.specs.List.{list_all, AllByRecursion}
+use Rattle.std.specs.List.{AllByRecursion}
 use Rattle.cds_time.specs.declared.cds.Cds.{Cds}
-use Rattle.archive_terms.specs.Archive.{Entry, is_valid}
+use Rattle.archive_terms.specs.Archive.{Entry}
 use Rattle.disk_model.specs.Images.{Pending}
 use Rattle.disk_model.specs.declared.call.Call.{Call as DiskCall}
 use Rattle.recorder.specs.Feeds.{Answer}
@@ -30,10 +30,9 @@ use Rattle.run_laws.proofs.Among.{events}
 use Rattle.run_laws.proofs.Calls.{AreFree, none_by}
 use Rattle.run_laws.proofs.Doors.{AreDoors, doors_are}
 use Rattle.run_laws.proofs.Workers.{IsAntennas, antenna_is, recorder_is, recorder_free}
-use Rattle.run_events.specs.Stores.{lost_in}
 use Rattle.run_events.specs.Turns.{answered_in}
 use Rattle.run_events.specs.Beside.{without_starts, StartsCome, bare}
-use Rattle.run_events.specs.Runs.{station_of, events_of_run, IsEvents}
+use Rattle.run_events.specs.Runs.{station_of, events_of_run, RunIsEventsOf}
 use Rattle.run_events.proofs.Running.{headline_of}
 use Rattle.run_rounds.specs.Doors.{AllFit, made_of, events_by}
 use Rattle.run_rounds.specs.Sessions.{Session, IsSession, sessions_make, starts_of}
@@ -53,13 +52,12 @@ module _ {D F A G L C : Type 0} (pending : D → Option Pending) (disk_faults mo
     (door_faults : G → ℕ) (calls : L → Option (List LinkCall)) (link_faults : L → ℕ)
     (readings : C → Option (List Cds)) (laws : Laws) where
   module _ (site : Site) (turns links draw : ℕ) (disk disk_now : D) (old new : Outside F A G C)
-      (report : RunReport) (w : World)
+      (report : RunReport)
       (over : RanOver pending disk_faults moment images_since makes fails fails_to_read answers
       source_faults sent antenna_faults shown door_faults calls link_faults readings site turns
-      links draw disk disk_now old new report)
-      (run : IsEvents pending sent (station_of site (length old.doors)) w over.entries
-      (length old.doors) over.ran.records.records.steps report.recording
-      over.ran.radiates.radiates.steps report.pass.seen over.archive_now old.antenna new.antenna)
+      links draw disk disk_now old new report) (w : World)
+      (run : RunIsEventsOf pending disk_faults moment images_since makes fails fails_to_read
+      answers source_faults sent antenna_faults shown door_faults calls link_faults readings over w)
     where
       abbrev number : ℕ
       number = length old.doors
@@ -149,9 +147,6 @@ module _ {D F A G L C : Type 0} (pending : D → Option Pending) (disk_faults mo
       filled = fill o number laws.own run.turns plans start [] (opened origin) legal run.are.beside
           run.are.others begins tt fits
 
-      abbrev IsSure : Type 0
-      IsSure = IsTrue (list_all is_valid (lost_in run.tail))
-
       abbrev all : List Event
       all = events_of_run run.finding filled.filled
 
@@ -161,10 +156,9 @@ module _ {D F A G L C : Type 0} (pending : D → Option Pending) (disk_faults mo
       starts_come : StartsCome o w all
       starts_come = ((λ own. absurd (cc own)), filled.come)
 
-      beside : IsSure → AllCome o w all
+      beside : AllCome o w all
           × (bare (after_events o w all) ≡ bare (after_events o w (without_starts all)))
-      beside sure =
-          laws.beside o w all (subst (AllCome o w) (sym plain) (run.come sure)) starts_come
+      beside = laws.beside o w all (subst (AllCome o w) (sym plain) run.come) starts_come
 
       leaves : (door : ℕ) → filter (is_at door) filled.goes.life.starts
           ≡ starts_of site door (sessions_at door) []
@@ -193,14 +187,14 @@ module _ {D F A G L C : Type 0} (pending : D → Option Pending) (disk_faults mo
           (subst (λ (ss : List Session). HasIt service b x (starts_of site door ss [])) (sym is)
           (each_is_there site door laws.there valid earlier later a own service x start []))
 
-      have_rounds : HaveRounds site o w all_sessions h run.finding run.turns IsSure
+      have_rounds : HaveRounds site o w all_sessions h run.finding run.turns
       have_rounds = record {
         turns = filled.filled;
         answered = filled.answered ∙ run.answered;
         others = filled.plain;
-        come = λ sure. (beside sure).0;
-        same = λ sure. (beside sure).1 ∙ ap (λ (xs : List Event). bare (after_events o w xs)) plain;
-        headline = λ sure. headline_of laws.run o w all (beside sure).0;
+        come = beside.0;
+        same = beside.1 ∙ ap (λ (xs : List Event). bare (after_events o w xs)) plain;
+        headline = headline_of laws.run o w all beside.0;
         life = filled.goes.life;
         goes_on = filled.goes.now;
         doors = λ door.
@@ -216,5 +210,4 @@ module _ {D F A G L C : Type 0} (pending : D → Option Pending) (disk_faults mo
   pub runs_have_rounds : RunsHaveRounds pending disk_faults moment images_since makes fails
       fails_to_read answers source_faults sent antenna_faults shown door_faults calls link_faults
       readings
-  runs_have_rounds site turns links draw disk disk_now old new report w over run =
-      have_rounds site turns links draw disk disk_now old new report w over run
+  runs_have_rounds = have_rounds

@@ -17,10 +17,10 @@ use turn_lock::laws::made_up_weighs_as_much;
 
 /// A run that is a list of a world's events, as `run_events` has it, is one with what its sessions
 /// make of STARTs in their places too: behind each answer event what its round makes of the door's
-/// START, and behind each quit the end of the one that goes on. The other events are the run's.
-/// Where those may come, all may, and they lead to the same world but for its STARTs; and the
-/// headline holds behind each front of them. The STARTs of each door are those that its sessions'
-/// rounds leave, and each START of RAF or RCF of a session is one of them.
+/// START, and behind each quit the end of the one that goes on. The other events are the run's. All
+/// may come, and they lead to the same world as those but for its STARTs; and the headline holds
+/// behind each front of them. The STARTs of each door are those that its sessions' rounds leave,
+/// and each START of RAF or RCF of a session is one of them.
 pub fn sessions_make_starts<D: Disk, F: FrameSource, A: Antenna, G: Door, C: Clock>()
     ensures { RunsHaveRounds D.pending D.faults D.moment D.images_since D.makes D.fails
         D.fails_to_read F.answers F.faults A.sent A.faults G.shown G.faults G.Link.calls
