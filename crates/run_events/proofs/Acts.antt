@@ -1,7 +1,7 @@
 -- What stands beside a turn is on the archive, or a send.
-use Rattle.std.proofs.Common.{true, false, IsTrue, List, [], ◌∷◌, ◌++◌, map, refl}
+use Rattle.std.proofs.Common.{true, false, IsTrue, List, [], ◌∷◌, ◌++◌, map, refl, ◌∙◌}
 use Rattle.std.specs.List.{list_all}
-use Rattle.std.proofs.lemmas.Bool.{and_parts}
+use Rattle.std.proofs.lemmas.List.Folds.{list_all-append}
 use Rattle.archive_terms.specs.Archive.{Entry}
 use Rattle.antenna_turns.specs.Steps.{Step, looked, radiated, broke_off}
 use Rattle.station_world.specs.File.{with_batch, without_batch, refused}
@@ -16,10 +16,9 @@ abbrev AllBeside : List Event → Type 0
 AllBeside events = IsTrue (list_all is_beside events)
 
 both : (xs ys : List Event) → AllBeside xs → AllBeside ys → AllBeside (xs ++ ys)
-both [] ys first second = second
-both (x ∷ xs) ys first second =
-    let parts = and_parts (is_beside x) (list_all is_beside xs) first in
-    and_both (is_beside x) (list_all is_beside (xs ++ ys)) parts.0 (both xs ys parts.1 second)
+both xs ys first second =
+    list_all-append is_beside xs ys
+    ∙ and_both (list_all is_beside xs) (list_all is_beside ys) first second
 
 offered : (entries : List Entry) → AllBeside (map offers entries)
 offered [] = refl

@@ -6,7 +6,7 @@ use Rattle.std.proofs.lemmas.List.Sums.{fold-append}
 use Rattle.archive_terms.specs.Archive.{Entry, IsArchive}
 use Rattle.cltu_queue.specs.Run.{Radiation}
 use Rattle.cltu_queue.specs.declared.taken.Taken.TheVariants.{Radiate}
-use Rattle.antenna_turns.specs.Steps.{Step, looked, radiated, broke_off, IsStep, sent_of}
+use Rattle.antenna_turns.specs.Steps.{Step, looked, radiated, broke_off, IsStep, IsTake, sent_of}
 use Rattle.station_book.specs.State.{State, Opening, opened, Call, publish, answer, quit}
 use Rattle.station_book.specs.State.{take as takes, done, interrupted, uplink, gone, Reply, took}
 use Rattle.station_book.specs.State.{Event as Answered}
@@ -16,7 +16,7 @@ use Rattle.station_book.specs.Radiation.{radiation_by}
 use Rattle.station_book.proofs.Published.{one_published}
 use Rattle.station_world.specs.File.{File}
 use Rattle.station_world.specs.Life.{Life, book, is_take, called, radiated_by, sent_with}
-use Rattle.station_world.specs.World.{World, calls, sends}
+use Rattle.station_world.specs.World.{World, Event, calls, sends}
 use Rattle.station_world.specs.Calls.{Leads, is_publishing, CallsAreEvents}
 use Rattle.run_events.specs.Turns.{take_in, sends_in}
 use Rattle.run_events.proofs.Leading.{leads_on, at_rest}
@@ -111,14 +111,13 @@ module _ (law : CallsAreEvents) (o : Opening) (past : List Life) (clock : ℕ) (
 
   -- ---- a step of the antenna's worker
 
-  -- Where a take and what stands behind it lead.
-  pub record Radiates (step : Step) (l : Life) (antenna : List (List ℕ)) (e : Answered)
-      : Type 0 where
+  -- Where a take and what stands behind it lead, by what it sends.
+  pub record Radiates (behind : List Event) (sent : List (List ℕ)) (l : Life)
+      (antenna : List (List ℕ)) (e : Answered) : Type 0 where
     pub life : Life
     pub next : Next l e life
     pub quiet : is_publishing e.call ≡ false
-    pub leads : Leads o (at l antenna) (calls e.call ∷ sends_in step)
-        (at life (antenna ++ sent_of step))
+    pub leads : Leads o (at l antenna) (calls e.call ∷ behind) (at life (antenna ++ sent))
 
   module _ (l : Life) (antenna : List (List ℕ)) (e : Answered) (is_next : IsNext l e) where
     abbrev m : Life
@@ -134,18 +133,27 @@ module _ (law : CallsAreEvents) (o : Opening) (past : List Life) (clock : ℕ) (
         ∙ ap (λ (x : Reply). radiation_by e.moment x) reply
 
     -- it gave octets, and these were sent, good or not
-    sent_behind : (good : Bool) (reading run id : ℕ) (octets : List ℕ) → e.call ≡ takes reading
-        → e.reply ≡ took (Radiate run id octets)
-        → Leads o (at l antenna) (calls e.call ∷ sends good ∷ [])
-        (at (sent_with good m) (antenna ++ (if good then octets ∷ [] else [])))
-    sent_behind good reading run id octets call reply =
-        leads_on o (at l antenna) (calls e.call ∷ []) (at m antenna) (sends good ∷ [])
-        (at (sent_with good m) (antenna ++ (if good then octets ∷ [] else [])))
-        (call_leads l antenna e (ap is_publishing call))
-        (send_leads good m antenna (record { at = e.moment; run = run; id = id; octets = octets })
-        (to_send_is reading run id octets call reply))
+    sent_behind : (good : Bool) (run id : ℕ) (octets : List ℕ) (taken : Answered)
+        → IsTake (Radiate run id octets) taken → e ≡ taken
+        → Radiates (sends good ∷ []) (if good then octets ∷ [] else []) l antenna e
+    sent_behind good run id octets taken is same =
+        let call : e.call ≡ takes is.reading = ap (λ (x : Answered). x.call) same ∙ is.call in
+        let reply : e.reply ≡ took (Radiate run id octets) =
+        ap (λ (x : Answered). x.reply) same ∙ is.reply in record {
+          life = sent_with good m;
+          next = next_sent l e m good (next_called l e is_next);
+          quiet = ap is_publishing call;
+          leads =
+              leads_on o (at l antenna) (calls e.call ∷ []) (at m antenna) (sends good ∷ [])
+              (at (sent_with good m) (antenna ++ (if good then octets ∷ [] else [])))
+              (call_leads l antenna e (ap is_publishing call))
+              (send_leads good m antenna
+              (record { at = e.moment; run = run; id = id; octets = octets })
+              (to_send_is is.reading run id octets call reply));
+        }
 
-    pub step_leads : (step : Step) → IsStep step → e ≡ take_in step → Radiates step l antenna e
+    pub step_leads : (step : Step) → IsStep step → e ≡ take_in step
+        → Radiates (sends_in step) (sent_of step) l antenna e
     step_leads (looked mark) right same =
         let call : e.call ≡ takes right.2.reading =
         ap (λ (x : Answered). x.call) same ∙ right.2.call in record {
@@ -157,25 +165,9 @@ module _ (law : CallsAreEvents) (o : Opening) (past : List Life) (clock : ℕ) (
               (call_leads l antenna e (ap is_publishing call));
         }
     step_leads (radiated mark octets behind) right same =
-        let call : e.call ≡ takes right.2.reading =
-        ap (λ (x : Answered). x.call) same ∙ right.2.call in
-        let reply : e.reply ≡ took (Radiate right.0 right.1 octets) =
-        ap (λ (x : Answered). x.reply) same ∙ right.2.reply in record {
-          life = sent_with true m;
-          next = next_sent l e m true (next_called l e is_next);
-          quiet = ap is_publishing call;
-          leads = sent_behind true right.2.reading right.0 right.1 octets call reply;
-        }
+        sent_behind true right.0 right.1 octets mark.event right.2 same
     step_leads (broke_off mark octets behind) right same =
-        let call : e.call ≡ takes right.2.reading =
-        ap (λ (x : Answered). x.call) same ∙ right.2.call in
-        let reply : e.reply ≡ took (Radiate right.0 right.1 octets) =
-        ap (λ (x : Answered). x.reply) same ∙ right.2.reply in record {
-          life = sent_with false m;
-          next = next_sent l e m false (next_called l e is_next);
-          quiet = ap is_publishing call;
-          leads = sent_behind false right.2.reading right.0 right.1 octets call reply;
-        }
+        sent_behind false right.0 right.1 octets mark.event right.2 same
 
     pub called_next : Next l e m
     called_next = next_called l e is_next

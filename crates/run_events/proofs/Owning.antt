@@ -1,6 +1,6 @@
 -- The own events of a run's workers, and whose the history's are.
 use mathlib.Core.List.{map-append}
-use Rattle.std.proofs.Common.{◌≡◌, ◌==◌, ℕ, suc, ◌+◌, ◌≤◌, ◌<◌, Bool, true, false, cond, List}
+use Rattle.std.proofs.Common.{◌≡◌, ◌==◌, ℕ, suc, ◌+◌, ◌≤◌, ◌<◌, Bool, true, false, ◌||◌, cond, List}
 use Rattle.std.proofs.Common.{[], ◌∷◌, ◌++◌, Option, Some, All, map, filter, length, refl, ap}
 use Rattle.std.proofs.Common.{◌∙◌, append-nil, arith, eq-eqb}
 use Rattle.std.proofs.lemmas.Bool.Decides.{nat_tests}
@@ -28,7 +28,7 @@ use Rattle.run_laws.proofs.Calls.{owner, AreOf, or_none}
 use Rattle.run_laws.proofs.Sessions.{sessions_of}
 use Rattle.run_laws.proofs.Doors.{IsDoor, AreDoors}
 use Rattle.run_events.specs.Turns.{is_recorders, take_in}
-use Rattle.run_events.proofs.Walking.{calls_in}
+use Rattle.run_events.proofs.Walking.{calls_in, or_parts}
 
 -- ---- kinds of events
 
@@ -57,25 +57,24 @@ one_none p e is = or_none (p e) false is refl
 
 -- ---- doors
 
+-- what a door calls is neither the recorder's nor a take
+pub neither : (number : ℕ) (c : Call) (door : ℕ) → owner c ≡ Some door
+    → (is_recorders number c || is_take c) ≡ false
+neither number (answer other reading ask want) door is = refl
+neither number (quit other) door is = refl
+neither number (publish entries) door is = absurd (cc is)
+neither number (take reading) door is = absurd (cc is)
+neither number (done run id reading) door is = refl
+neither number (interrupted run id reading) door is = refl
+neither number (uplink production status reading) door is = refl
+neither number (gone worker) door is = absurd (cc is)
+
 no_recorder : (c : Call) (door number : ℕ) → owner c ≡ Some door → is_recorders number c ≡ false
-no_recorder (answer other reading ask want) door number is = refl
-no_recorder (quit other) door number is = refl
-no_recorder (publish entries) door number is = absurd (cc is)
-no_recorder (take reading) door number is = refl
-no_recorder (done run id reading) door number is = refl
-no_recorder (interrupted run id reading) door number is = refl
-no_recorder (uplink production status reading) door number is = refl
-no_recorder (gone worker) door number is = absurd (cc is)
+no_recorder c door number is =
+    (or_parts (is_recorders number c) (is_take c) (neither number c door is)).0
 
 no_take : (c : Call) (door : ℕ) → owner c ≡ Some door → is_take c ≡ false
-no_take (answer other reading ask want) door is = refl
-no_take (quit other) door is = refl
-no_take (publish entries) door is = refl
-no_take (take reading) door is = absurd (cc is)
-no_take (done run id reading) door is = refl
-no_take (interrupted run id reading) door is = refl
-no_take (uplink production status reading) door is = refl
-no_take (gone worker) door is = refl
+no_take c door is = (or_parts (is_recorders 0 c) (is_take c) (neither 0 c door is)).1
 
 none_owned : (p : Event → Bool) (door : ℕ)
     → ((e : Event) → owner e.call ≡ Some door → p e ≡ false) → (es : List Event)
@@ -272,6 +271,13 @@ module _ (number : ℕ) (steps : List Step) (es : List Event)
 
 -- ---- the history
 
+-- The recorder's calls in a history, and the takes, by what these workers did.
+pub record AreTheirs (number : ℕ) (h : List Event) (recorded : List Recorded) (steps : List Step)
+    : Type 0 where
+  pub of_recorder : calls_in (filter (λ e. is_recorders number e.call) h)
+      ≡ publishings recorded ++ gone number ∷ []
+  pub of_antenna : filter (λ e. is_take e.call) h ≡ map take_in steps
+
 module _ (site : Site) (number : ℕ) (h : List Event) (recorders antennas : List (Mark Event))
     (owns : List (List (Mark Event)))
     (weighs : (f : Event → ℕ) (h : List Event) (lists : List (List (Mark Event)))
@@ -280,20 +286,19 @@ module _ (site : Site) (number : ℕ) (h : List Event) (recorders antennas : Lis
     (steps : List Step) (r : IsRecorders number recorded (events recorders))
     (a : IsAntennas (number + 1) steps (events antennas)) (are : AreDoors site 0 owns)
     (few : length owns ≤ number) where
-  pub calls_of_recorder : calls_in (filter (of_recorder number) h)
-      ≡ publishings recorded ++ gone number ∷ []
-  calls_of_recorder =
-      ap calls_in
-      (only_there (of_recorder number) h ([] ∷ []) recorders (antennas ∷ [] ∷ owns) weighs made
-      (refl, tt) (
-        antenna_no_recorder number steps (events antennas) a,
-        (refl, doors_no_recorder site number 0 owns (omega (arith, few)) are),
-      ))
-      ∙ recorder_calls number recorded (events recorders) r
-
-  pub takes_of_antenna : filter of_antenna h ≡ map take_in steps
-  takes_of_antenna =
-      only_there of_antenna h ([] ∷ recorders ∷ []) antennas ([] ∷ owns) weighs made
-      (refl, (recorder_no_take number recorded (events recorders) r, tt))
-      (refl, doors_no_take site 0 owns are)
-      ∙ antenna_takes number steps (events antennas) a
+  pub whose : AreTheirs number h recorded steps
+  whose = record {
+    of_recorder =
+        ap calls_in
+        (only_there (of_recorder number) h ([] ∷ []) recorders (antennas ∷ [] ∷ owns) weighs made
+        (refl, tt) (
+          antenna_no_recorder number steps (events antennas) a,
+          (refl, doors_no_recorder site number 0 owns (omega (arith, few)) are),
+        ))
+        ∙ recorder_calls number recorded (events recorders) r;
+    of_antenna =
+        only_there of_antenna h ([] ∷ recorders ∷ []) antennas ([] ∷ owns) weighs made
+        (refl, (recorder_no_take number recorded (events recorders) r, tt))
+        (refl, doors_no_take site 0 owns are)
+        ∙ antenna_takes number steps (events antennas) a;
+  }

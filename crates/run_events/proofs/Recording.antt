@@ -5,6 +5,7 @@ use Rattle.std.proofs.Common.{sym, ap, subst, ◌∙◌, append_assoc, append-ni
 use Rattle.std.proofs.Common.{fold, zero, suc, true≢false}
 use Rattle.std.specs.List.{list_all}
 use Rattle.std.proofs.lemmas.Bool.{and_parts}
+use Rattle.std.proofs.lemmas.List.Folds.{list_all-append}
 use Rattle.std.proofs.lemmas.Grind.{flat_map-append}
 use Rattle.std.proofs.lemmas.List.{take_all}
 use Rattle.archive_terms.specs.Archive.{Entry, is_archive, IsArchive, is_valid, is_storable}
@@ -105,18 +106,11 @@ module _ {D : Type 0} where
 
 -- ---- what was taken is an archive behind the others, where it is valid
 
-front_valid : (a b : List Entry) → IsTrue (list_all is_valid (a ++ b))
-    → IsTrue (list_all is_valid a)
-front_valid [] b valid = refl
-front_valid (x ∷ a) b valid =
-    let parts = and_parts (is_valid x) (list_all is_valid (a ++ b)) valid in
-    and_both (is_valid x) (list_all is_valid a) parts.0 (front_valid a b parts.1)
-
-last_valid : (a : List Entry) (e : Entry) → IsTrue (list_all is_valid (a ++ e ∷ []))
-    → IsTrue (is_valid e)
-last_valid [] e valid = (and_parts (is_valid e) true valid).0
-last_valid (x ∷ a) e valid =
-    last_valid a e (and_parts (is_valid x) (list_all is_valid (a ++ e ∷ [])) valid).1
+valid_parts : (a b : List Entry) → IsTrue (list_all is_valid (a ++ b))
+    → IsTrue (list_all is_valid a) × IsTrue (list_all is_valid b)
+valid_parts a b valid =
+    and_parts (list_all is_valid a) (list_all is_valid b)
+    (sym (list_all-append is_valid a b) ∙ valid)
 
 not_refused : (b c : Bool) (rest : Option OfferFault)
     → (if not b then Some offers.Backward else if not c then Some offers.TooLong else rest) ≡ None
@@ -138,7 +132,8 @@ module _ {D : Type 0} (laws : Laws) (had : List Entry) where
       let times = x.archive.times in
       let fits = not_refused (is_in_order times.frame times.seal e) (is_short e) _ is in
       let storable : IsTrue (is_storable e) =
-      and_both (is_valid e) (is_short e) (last_valid x.archive.waiting e valid) fits.1 in
+      and_both (is_valid e) (is_short e)
+      (and_parts (is_valid e) true (valid_parts x.archive.waiting (e ∷ []) valid).1).0 fits.1 in
       let may : IsTrue (may_follow a e) =
       subst IsTrue (sym (laws.follows a e good.archive))
       (and_both (is_storable e) _ storable
@@ -161,8 +156,8 @@ module _ {D : Type 0} (laws : Laws) (had : List Entry) where
       let grown = all_grow (after_offer x e) es in
       all_good (after_offer x e) es
       (one_good x e (refusal x.archive e) refl good
-      (front_valid (after_offer x e).archive.waiting grown.0
-      (subst (λ (xs : List Entry). IsTrue (list_all is_valid xs)) grown.1 valid)))
+      (valid_parts (after_offer x e).archive.waiting grown.0
+      (subst (λ (xs : List Entry). IsTrue (list_all is_valid xs)) grown.1 valid)).0)
       valid
 
   taken_follow : (archive : ArchiveState D) (polled : List Entry)

@@ -51,8 +51,7 @@ use Rattle.run_events.proofs.Leading.{leads_on, at_rest}
 use Rattle.run_events.proofs.Calling.{going}
 use Rattle.run_events.proofs.Recording.{Rests, Ahead, ChainGoes, chain_goes, Ended, ended_so}
 use Rattle.run_events.proofs.Walking.{records, calls_in, Walked, walk, end_file}
-use Rattle.run_events.proofs.Owning.{IsRecorders, IsAntennas, each_right, as_many}
-use Rattle.run_events.proofs.Owning.{calls_of_recorder, takes_of_antenna}
+use Rattle.run_events.proofs.Owning.{IsRecorders, IsAntennas, each_right, as_many, AreTheirs, whose}
 
 -- ---- the headline of events that follow others
 
@@ -140,17 +139,19 @@ module _ {D F A G L C : Type 0} (pending : D → Option Pending) (disk_faults mo
 
     -- ---- the recorder and its archive
 
+    -- what holds where the disk tells
+    so_told : (P : Pending → Type 0) → IfSome (pending disk) P → P told
+    so_told P holds = subst (λ (p : Option Pending). IfSome p P) is_told holds
+
     acknowledged : Acknowledges pending over.archive over.entries
-    acknowledged = subst
-        (λ (p : Option Pending). IfSome p (λ _. Acknowledges pending over.archive over.entries))
-        is_told over.acknowledged
+    acknowledged =
+        so_told (λ _. Acknowledges pending over.archive over.entries) over.acknowledged
 
     uses : Uses over.entries over.archive.used told.content
     uses =
         subst (λ n. Uses over.entries n told.content)
         (sym (ap (λ (a : ArchiveState D). a.used) over.opened))
-        (subst (λ (p : Option Pending). IfSome p (λ t. Uses over.entries over.used t.content))
-        is_told over.stands)
+        (so_told (λ t. Uses over.entries over.used t.content) over.stands)
 
     rests : Rests over.archive
     rests = record {
@@ -159,8 +160,8 @@ module _ {D F A G L C : Type 0} (pending : D → Option Pending) (disk_faults mo
     }
 
     not_foreign : report.recording ≡ Err fault.Foreign → ⊥
-    not_foreign = subst
-        (λ (p : Option Pending). IfSome p (λ _. report.recording ≡ Err fault.Foreign → ⊥)) is_told
+    not_foreign =
+        so_told (λ _. report.recording ≡ Err fault.Foreign → ⊥)
         (lossless site turns links draw disk disk_now old new report valid over).recording
 
     went : ChainGoes pending makes fails answers laws over.entries recorded
@@ -235,6 +236,11 @@ module _ {D F A G L C : Type 0} (pending : D → Option Pending) (disk_faults mo
         over.ran.works in
         omega (arith, same)
 
+    theirs : AreTheirs number h recorded steps
+    theirs = whose site number h over.ran.recorder_now.own over.ran.antenna_now.own
+        (owns_of over.ran.seats_now) laws.weighs over.ran.history.make_up recorded steps
+        recorder_told antenna_told doors_told few
+
     -- ---- the events
 
     abbrev tail : Tail
@@ -246,13 +252,7 @@ module _ {D F A G L C : Type 0} (pending : D → Option Pending) (disk_faults mo
         walk laws o w.past w.clock number over.entries tail h (records [] recorded) steps
         (born origin) w.antenna
         (subst (λ (x : Opening). IsLegal (opened x) h) over.ran.origin over.ran.history.legal)
-        (calls_of_recorder site number h over.ran.recorder_now.own over.ran.antenna_now.own
-        (owns_of over.ran.seats_now) laws.weighs over.ran.history.make_up recorded steps
-        recorder_told antenna_told doors_told few)
-        (takes_of_antenna site number h over.ran.recorder_now.own over.ran.antenna_now.own
-        (owns_of over.ran.seats_now) laws.weighs over.ran.history.make_up recorded steps
-        recorder_told antenna_told doors_told few)
-        antenna_told.right (
+        theirs.of_recorder theirs.of_antenna antenna_told.right (
           sym (append-nil over.entries),
           subst (λ (xs : List Entry). Ahead xs recorded) (sym (append-nil over.entries)) ahead,
           ended.follows,

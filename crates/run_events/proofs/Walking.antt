@@ -30,7 +30,7 @@ use Rattle.run_events.proofs.Recording.{Ahead}
 abbrev pub calls_in : List Answered → List Call
 calls_in es = map (λ e. e.call) es
 
-or_parts : (b c : Bool) → (b || c) ≡ false → (b ≡ false) × (c ≡ false)
+pub or_parts : (b c : Bool) → (b || c) ≡ false → (b ≡ false) × (c ≡ false)
 or_parts true c is = absurd (cc is)
 or_parts false c is = (refl, is)
 

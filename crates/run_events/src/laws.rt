@@ -39,8 +39,8 @@ pub fn starts_stand_beside()
     ensures { StartsStandBeside }
 {}
 
-// The laws of archives, of the lock and of worlds.
-fn rests_on()
+/// The laws of archives, of the lock and of worlds that those of runs rest on.
+pub fn rests_on()
     ensures { Laws }
 {
     archive_grows();

@@ -35,6 +35,7 @@ use Rattle.line_events.specs.Progress.{changed_at, events_at, IsFit, ProgressIsO
 use Rattle.run_events.specs.Turns.{Turn, events_of_turn, events_of, answered_in, is_beside}
 use Rattle.run_events.specs.Turns.{StandsBeside, IsAlone, is_others, turns_with}
 use Rattle.run_events.specs.Beside.{is_of_start, without_starts, StartsCome}
+use Rattle.run_events.proofs.Owning.{neither}
 use Rattle.run_rounds.specs.Doors.{called_in, placed, Makes, AllMake, turns_by, seen_by, made_of}
 use Rattle.run_rounds.specs.Doors.{FitsAt, AllFit, events_by}
 
@@ -398,16 +399,6 @@ by_nobody (interrupted run id reading) k is = refl
 by_nobody (uplink production status reading) k is = refl
 by_nobody (gone worker) k is = refl
 
-others_own : (number : ℕ) (c : Call) (d : ℕ) → owner c ≡ Some d → is_others number c ≡ true
-others_own number (answer other reading ask want) d is = refl
-others_own number (quit other) d is = refl
-others_own number (publish entries) d is = absurd (cc is)
-others_own number (take reading) d is = absurd (cc is)
-others_own number (done run id reading) d is = absurd (cc is)
-others_own number (interrupted run id reading) d is = absurd (cc is)
-others_own number (uplink production status reading) d is = absurd (cc is)
-others_own number (gone worker) d is = absurd (cc is)
-
 of_it : (door front : ℕ) (p : Progress) → IsFit door front p → IsOf door p
 of_it door front none_runs fit = tt
 of_it door front (taken_now a) fit = fit.0
@@ -601,20 +592,48 @@ module _ (o : Opening) (number : ℕ) (law : ProgressIsOfItsDoor) where
         (one_comes (after_events o u t.before) (calls e.call) refl, tt)
 
     -- with these events behind it
-    module _ (behind : List Event) (come : StartsCome o v behind) where
-      whole_comes : StartsCome o u (t.before ++ calls e.call ∷ behind)
+    module _ (behind : List Event) (come : StartsCome o v behind)
+        (plain : without_starts behind ≡ t.behind) where
+      abbrev its : Turn
+      its = record { before = t.before; answered = e; behind = behind }
+
+      whole_comes : StartsCome o u (events_of_turn its)
       whole_comes =
           subst (StartsCome o u) (sym (split behind)) (come_both o u front behind front_comes come)
 
-      leads_on : after_events o u (t.before ++ calls e.call ∷ behind) ≡ after_events o v behind
+      leads_on : after_events o u (events_of_turn its) ≡ after_events o v behind
       leads_on = ap (after_events o u) (split behind) ∙ after_both o u front behind
 
-      plain_is : without_starts (t.before ++ calls e.call ∷ behind)
-          ≡ front ++ without_starts behind
+      plain_is : without_starts (events_of_turn its) ≡ events_of_turn t
       plain_is =
           ap without_starts (split behind)
           ∙ (kept_both front behind
-          ∙ ap (λ (xs : List Event). xs ++ without_starts behind) front_plain)
+          ∙ (ap (λ (xs : List Event). xs ++ without_starts behind) front_plain
+          ∙ (ap (λ (xs : List Event). front ++ xs) plain ∙ sym (split t.behind))))
+
+      -- and the turns behind that
+      and_more : (plans_then : Plans) (all_then : List Start)
+          → (rest : Filled ts plans_then (after_events o u (events_of_turn its)) all_then next)
+          → ((door : ℕ)
+          → AllMake door (plans door) (turns_by door (placed o u (its ∷ rest.filled))))
+          → ((door : ℕ)
+          → filter (is_at door) rest.ends
+          ≡ made_of door (events_by door (answered_in (t ∷ ts))) (plans door)
+          (filter (is_at door) all))
+          → Filled (t ∷ ts) plans u all b
+      and_more plans_then all_then rest makes made = record {
+        filled = its ∷ rest.filled;
+        answered = ap (λ (xs : List Answered). e ∷ xs) rest.answered;
+        plain = kept_both (events_of_turn its) (events_of rest.filled)
+            ∙ (ap (λ (xs : List Event). xs ++ without_starts (events_of rest.filled)) plain_is
+            ∙ ap (λ (xs : List Event). events_of_turn t ++ xs) rest.plain);
+        come = come_both o u (events_of_turn its) (events_of rest.filled) whole_comes rest.come;
+        ends = rest.ends;
+        goes = subst (λ (x : World). GoesOn x rest.ends (replay next (answered_in ts)))
+            (sym (after_both o u (events_of_turn its) (events_of rest.filled))) rest.goes;
+        makes = makes;
+        made = made;
+      }
 
     -- a turn of no door
     stays : owner e.call ≡ None
@@ -623,34 +642,22 @@ module _ (o : Opening) (number : ℕ) (law : ProgressIsOfItsDoor) where
         → Filled (t ∷ ts) plans u all b
     stays nobody alone fit =
         let come : StartsCome o v t.behind = none_come o v t.behind beside.0.1 in
+        let plain : without_starts t.behind ≡ t.behind = all_kept t.behind beside.0.1 in
         let w : World = after_events o u (events_of_turn t) in
         let there : GoesOn w all next =
-        subst (λ (x : World). GoesOn x all next) (sym (leads_on t.behind come))
+        subst (λ (x : World). GoesOn x all next) (sym (leads_on t.behind come plain))
         (beside_all o v all next t.behind beside.0.1 called_goes) in
-        let rest = fill plans w all next legal.1 beside.1 alone there saw_then fit in record {
-          filled = t ∷ rest.filled;
-          answered = ap (λ (xs : List Answered). e ∷ xs) rest.answered;
-          plain = kept_both (events_of_turn t) (events_of rest.filled)
-              ∙ (ap (λ (xs : List Event). xs ++ without_starts (events_of rest.filled))
-              (plain_is t.behind come
-              ∙ (ap (λ (xs : List Event). front ++ xs) (all_kept t.behind beside.0.1)
-              ∙ sym (split t.behind)))
-              ∙ ap (λ (xs : List Event). events_of_turn t ++ xs) rest.plain);
-          come = come_both o u (events_of_turn t) (events_of rest.filled)
-              (whole_comes t.behind come) rest.come;
-          ends = rest.ends;
-          goes = subst (λ (x : World). GoesOn x rest.ends (replay next (answered_in ts)))
-              (sym (after_both o u (events_of_turn t) (events_of rest.filled))) rest.goes;
-          makes = λ door.
-              let later = turns_by door (placed o w rest.filled) in
-              subst (λ (c : Bool). AllMake door (plans door) (cond c ((v, t) ∷ later) later))
-              (sym (by_nobody e.call door nobody)) (rest.makes door);
-          made = λ door.
-              let later = events_by door (answered_in ts) in
-              rest.made door
-              ∙ ap (λ (c : Bool). made_of door (cond c (e ∷ later) later) (plans door)
-              (filter (is_at door) all)) (sym (by_nobody e.call door nobody));
-        }
+        let rest = fill plans w all next legal.1 beside.1 alone there saw_then fit in
+        and_more t.behind come plain plans all rest
+        (λ door.
+        let later = turns_by door (placed o w rest.filled) in
+        subst (λ (c : Bool). AllMake door (plans door) (cond c ((v, t) ∷ later) later))
+        (sym (by_nobody e.call door nobody)) (rest.makes door))
+        (λ door.
+        let later = events_by door (answered_in ts) in
+        rest.made door
+        ∙ ap (λ (c : Bool). made_of door (cond c (e ∷ later) later) (plans door)
+        (filter (is_at door) all)) (sym (by_nobody e.call door nobody)))
 
     -- a door's turn, of which this is made
     makes_at : (d : ℕ) (p : Progress) (ps : List Progress) → owner e.call ≡ Some d
@@ -668,36 +675,25 @@ module _ (o : Opening) (number : ℕ) (law : ProgressIsOfItsDoor) where
         (subst (λ (x : Option ℕ). FitsAt d x p) reply fits) in
         let acted = acts o d n v all next called_goes refl saw_then p seen.fit in
         let behind : List Event = progress_events d v p in
-        let t' : Turn = record { before = t.before; answered = e; behind = behind } in
+        let plain : without_starts behind ≡ t.behind = none_left d v p ∙ sym single.1 in
+        let t' : Turn = its behind acted.come plain in
         let all' : List Start = progressed d n p all in
         let w : World = after_events o u (events_of_turn t') in
         let there : GoesOn w all' next =
-        subst (λ (x : World). GoesOn x all' next) (sym (leads_on behind acted.come)) acted.goes in
+        subst (λ (x : World). GoesOn x all' next) (sym (leads_on behind acted.come plain))
+        acted.goes in
         let rest = fill (with_rest d ps plans) w all' next legal.1 beside.1 alone there acted.within
-        fit in record {
-          filled = t' ∷ rest.filled;
-          answered = ap (λ (xs : List Answered). e ∷ xs) rest.answered;
-          plain = kept_both (events_of_turn t') (events_of rest.filled)
-              ∙ (ap (λ (xs : List Event). xs ++ without_starts (events_of rest.filled))
-              (plain_is behind acted.come
-              ∙ (ap (λ (xs : List Event). front ++ xs) (none_left d v p ∙ sym single.1)
-              ∙ sym (split t.behind)))
-              ∙ ap (λ (xs : List Event). events_of_turn t ++ xs) rest.plain);
-          come = come_both o u (events_of_turn t') (events_of rest.filled)
-              (whole_comes behind acted.come) rest.come;
-          ends = rest.ends;
-          goes = subst (λ (x : World). GoesOn x rest.ends (replay next (answered_in ts)))
-              (sym (after_both o u (events_of_turn t') (events_of rest.filled))) rest.goes;
-          makes = λ door.
-              makes_more d p ps plans planned e.call own door (v, t')
-              (turns_by door (placed o w rest.filled))
-              (record { before = single.0; behind = refl }) (rest.makes door) (d == door) refl;
-          made = λ door.
-              made_more d p ps plans planned e.call own law n door e
-              (events_by door (answered_in ts)) rest.ends all (of_it d n p seen.fit)
-              (λ xs. ap (λ (x : Option ℕ). progressed d (seen_by x) p xs) reply ∙ seen.same xs)
-              (rest.made door) (d == door) refl;
-        }
+        fit in
+        and_more behind acted.come plain (with_rest d ps plans) all' rest
+        (λ door.
+        makes_more d p ps plans planned e.call own door (v, t')
+        (turns_by door (placed o w rest.filled)) (record { before = single.0; behind = refl })
+        (rest.makes door) (d == door) refl)
+        (λ door.
+        made_more d p ps plans planned e.call own law n door e (events_by door (answered_in ts))
+        rest.ends all (of_it d n p seen.fit)
+        (λ xs. ap (λ (x : Option ℕ). progressed d (seen_by x) p xs) reply ∙ seen.same xs)
+        (rest.made door) (d == door) refl)
 
     one_turn : AllByRecursion IsAlone (turns_with (is_others number) (t ∷ ts))
         → ((door : ℕ) → AllFit door (events_by door (answered_in (t ∷ ts))) (plans door))
@@ -716,7 +712,7 @@ module _ (o : Opening) (number : ℕ) (law : ProgressIsOfItsDoor) where
         by_plan d own (p ∷ ps) planned fits =
             let both = subst
             (λ (b : Bool). AllByRecursion IsAlone (cond b (t ∷ others) others))
-            (others_own number e.call d own) alone in
+            (ap not (neither number e.call d own)) alone in
             makes_at d p ps own planned both.0 both.1 fits.0 legal.0
             (λ k. fits_less d p ps plans planned e.call own k e (later k) (fit k) (d == k) refl)
 

@@ -3,7 +3,6 @@ ghost use Rattle.run_rounds.specs.Rounds.{RunsHaveRounds};
 ghost use Rattle.run_rounds.specs.Laws.{Laws};
 
 use antenna_core::Antenna;
-use archive_terms::laws::{archive_grows, follows_by_last_times};
 use cds_time::Clock;
 use disk_model::Disk;
 use door_model::Door;
@@ -11,9 +10,6 @@ use line_events::laws::progress_is_of_its_door;
 use recorder::FrameSource;
 use run_events::laws::starts_stand_beside;
 use session_events::laws::{each_start_is_the_worlds, what_a_round_makes_may_come};
-use station_book::Event;
-use station_world::laws::{calls_are_events, headline_law};
-use turn_lock::laws::made_up_weighs_as_much;
 
 /// A run that is a list of a world's events, as `run_events` has it, is one with what its sessions
 /// make of STARTs in their places too: behind each answer event what its round makes of the door's
@@ -33,11 +29,7 @@ pub fn sessions_make_starts<D: Disk, F: FrameSource, A: Antenna, G: Door, C: Clo
 fn rests_on()
     ensures { Laws }
 {
-    archive_grows();
-    follows_by_last_times();
-    made_up_weighs_as_much::<Event>();
-    calls_are_events();
-    headline_law();
+    run_events::laws::rests_on();
     progress_is_of_its_door();
     what_a_round_makes_may_come();
     each_start_is_the_worlds();
