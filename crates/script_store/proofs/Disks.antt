@@ -76,7 +76,7 @@ image_before one old new (Some pick) again there image is =
 -- ---- at every moment
 
 -- how much of its log there is tells the moment
-abbrev moment_of : DiskState → ℕ
+abbrev pub moment_of : DiskState → ℕ
 moment_of disk = length disk.log
 
 -- orders are no calls

@@ -1,6 +1,10 @@
+pub mod OneEntry
+pub mod Taken
 pub mod Disks
 pub mod WorldArchives
 pub mod Striking
+pub mod Ending
+pub mod Breaking
 pub mod Reopening
 pub mod Worlds
 pub mod Moments

@@ -3,7 +3,7 @@ use Rattle.std.proofs.Common.{◌≡◌, false, Option, List, refl, subst}
 use Rattle.archive_terms.specs.Archive.{Entry}
 use Rattle.record_form.specs.declared.entry.Entry as form
 use Rattle.gate_journal.specs.JournalState.{IsOldOrNew}
-use Rattle.script_store.specs.declared.recorder.Recorder.TheInside.{Inside}
+use Rattle.script_store.specs.declared.script_recorder.Recorder.TheInside.{Inside}
 use Rattle.script_store.specs.IsHeld.{IsHeld, begun_list, KeepsAllOrNone}
 use Rattle.script_store.specs.Stopped.{HoldsAlone}
 use Rattle.script_store.specs.Unmoved.{left_alone}

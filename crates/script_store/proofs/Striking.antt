@@ -1,28 +1,72 @@
 -- What a store leaves that an order hits.
-use Rattle.std.proofs.Common.{◌≡◌, ℕ, ◌-◌, ◌<◌, ◌≤◌, false, IsTrue, nat_le, Some, None, List, []}
-use Rattle.std.proofs.Common.{◌∷◌, ◌++◌, length, refl, ap, subst, arith}
+use Rattle.std.proofs.Common.{◌≡◌, ℕ, ◌-◌, ◌<◌, ◌≤◌, false, IsTrue}
+use Rattle.std.proofs.Common.{is_some, nat_le, if◌then◌else◌, Option, Some, None, List, [], ◌∷◌}
+use Rattle.std.proofs.Common.{◌++◌, length, refl}
+use Rattle.std.proofs.Common.{sym, ap, ◌∙◌, arith}
 use Rattle.std.proofs.lemmas.Bool.Decides.{nat_tests}
 use Rattle.std.specs.List.{list_all}
 use Rattle.archive_terms.specs.Archive.{Entry, IsArchive, is_storable}
+use Rattle.octet_core.specs.FailingCalls.{fails_next}
 use Rattle.disk_model.specs.Calls.{AllMade, FailedAtOne}
 use Rattle.disk_model.specs.MemoryDisk.{DiskState, IsMadeCall, IsFailedCall, pending_of, steered}
-use Rattle.disk_model.specs.MemoryDisk.{restarted, content_of, medium_of, synced_medium}
+use Rattle.disk_model.specs.MemoryDisk.{restarted, content_of, medium_of, synced_medium, counted}
+use Rattle.disk_model.specs.MemoryDiskLaws.{or_false}
 use Rattle.disk_model.specs.Images.{all_synced}
+use Rattle.disk_model.specs.declared.call.Call.{Call}
 use Rattle.disk_model.specs.declared.orders.Orders.{Orders}
 use Rattle.disk_model.specs.declared.orders.Pick.{Pick}
 use Rattle.disk_model.specs.declared.orders.Stop as disks
-use Rattle.gate_journal.specs.File.{IsBatch, StandsFor}
+use Rattle.gate_journal.specs.File.{IsBatch, StandsFor, StandsAt}
 use Rattle.gate_journal.specs.JournalState.{Keeps, IsAtRest, IsToStop, StopsIn, IsToFail, FailsIn}
 use Rattle.gate_journal.specs.JournalState.{HasBatch}
-use Rattle.gate_journal.specs.JournalState.{appending, leaves_batch, holds_batch, IsOldOrNew}
-use Rattle.frame_archive.specs.State.{ArchiveState, with_failed}
-use Rattle.frame_archive.specs.Acknowledges.{Acknowledges}
+use Rattle.gate_journal.specs.JournalState.{appending, leaves_batch, holds_batch}
+use Rattle.frame_archive.specs.State.{ArchiveState}
 use Rattle.script_store.specs.declared.order.Strike.{Strike}
 use Rattle.script_store.specs.declared.order.Strike.TheVariants.{Stop, Fail}
-use Rattle.script_store.specs.IsHeld.{told_by, Rests, Waits, Throughout, KeepsAllOrNone}
-use Rattle.script_store.specs.Storing.{no_orders, stop_at, orders_by, IsDown, IsStruck}
-use Rattle.script_store.proofs.Disks.{restart_keeps, from_steered}
-use Rattle.script_store.proofs.WorldArchives.{stands_at, steered_still}
+use Rattle.script_store.specs.Entries.{used}
+use Rattle.script_store.specs.IsHeld.{Rests}
+use Rattle.script_store.specs.Storing.{no_orders, stop_at, orders_by, IsDown}
+use Rattle.script_store.proofs.Disks.{restart_keeps}
+use Rattle.script_store.proofs.WorldArchives.{stands_at}
+
+-- ---- calls
+
+none_of : {A : Type 0} (x : Option A) → is_some x ≡ false → x ≡ None
+none_of None is = refl
+none_of (Some a) is = absurd cc
+
+-- a disk runs at a call that it makes, and behind it
+runs_behind : (old new : DiskState) (call : Call) → IsMadeCall old call new → new.stopped ≡ None
+runs_behind old new call made =
+    ap (λ (d : DiskState). d.stopped) made.1
+    ∙ none_of (counted old).stopped
+    (or_false (is_some (counted old).stopped) (fails_next old.calls) made.0).0
+
+pub runs_after : (calls : List Call) (old new : DiskState) → 0 < length calls
+    → AllMade IsMadeCall old calls new → new.stopped ≡ None
+runs_after [] old new some made = absurd (omega (arith, some))
+runs_after (call ∷ []) old new some made =
+    ap (λ (d : DiskState). d.stopped) made.2 ∙ runs_behind old made.0 call made.1
+runs_after (call ∷ next ∷ calls) old new some made =
+    runs_after (next ∷ calls) made.0 new (omega arith) made.2
+
+-- a disk that has stopped makes none
+pub stopped_makes : (old new : DiskState) (call : Call) (calls : List Call) (pick : Pick)
+    → old.stopped ≡ Some pick → AllMade IsMadeCall old (call ∷ calls) new → ⊥
+stopped_makes old new call calls pick stopped made =
+    let no = (or_false (is_some (counted old).stopped) (fails_next old.calls) made.1.0).0 in
+    absurd (grind (arith, no, stopped))
+
+-- memory that was refused to a disk stays refused
+ample_made : (calls : List Call) (old new : DiskState) → AllMade IsMadeCall old calls new
+    → new.memory_refused ≡ old.memory_refused
+ample_made [] old new made = ap (λ (d : DiskState). d.memory_refused) made
+ample_made (call ∷ calls) old new made =
+    ample_made calls made.0 new made.2 ∙ ap (λ (d : DiskState). d.memory_refused) made.1.1
+
+pub ample_before : (calls : List Call) (old new : DiskState) → AllMade IsMadeCall old calls new
+    → new.memory_refused ≡ false → old.memory_refused ≡ false
+ample_before calls old new made ample = sym (ample_made calls old new made) ∙ ample
 
 -- ---- laws of appends
 
@@ -56,128 +100,90 @@ pub record Struck : Type 0 where
   pub storable : (stored batch : List Entry) → IsArchive (stored ++ batch)
       → IsTrue (list_all is_storable batch)
 
--- an archive whose disk was told orders
-module _ (archive told : ArchiveState DiskState) (orders : Orders) (published : List Entry)
-    (entry : Entry) (waits : Waits archive published entry)
-    (told_is : told ≡ record archive { disk = steered archive.disk orders }) where
-  pub told_still : Acknowledges told_by told published
-  told_still = rw told_is (steered_still archive orders published waits.is_at.acknowledges)
-
-  told_waits : told.waiting ≡ entry ∷ []
-  told_waits = cc
-
-  made_there : (after : DiskState)
-      → (1 ≤ length told.waiting
-      → AllMade IsMadeCall told.disk (appending (told.used - 1) told.waiting) after)
-      → AllMade IsMadeCall (steered archive.disk orders) (appending (archive.used - 1) (entry ∷ []))
-      after
-  made_there after made = rw (told_is, waits.is_at.waits) at (made (rw told_waits (omega arith)))
-
-  pub failed_there : (after : DiskState)
-      → FailedAtOne IsMadeCall IsFailedCall told.disk (appending (told.used - 1) told.waiting) after
-      → FailedAtOne IsMadeCall IsFailedCall (steered archive.disk orders)
-      (appending (archive.used - 1) (entry ∷ [])) after
-  failed_there after failed = rw (told_is, waits.is_at.waits) at failed
-
-  -- during the store the file holds the entry or not
-  pub told_images : (now : ArchiveState DiskState)
-      → (told.is_stale ≡ false → Acknowledges told_by told published
-      → Throughout told.disk now.disk (IsOldOrNew published told.waiting))
-      → KeepsAllOrNone archive.disk now.disk published (entry ∷ [])
-  told_images now holds =
-      from_steered archive.disk now.disk orders (IsOldOrNew published (entry ∷ []))
-      (subst (λ (disk : DiskState). KeepsAllOrNone disk now.disk published (entry ∷ []))
-      (ap (λ (a : ArchiveState DiskState). a.disk) told_is)
-      (subst (KeepsAllOrNone told.disk now.disk published) told_waits (holds (cc) told_still)))
+abbrev pub OneList : Type 0
+OneList = (one other : List Entry) (file : List ℕ) → StandsFor one file → StandsFor other file
+    → one ≡ other
 
 -- what the calls of a store left that an order hits
 module _ (laws : Struck) (calls : ℕ) (some : 0 < calls) (hit : IsTrue (nat_le calls 4))
     (archive : ArchiveState DiskState) (published : List Entry) (entry : Entry)
-    (waits : Waits archive published entry) where
+    (rests : Rests archive published) where
   within : calls ≤ 4
   within = grind (arith, nat_tests, hit)
 
   to_stop : (pick : Pick) → IsToStop (steered archive.disk (stop_at calls pick))
       (record { calls = calls; pick = pick })
-  to_stop pick = laws.to_stop archive.disk (stop_at calls pick) _ waits.is_at.runs refl refl some
+  to_stop pick = laws.to_stop archive.disk (stop_at calls pick) _ rests.runs refl refl some
 
   to_fail : IsToFail (steered archive.disk (orders_by Fail calls)) calls
-  to_fail = laws.to_fail archive.disk (orders_by Fail calls) calls waits.is_at.runs refl refl
+  to_fail = laws.to_fail archive.disk (orders_by Fail calls) calls rests.runs refl refl
 
-  pub never_made : (strike : Strike) (told : ArchiveState DiskState)
-      → told ≡ record archive { disk = steered archive.disk (orders_by strike calls) }
-      → (after : DiskState)
-      → (1 ≤ length told.waiting
-      → AllMade IsMadeCall told.disk (appending (told.used - 1) told.waiting) after) → ⊥
-  never_made (Stop pick) told told_is after made =
-      laws.no_stop _ after _ (entry ∷ []) _ (to_stop pick) some within
-      (made_there archive told (stop_at calls pick) published entry waits told_is after made)
-  never_made Fail told told_is after made =
-      laws.no_fault _ after _ (entry ∷ []) calls to_fail some within
-      (made_there archive told (orders_by Fail calls) published entry waits told_is after made)
+  pub never_made : (strike : Strike) (after : DiskState)
+      → AllMade IsMadeCall (steered archive.disk (orders_by strike calls))
+      (appending (archive.used - 1) (entry ∷ [])) after → ⊥
+  never_made (Stop pick) after made =
+      laws.no_stop _ after _ (entry ∷ []) _ (to_stop pick) some within made
+  never_made Fail after made = laws.no_fault _ after _ (entry ∷ []) calls to_fail some within made
 
-  longer : IsArchive (published ++ entry ∷ [])
-  longer = rw waits.is_at.waits at waits.is_at.acknowledges.agrees.archive
+  -- the batch was given to a store
+  module _ (broken : DiskState) (ample : broken.memory_refused ≡ false) where
+    stops_in : (pick : Pick)
+        → FailedAtOne IsMadeCall IsFailedCall (steered archive.disk (stop_at calls pick))
+        (appending (archive.used - 1) (entry ∷ [])) broken
+        → StopsIn (steered archive.disk (stop_at calls pick)) (archive.used - 1) (entry ∷ [])
+        (record { calls = calls; pick = pick }) broken
+    stops_in pick failed = record {
+      ordered = to_stop pick;
+      some = some;
+      within = within;
+      failed = failed;
+      ample = ample;
+    }
 
-  batch : IsBatch (entry ∷ [])
-  batch = record {
-    some = omega arith;
-    most = omega arith;
-    storable = laws.storable published (entry ∷ []) longer;
-  }
+    pub has_stopped : (pick : Pick)
+        → FailedAtOne IsMadeCall IsFailedCall (steered archive.disk (stop_at calls pick))
+        (appending (archive.used - 1) (entry ∷ [])) broken → broken.stopped ≡ Some pick
+    has_stopped pick failed = laws.stopped _ broken _ _ _ (stops_in pick failed)
 
-  -- the archive then, by what was to happen
-  pub struck_by : IsAtRest (Some (pending_of archive.disk)) (archive.used - 1)
-      → (strike : Strike) (told failed now : ArchiveState DiskState)
-      → told ≡ record archive { disk = steered archive.disk (orders_by strike calls) }
-      → failed ≡ with_failed told failed.disk
-      → now ≡ record failed { disk = steered failed.disk no_orders }
-      → Acknowledges told_by failed published
-      → failed.disk.memory_refused ≡ false
-      → FailedAtOne IsMadeCall IsFailedCall (steered archive.disk (orders_by strike calls))
-      (appending (archive.used - 1) (entry ∷ [])) failed.disk
-      → IsStruck strike calls now published entry
-  struck_by at_rest (Stop pick) told failed now told_is failed_is now_is still ample calls_failed =
-      let stops : StopsIn (steered archive.disk (stop_at calls pick)) (archive.used - 1)
-      (entry ∷ []) (record { calls = calls; pick = pick }) failed.disk = record {
-        ordered = to_stop pick;
-        some = some;
-        within = within;
-        failed = calls_failed;
-        ample = ample;
-      } in
-      let stopped = laws.stopped _ failed.disk _ _ _ stops in
-      rw now_is (record {
-        pick = pick;
-        stopped = cc;
-        unsteered = record { goes_on = refl; succeeds = refl; ample = ample };
-        holds = stands_at (leaves_batch calls pick) published entry
-            (content_of (restarted failed.disk pick)) (rw waits.is_at.used_are at
-            (laws.left _ failed.disk _ published (entry ∷ []) _ at_rest
-            (waits.is_at.acknowledges.kept waits.is_at.fresh) batch longer stops));
-      })
-  struck_by at_rest Fail told failed now told_is failed_is now_is still ample calls_failed =
-      let fails : FailsIn (steered archive.disk (orders_by Fail calls)) (archive.used - 1)
-      (entry ∷ []) calls failed.disk = record {
-        ordered = to_fail;
-        some = some;
-        within = within;
-        failed = calls_failed;
-        ample = ample;
-      } in
-      let runs = laws.runs _ failed.disk _ _ _ fails in
-      let waiting : told.waiting ≡ entry ∷ [] = rw told_is waits.is_at.waits in
-      let capacity : failed.capacity ≡ archive.capacity = cc in
-      rw now_is (record {
-        acknowledges = steered_still failed no_orders published still;
-        waits = cc;
-        failed = cc;
-        runs = cc;
-        unsteered = record { goes_on = refl; succeeds = refl; ample = ample };
-        holds = rw waits.is_at.used_are at (laws.held _ failed.disk _ published (entry ∷ []) _
-            at_rest (waits.is_at.acknowledges.kept waits.is_at.fresh) batch longer fails);
-        taken = rw capacity waits.taken;
-      })
+  module _ (broken : DiskState) (ample : broken.memory_refused ≡ false)
+      (longer : IsArchive (published ++ entry ∷ []))
+      (at_rest : IsAtRest (Some (pending_of archive.disk)) (archive.used - 1)) where
+    batch : IsBatch (entry ∷ [])
+    batch = record {
+      some = omega arith;
+      most = omega arith;
+      storable = laws.storable published (entry ∷ []) longer;
+    }
+
+    pub stop_leaves : (pick : Pick)
+        → FailedAtOne IsMadeCall IsFailedCall (steered archive.disk (stop_at calls pick))
+        (appending (archive.used - 1) (entry ∷ [])) broken
+        → StandsAt (if leaves_batch calls pick then published ++ entry ∷ [] else published)
+        (used (if leaves_batch calls pick then published ++ entry ∷ [] else published) - 1)
+        (content_of (restarted broken pick))
+    stop_leaves pick failed =
+        stands_at (leaves_batch calls pick) published entry (content_of (restarted broken pick))
+        (rw rests.used_are at (laws.left _ broken _ published (entry ∷ []) _ at_rest
+        (rests.acknowledges.kept rests.fresh) batch longer (stops_in broken ample pick failed)))
+
+    pub fault_leaves : FailedAtOne IsMadeCall IsFailedCall
+        (steered archive.disk (orders_by Fail calls)) (appending (archive.used - 1) (entry ∷ []))
+        broken
+        → StandsAt (if holds_batch calls then published ++ entry ∷ [] else published)
+        (used (if holds_batch calls then published ++ entry ∷ [] else published) - 1)
+        (content_of broken)
+    fault_leaves failed =
+        let fails : FailsIn (steered archive.disk (orders_by Fail calls)) (archive.used - 1)
+        (entry ∷ []) calls broken = record {
+          ordered = to_fail;
+          some = some;
+          within = within;
+          failed = failed;
+          ample = ample;
+        } in
+        stands_at (holds_batch calls) published entry (content_of broken)
+        (rw rests.used_are at (laws.held _ broken _ published (entry ∷ []) _ at_rest
+        (rests.acknowledges.kept rests.fresh) batch longer fails))
 
 -- ---- a power failure between two calls
 
@@ -185,10 +191,6 @@ module _ (laws : Struck) (calls : ℕ) (some : 0 < calls) (hit : IsTrue (nat_le 
 abbrev pub SyncedIsAll : Type 0
 SyncedIsAll = (disk : DiskState) (octets : List ℕ) → pending_of disk ≡ all_synced octets
     → medium_of disk ≡ synced_medium octets
-
-abbrev pub OneList : Type 0
-OneList = (one other : List Entry) (file : List ℕ) → StandsFor one file → StandsFor other file
-    → one ≡ other
 
 pub down_now : SyncedIsAll → OneList → (archive told now : ArchiveState DiskState) (pick : Pick)
     (published : List Entry) → Rests archive published

@@ -1,7 +1,7 @@
 -- What holds of an archive on a disk in memory and of what is published, step by step.
-use Rattle.std.proofs.Common.{◌≡◌, inl, inr, ℕ, ◌+◌, ◌-◌, ◌≤◌, Bool, true, false, if◌then◌else◌}
+use Rattle.std.proofs.Common.{◌≡◌, inl, inr, ℕ, ◌+◌, ◌-◌, Bool, true, false, if◌then◌else◌}
 use Rattle.std.proofs.Common.{IsTrue, Option, Some, None, option_map, List, [], ◌∷◌, ◌++◌, length}
-use Rattle.std.proofs.Common.{refl, sym, ap, subst, ◌∙◌, add-zero, arith, Result, Ok, Err, OnErr}
+use Rattle.std.proofs.Common.{refl, ap, add-zero, arith, Result, Ok, Err, OnErr}
 use Rattle.std.proofs.lemmas.Bool.{and_parts}
 use Rattle.std.proofs.Math.Nat.{sub-zero}
 use Rattle.std.proofs.lemmas.List.{append-nil}
@@ -9,14 +9,10 @@ use Rattle.std.proofs.lemmas.List.Sums.{sum_by_push}
 use Rattle.std.specs.List.{AllByRecursion, list_all}
 use Rattle.archive_terms.specs.Archive.{Entry, IsArchive, is_storable, is_ordered, keeps_order}
 use Rattle.archive_terms.specs.Archive.{is_in_order, last_time, frame_time, seal_time}
-use Rattle.record_form.specs.Entry.{entry_of}
 use Rattle.record_form.specs.Spelling.{entry_octets}
-use Rattle.record_form.specs.declared.entry.Entry as form
 use Rattle.disk_model.specs.Images.{Pending, IsImage}
 use Rattle.disk_model.specs.Moments.{IsImageOf}
-use Rattle.disk_model.specs.Calls.{AllMade}
-use Rattle.disk_model.specs.MemoryDisk.{DiskState, IsMadeCall, pending_of, steered}
-use Rattle.disk_model.specs.declared.call.Call.{Call}
+use Rattle.disk_model.specs.MemoryDisk.{DiskState, pending_of, steered}
 use Rattle.disk_model.specs.declared.orders.Orders.{Orders}
 use Rattle.gate_journal.specs.File.{IsBatch, joined, StandsAt, StandsFor, entries_octets}
 use Rattle.gate_journal.specs.JournalState.{Keeps, IsOldOrNew, HasBatch}
@@ -27,12 +23,10 @@ use Rattle.frame_archive.specs.State.{times_of, at_rest}
 use Rattle.frame_archive.specs.Acknowledges.{Acknowledges}
 use Rattle.frame_archive.specs.Faults.{IsRefusal}
 use Rattle.script_store.specs.declared.refusal.Refusal.{Refusal}
-use Rattle.script_store.specs.declared.refusal.Refusal.TheVariants as refusals
 use Rattle.script_store.specs.Store.{Store}
 use Rattle.script_store.specs.Entries.{need, used, refusal}
-use Rattle.script_store.specs.IsHeld.{told_by, IsAt, Rests, Waits, HoldsAllOrNone, fault_of}
-use Rattle.script_store.specs.IsHeld.{IsOfOffer, Throughout, KeepsAllOrNone}
-use Rattle.script_store.proofs.Disks.{IsCalm, calm_after}
+use Rattle.script_store.specs.IsHeld.{told_by, IsAt, Rests, HoldsAllOrNone, fault_of}
+use Rattle.script_store.proofs.Disks.{IsCalm}
 
 -- ---- a file of no entries
 
@@ -99,7 +93,7 @@ abbrev pub OrderIsSeen : Type 0
 OrderIsSeen = (a : List Entry) (e : Entry) → IsTrue (is_ordered a)
     → keeps_order a e ≡ is_in_order (last_time frame_time None a) (last_time seal_time None a) e
 
-same_refusal : OrderIsSeen → (archive : ArchiveState DiskState) (state : Store)
+pub same_refusal : OrderIsSeen → (archive : ArchiveState DiskState) (state : Store)
     → Rests archive state.published → archive.capacity ≡ state.capacity → (entry : Entry)
     → archives.refusal archive entry ≡ option_map fault_of (refusal state entry)
 same_refusal seen archive state rests capacity entry =
@@ -124,29 +118,11 @@ pub refused_so : (found : Option Refusal) (fault : OfferFault) (why : Refusal)
 refused_so None fault why is same = grind (arith, is, same)
 refused_so (Some found) fault why is same = grind (arith, is, same)
 
-pub is_of_offer : (found : Option Refusal) (fault : OfferFault)
-    → IsRefusal (option_map fault_of found) fault → IsOfOffer fault
-is_of_offer None fault is = rw is tt
-is_of_offer (Some refusals.Backward) fault is = rw is tt
-is_of_offer (Some refusals.TooLong) fault is = rw is tt
-is_of_offer (Some (refusals.Full n f)) fault is = rw is tt
-
--- why the archive refused an entry is why the world does
-pub cause_of : OrderIsSeen → (archive : ArchiveState DiskState) (state : Store)
-    → Rests archive state.published → archive.capacity ≡ state.capacity
-    → (given entry : form.Entry) → given ≡ entry → (fault : OfferFault)
-    → IsRefusal (archives.refusal archive (entry_of given)) fault
-    → IsRefusal (option_map fault_of (refusal state (entry_of entry))) fault
-cause_of seen archive state rests capacity given entry same fault is =
-    rw (same_refusal seen archive state rests capacity (entry_of entry)) at (rw same at is)
-
 pub none_of : OrderIsSeen → (archive : ArchiveState DiskState) (state : Store)
-    → Rests archive state.published → archive.capacity ≡ state.capacity
-    → (given entry : form.Entry) → given ≡ entry
-    → archives.refusal archive (entry_of given) ≡ None → None ≡ refusal state (entry_of entry)
-none_of seen archive state rests capacity given entry same is =
-    let one = same_refusal seen archive state rests capacity (entry_of entry) in
-    grind (arith, one, same, is)
+    → Rests archive state.published → archive.capacity ≡ state.capacity → (entry : Entry)
+    → archives.refusal archive entry ≡ None → None ≡ refusal state entry
+none_of seen archive state rests capacity entry is =
+    let one = same_refusal seen archive state rests capacity entry in grind (arith, one, is)
 
 -- ---- an entry more
 
@@ -158,65 +134,8 @@ pub one_octets : (entry : Entry)
     → length (entries_octets (entry ∷ [])) ≡ length (entry_octets entry)
 one_octets entry = ap (λ (octets : List ℕ). length octets) (append-nil (entry_octets entry))
 
-wanted_one : (entry : Entry) → archives.wanted (entry ∷ []) ≡ need entry
+pub wanted_one : (entry : Entry) → archives.wanted (entry ∷ []) ≡ need entry
 wanted_one entry = ap (λ n. n + 7) (one_octets entry)
-
--- an archive that rests refuses what any other of its entries does
-pub takes_so : (archive : ArchiveState DiskState) (entries : List Entry) → Rests archive entries
-    → (entry : Entry)
-    → archives.refusal archive entry
-    ≡ archives.refusal (at_rest archive.disk archive.capacity (used entries) entries) entry
-takes_so archive entries rests entry =
-    rw (
-      last_times archive entries rests,
-      rests.waits,
-      ← rests.acknowledges.agrees.counted,
-      rests.used_are,
-    ) refl
-
--- an entry was offered, and taken
-pub waits_now : (archive offered : ArchiveState DiskState) (entries : List Entry) (entry : Entry)
-    → Rests archive entries → archives.refusal archive entry ≡ None
-    → offered ≡ with_waiting archive entry → Acknowledges told_by offered entries
-    → Waits offered entries entry
-waits_now archive offered entries entry rests taken is acknowledges = rw is (record {
-  is_at = record {
-    acknowledges = rw is at acknowledges;
-    waits = ap (λ xs. xs ++ entry ∷ []) rests.waits;
-    fresh = rests.fresh;
-    used_are = rests.used_are;
-    runs = rests.runs;
-    unsteered = rests.unsteered;
-  };
-  taken = sym (takes_so archive entries rests entry) ∙ taken;
-})
-
--- during its store, and also where that fails, the file holds it or not
-pub store_images : (archive now : ArchiveState DiskState) (entries : List Entry) (entry : Entry)
-    → Waits archive entries entry
-    → Throughout archive.disk now.disk (IsOldOrNew entries archive.waiting)
-    → KeepsAllOrNone archive.disk now.disk entries (entry ∷ [])
-store_images archive now entries entry waits holds =
-    subst (KeepsAllOrNone archive.disk now.disk entries) waits.is_at.waits holds
-
--- it was stored
-pub stored_now : (archive stored : ArchiveState DiskState) (entries : List Entry) (entry : Entry)
-    (calls : List Call) → Waits archive entries entry → stored ≡ with_stored archive stored.disk
-    → Acknowledges told_by stored (entries ++ archive.waiting)
-    → (1 ≤ length archive.waiting → AllMade IsMadeCall archive.disk calls stored.disk)
-    → Rests stored (entries ++ entry ∷ [])
-stored_now archive stored entries entry calls waits is acknowledges made =
-    let at = waits.is_at in
-    let calm = calm_after calls archive.disk stored.disk
-    (record { runs = at.runs; unsteered = at.unsteered }) (made (rw at.waits (omega arith))) in
-    record {
-      acknowledges = rw at.waits at acknowledges;
-      waits = cc;
-      fresh = cc;
-      used_are = cc (used_more entries entry, wanted_one entry);
-      runs = calm.runs;
-      unsteered = calm.unsteered;
-    }
 
 -- the file of an archive with an entry more, or without it
 pub stands_at : (has : Bool) (entries : List Entry) (entry : Entry) (file : List ℕ)

@@ -1,6 +1,7 @@
 -- What the lines of an entry leave of a world.
 use Rattle.std.proofs.Common.{◌≡◌, ◌⊎◌, inl, inr, ℕ, ◌<◌, Bool, true, false, nat_lt, Option, Some}
-use Rattle.std.proofs.Common.{None, List, [], ◌∷◌, ◌++◌, length, refl, ap, ⊎_elim, arith}
+use Rattle.std.proofs.Common.{None, option_map, List, [], ◌∷◌, ◌++◌, length, refl, sym, ap, subst}
+use Rattle.std.proofs.Common.{◌∙◌, ⊎_elim, arith}
 use Rattle.std.proofs.lemmas.Bool.Decides.{nat_tests}
 use Rattle.std.specs.Option.{IfSome}
 use Rattle.std.proofs.lemmas.List.Sums.{fold_push}
@@ -23,10 +24,17 @@ use Rattle.script_store.specs.Store.{Store}
 use Rattle.script_store.specs.Answer.{Answer}
 use Rattle.script_store.specs.Orders.{order_behind}
 use Rattle.script_store.specs.Entries.{refusal, stores_under, by_refusal, offer}
-use Rattle.script_store.specs.IsHeld.{told_by, Rests, HoldsAllOrNone, begun_list, IsHeld}
+use Rattle.script_store.specs.IsHeld.{told_by, Rests, HoldsAllOrNone, begun_list, IsHeld, fault_of}
 use Rattle.script_store.specs.Stopped.{IsLeft}
 use Rattle.script_store.proofs.Disks.{calm_after}
+use Rattle.script_store.specs.Storing.{taken_of}
 use Rattle.script_store.proofs.WorldArchives.{AtRestStands, none_stored, alone, empty_place}
+use Rattle.script_store.proofs.WorldArchives.{OrderIsSeen, same_refusal}
+use Rattle.script_store.proofs.WorldArchives as held
+use Rattle.script_store.proofs.Taken.{taken_list, refused_list}
+use Rattle.frame_archive.specs.State as archives
+use Rattle.frame_archive.specs.Faults.{IsRefusal}
+use Rattle.frame_archive.specs.declared.fault.OfferFault.{OfferFault}
 use Rattle.std.proofs.lemmas.List.{length_push}
 
 -- what is kept is what a recovery finds
@@ -109,6 +117,45 @@ module _ (state : Store) (entry : Entry) where
       } ≡ (offer state entry).next
   done_now capacity published unsettled order taken capacity_is published_is unsettled_is order_is =
       rw (← stored_so taken, capacity_is, published_is, unsettled_is, order_is) (grind arith)
+
+-- what the archive takes of an entry is what its line gives to a store
+module _ (seen : OrderIsSeen) (archive : ArchiveState DiskState) (state : Store)
+    (rests : Rests archive state.published) (capacity : archive.capacity ≡ state.capacity)
+    (entry : Entry) where
+  same_cause : (found : Option Refusal) → refusal state entry ≡ found
+      → archives.refusal archive entry ≡ option_map fault_of found
+  same_cause found is = same_refusal seen archive state rests capacity entry
+      ∙ ap (option_map fault_of) is
+
+  given_by : (found : Option Refusal) → refusal state entry ≡ found
+      → taken_of archive entry ≡ (offer state entry).given
+  given_by None is =
+      taken_list archive entry rests.waits (same_cause None is) ∙ given_is state entry (sym is)
+  given_by (Some why) is =
+      refused_list archive entry rests.waits (fault_of why) (same_cause (Some why) is)
+      ∙ ap (λ (a : Answer Store). a.given) (refused_so state entry why (sym is))
+
+  pub given_taken : taken_of archive entry ≡ (offer state entry).given
+  given_taken = given_by (refusal state entry) refl
+
+  pub why_so : (why : Refusal) → archives.refusal archive entry ≡ Some (fault_of why)
+      → Some why ≡ refusal state entry
+  why_so why is = held.refused_so (refusal state entry) (fault_of why) why
+      (subst (λ (o : Option OfferFault). IsRefusal o (fault_of why))
+      (same_refusal seen archive state rests capacity entry) (rw is refl)) refl
+
+-- a refused entry leaves what was stored before
+pub refused_next : (state : Store) (entry : Entry) (why : Refusal) (capacity : ℕ)
+    (unsettled : List Entry) → Some why ≡ refusal state entry → capacity ≡ state.capacity
+    → unsettled ≡ state.unsettled
+    → record {
+      capacity = capacity;
+      published = state.published;
+      unsettled = unsettled;
+      order = state.order;
+    } ≡ (offer state entry).next
+refused_next state entry why capacity unsettled is same none =
+    rw (same, none) (ap (λ (a : Answer Store). a.next) (refused_so state entry why is))
 
 -- the order behind a store is for a call to come
 pub still_to_come : (order : Option Order) → IfSome order (λ o. 0 < o.calls)

@@ -12,8 +12,7 @@ use Rattle.gate_journal.specs.JournalState.{IsOldOrNew}
 use Rattle.gate_journal.specs.declared.order.Times.{Times}
 use Rattle.frame_archive.specs.declared.fault.OfferFault.{OfferFault}
 use Rattle.frame_archive.specs.declared.fault.OfferFault.TheVariants as faults
-use Rattle.frame_archive.specs.State.{ArchiveState, times_of, at_rest}
-use Rattle.frame_archive.specs.State as archives
+use Rattle.frame_archive.specs.State.{ArchiveState, times_of}
 use Rattle.frame_archive.specs.Acknowledges.{Acknowledges}
 use Rattle.script_store.specs.declared.order.Order.{Order}
 use Rattle.script_store.specs.declared.refusal.Refusal.{Refusal}
@@ -43,17 +42,6 @@ pub record IsAt (archive : ArchiveState DiskState) (entries waiting : List Entry
 -- no entry waits
 abbrev pub Rests : ArchiveState DiskState → List Entry → Type 0
 Rests archive entries = IsAt archive entries []
-
--- an archive of such a file, with such entries, takes a further one
-abbrev pub Takes : ArchiveState DiskState → List Entry → Entry → Type 0
-Takes archive entries entry =
-    archives.refusal (at_rest archive.disk archive.capacity (used entries) entries) entry ≡ None
-
--- one entry waits, which was taken
-pub record Waits (archive : ArchiveState DiskState) (entries : List Entry) (entry : Entry)
-    : Type 0 where
-  pub is_at : IsAt archive entries (entry ∷ [])
-  pub taken : Takes archive entries entry
 
 -- each image of a disk stands for the entries, or for them and a batch, whole
 abbrev pub HoldsAllOrNone : DiskState → List Entry → List Entry → Type 0

@@ -8,6 +8,7 @@ pub mod Entries
 pub mod Outcomes
 pub mod Power
 pub mod IsHeld
+pub mod OneEntry
 pub mod Storing
 pub mod Stopped
 pub mod Unmoved

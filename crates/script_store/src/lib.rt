@@ -8,14 +8,18 @@
 // (`specs/Said.antt`), and `put_line` writes such lines. In code a store is a `Recorder`, whose disk
 // has the images that `specs/IsHeld.antt` and `specs/Stopped.antt` speak of.
 //
+// An entry is stored by a step of the recorder (`record_step` of `recorder`), which is told an order
+// that hits it.
+//
 // An entry's line costs one batch of the archive, and a power failure a reading of the whole file.
 #![tactic(auto)]
 
+mod one_entry;
 mod order;
 mod outcome;
 mod put;
-mod recorder;
 mod refusal;
+mod script_recorder;
 mod shared;
 mod step_done;
 mod stop;
@@ -24,8 +28,8 @@ mod storing;
 pub use order::{Order, Strike, pick_of};
 pub use outcome::Outcome;
 pub use put::{put_line, put_sent};
-pub use recorder::Recorder;
 pub use refusal::Refusal;
+pub use script_recorder::Recorder;
 pub use shared::{push, share};
 pub use step_done::StepDone;
 pub use stop::Stop;

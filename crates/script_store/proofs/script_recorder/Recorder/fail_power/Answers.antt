@@ -5,8 +5,8 @@ use Rattle.script_store.specs.IsHeld.{begun_list, HoldsAllOrNone, KeepsAllOrNone
 use Rattle.script_store.proofs.Disks.{at_end, then_on}
 use Rattle.script_store.proofs.Moments.{holds_alone}
 use Rattle.script_store.proofs.Worlds.{held_spent, held_found}
-use Rattle.script_store.proofs.recorder.Recorder.fail_power.Goals as goal
-use Rattle.script_store.proofs.recorder.Recorder.fail_power.Goals.{After-restart}
+use Rattle.script_store.proofs.script_recorder.Recorder.fail_power.Goals as goal
+use Rattle.script_store.proofs.script_recorder.Recorder.fail_power.Goals.{After-restart}
 
 -- whatever became of the opening: it leaves what there was before
 leaves : (c : After-restart) → (batch : List Entry)

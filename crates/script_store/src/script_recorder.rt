@@ -15,10 +15,9 @@ ghost use Rattle.script_store.specs.Storing.{said_by, published_by};
 
 use crate::order::{Order, order_behind};
 use crate::outcome::Outcome;
-use crate::refusal::Refusal;
 use crate::shared::{push, share, share_all};
 use crate::step_done::StepDone;
-use crate::storing::{Settled, fail_power, restart, store_under};
+use crate::storing::{Settled, Unstored, fail_power, restart, store_under};
 use disk_model::{MemoryDisk, Pick};
 use frame_archive::{FrameArchive, open_archive};
 use gate_journal::{Journal, Times};
@@ -122,15 +121,22 @@ impl Recorder {
         archive_terms::laws::follows_by_last_times();
         gate_journal::laws::an_image_at_rest_stands_for_what_is_kept();
         let count = self.published.len();
-        let given = share(entry)?;
         let kept = share(entry)?;
-        let begun = share(entry)?;
-        if let Err((fault, _)) = self.archive.offer(given) {
-            return Ok(Outcome::Refused(Refusal::of(fault)?));
-        }
-        self.begun = Some(begun);
+        self.begun = Some(share(entry)?);
         self.is_spent = true;
-        let settled = store_under(&mut self.archive, self.alloc, self.order, entry)?;
+        let settled = match store_under(&mut self.archive, self.alloc, self.order, entry) {
+            Ok(settled) => settled,
+            Err(Unstored::Refused(why)) => {
+                self.begun = None;
+                self.is_spent = false;
+                return Ok(Outcome::Refused(why));
+            }
+            Err(Unstored::Unbegun) => {
+                self.begun = None;
+                return Err(Memory);
+            }
+            Err(Unstored::Begun) => return Err(Memory),
+        };
         let outcome = publish(&mut self.published, settled, kept)?;
         let now = self.published.len();
         self.times = times_behind(self.times, entry, now > count);

@@ -1,5 +1,5 @@
 use Rattle.script_store.proofs.Worlds.{held_new}
-use Rattle.script_store.proofs.recorder.Recorder.new.Goals as goal
+use Rattle.script_store.proofs.script_recorder.Recorder.new.Goals as goal
 
 pub invariant_of-result : goal.invariant_of-result
 invariant_of-result c =

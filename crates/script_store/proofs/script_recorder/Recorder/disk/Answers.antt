@@ -1,6 +1,6 @@
 use Rattle.script_store.proofs.Moments.{holds_alone}
 use Rattle.script_store.proofs.WorldArchives.{is_archive}
-use Rattle.script_store.proofs.recorder.Recorder.disk.Goals as goal
+use Rattle.script_store.proofs.script_recorder.Recorder.disk.Goals as goal
 
 pub returns-clause-images : goal.returns-clause-images
 returns-clause-images c = rw (c.disk.ensures, ← c.self.view_is) c.self.invariant.images
