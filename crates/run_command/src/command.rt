@@ -129,7 +129,7 @@ pub fn run<
     requires doors { (1 ≤ length doors.old) × (length doors.old ≤ 16)
         × (length clocks.old ≡ length doors.old) }
     ensures started { IfSome result.2 (λ pass. (site : Site) × (report : RunReport)
-        × (report.pass ≡ pass) × Configures (I.left input.old) site
+        × (report.pass ≡ pass) × IsSite site × Configures (I.left input.old) site
         × EndsBehind (O.written output.old) (O.written output.new) (O.faults output.old)
         (O.faults output.new) report result.0
         × RanOver D.pending D.faults D.moment D.images_since D.makes D.fails D.fails_to_read

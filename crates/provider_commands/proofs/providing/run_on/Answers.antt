@@ -15,14 +15,14 @@ returns-clause-started g c =
       site = told.0;
       report = told.1;
       pass_is = told.2;
-      configures = told.3;
-      ends = told.4;
+      configures = told.4;
+      ends = told.5;
       ran = rw (doors, clocks)
-          (rw (c.as_mut_slice.ensures.value, c.as_mut_slice-2.ensures.value) at told.5);
-      lossless = told.6;
+          (rw (c.as_mut_slice.ensures.value, c.as_mut_slice-2.ensures.value) at told.6);
+      lossless = told.7;
     }) c.run-exit.ensures.started
 
 pub returns-clause-ran : goal.returns-clause-ran
 returns-clause-ran g c =
     by_passes c.run-exit.result.2 _ _ _ c.run-exit.ensures.started c.run-exit.ensures.not_started
-    (λ pass told. inl (told.1, told.4)) (λ told. inr (told.0, told.1))
+    (λ pass told. inl (told.1, told.5)) (λ told. inr (told.0, told.1))
