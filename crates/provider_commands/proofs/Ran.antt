@@ -1,5 +1,5 @@
 -- What came of a run, by whether its workers were started.
-use Rattle.std.proofs.Common.{◌≡◌, ◌∙◌, ℕ, ◌≤◌, List, [], ◌++◌, length, take, drop, Option, Some}
+use Rattle.std.proofs.Common.{◌≡◌, ◌∙◌, ℕ, List, [], ◌++◌, length, take, drop, Option, Some}
 use Rattle.std.proofs.Common.{None, IfSome, sym, subst, ap, append-nil, arith}
 use Rattle.std.proofs.lemmas.List.{drop_all, take_all}
 use Rattle.std.specs.Prelude.{IfNone}
@@ -28,3 +28,7 @@ put_back n xs ys is same =
     let none : drop (length xs) ys ≡ [] = drop_all (length xs) ys (omega (arith, same)) in
     ap (λ rest. take n (xs ++ rest)) none ∙ ap (take n) (append-nil xs)
     ∙ take_all n xs (omega (arith, is))
+
+-- what is made of a part that is named in it more than once
+pub made_of : {X Y : Type 0} → (X → Y) → X → Y
+made_of make x = make x

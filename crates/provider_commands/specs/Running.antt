@@ -9,11 +9,14 @@ use Rattle.recorder.specs.Feeds.{Answer}
 use Rattle.link_model.specs.declared.call.Call.{Call as LinkCall}
 use Rattle.door_model.specs.Shown.{Shown}
 use Rattle.turn_lock.specs.PassState.{PassState}
+use Rattle.station_config.specs.Validity.{IsSite}
 use Rattle.station_config.specs.declared.site.Site.{Site}
 use Rattle.station_book.specs.State.{Event, Opening}
 use Rattle.station_run.specs.Ran.{Outside as Around, RanOver}
 use Rattle.station_run.specs.declared.report.RunReport.{RunReport}
 use Rattle.run_laws.specs.Lossless.{IsLossless}
+use Rattle.run_events.specs.Runs.{RunIsEvents}
+use Rattle.run_rounds.specs.Rounds.{RunHasRounds}
 use Rattle.run_command.specs.Configured.{Configures}
 use Rattle.run_command.specs.Ends.{EndsBefore, EndsBehind, NotStarted}
 use Rattle.run_command.specs.declared.status.RunStatus.{RunStatus}
@@ -46,14 +49,18 @@ module _ {D F A G L C : Type 0} (pending : D → Option Pending) (disk_faults mo
     (sent : A → Option (List (List ℕ))) (antenna_faults : A → ℕ) (shown : G → Option Shown)
     (door_faults : G → ℕ) (calls : L → Option (List LinkCall)) (link_faults : L → ℕ)
     (readings : C → Option (List Cds)) where
-  -- A run of the site that its input configures, whose workers were started: its text and its exit
-  -- code are those of its report, which says what they did; its closed pass is handed out; no reply
-  -- in it is Lost, and, over a disk that tells, none is Foreign.
+  -- A run of the valid site that its input configures, whose workers were started: its text and its
+  -- exit code are those of its report, which says what they did; its closed pass is handed out; no
+  -- reply in it is Lost, and, over a disk that tells, none is Foreign. Over such a disk it is a list
+  -- of events of each world in which nothing goes on and for one of whose file's lists the disk's
+  -- content stands: all may come, and the headline holds behind each front of them; the same with
+  -- what its sessions make of STARTs in their places.
   pub record Started (run : RunPlan) (draw : ℕ) (disk disk_now : D) (old new : Around F A G C)
       (pass : PassState Event Opening) (before after : Outside) (exit : ℕ) : Type 0 where
     pub site : Site
     pub report : RunReport
     pub pass_is : report.pass ≡ pass
+    pub valid : IsSite site
     pub configures : Configures before.left site
     pub ends : EndsBehind before.written after.written before.write_faults after.write_faults report
         exit
@@ -61,6 +68,10 @@ module _ {D F A G L C : Type 0} (pending : D → Option Pending) (disk_faults mo
         source_faults sent antenna_faults shown door_faults calls link_faults readings site
         run.turns run.links draw disk disk_now old new report
     pub lossless : IsLossless (pending disk) report
+    pub events : RunIsEvents pending disk_faults moment images_since makes fails fails_to_read
+        answers source_faults sent antenna_faults shown door_faults calls link_faults readings ran
+    pub rounds : RunHasRounds pending disk_faults moment images_since makes fails fails_to_read
+        answers source_faults sent antenna_faults shown door_faults calls link_faults readings ran
 
   abbrev pub StartedOn : RunPlan → ℕ → Option D → Option D → Around F A G C → Around F A G C
       → Option (PassState Event Opening) → Outside → Outside → ℕ → Type 0

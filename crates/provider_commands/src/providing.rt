@@ -21,7 +21,9 @@ use octet_core::{Sink, Source};
 use recorder::FrameSource;
 use rehearsal::laws::a_rehearsal_is_a_script;
 use run_command::run;
+use run_events::laws::a_run_is_events;
 use run_plan::RunPlan;
+use run_rounds::laws::sessions_make_starts;
 use script_commands::{drill, rehearse};
 use std::alloc::Global;
 use std::io::ErrorKind;
@@ -192,6 +194,8 @@ fn run_on<
         (O.written kit.new.output) (O.faults kit.new.output))
         result }
 {
+    a_run_is_events::<D, F, A, G, C>();
+    sessions_make_starts::<D, F, A, G, C>();
     let (exit, disk, passes) = run(
         rt,
         alloc,

@@ -1,5 +1,5 @@
 use Rattle.std.proofs.Common.{◌∙◌, ap, inl, inr, length}
-use Rattle.provider_commands.proofs.Ran.{by_passes, put_back, started_on}
+use Rattle.provider_commands.proofs.Ran.{by_passes, made_of, put_back, started_on}
 use Rattle.provider_commands.proofs.providing.run_on.Goals as goal
 
 pub returns-clause-started : goal.returns-clause-started
@@ -11,16 +11,22 @@ returns-clause-started g c =
     c.args.kit.now.clocks.items (c.run-exit.auto.clocks ∙ c.as_mut_slice-2.ensures.len)
     (c.run-exit.auto.clocks ∙ ap length c.as_mut_slice-2.ensures.value) in
     started_on c.args.kit.now.disk c.taken.result c.run-exit.result.2 _ _ c.taken.ensures
-    (λ pass told. record {
+    (λ pass told.
+    made_of (λ ran. record {
       site = told.0;
       report = told.1;
       pass_is = told.2;
+      valid = told.3;
       configures = told.4;
       ends = told.5;
-      ran = rw (doors, clocks)
-          (rw (c.as_mut_slice.ensures.value, c.as_mut_slice-2.ensures.value) at told.6);
+      ran = ran;
       lossless = told.7;
-    }) c.run-exit.ensures.started
+      events = c.a_run_is_events.ensures _ _ _ _ _ _ _ _ _ told.3 ran;
+      rounds = c.sessions_make_starts.ensures _ _ _ _ _ _ _ _ _ ran;
+    })
+    (rw (doors, clocks)
+    (rw (c.as_mut_slice.ensures.value, c.as_mut_slice-2.ensures.value) at told.6)))
+    c.run-exit.ensures.started
 
 pub returns-clause-ran : goal.returns-clause-ran
 returns-clause-ran g c =
