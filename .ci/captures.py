@@ -15,25 +15,18 @@ import subprocess
 import sys
 import tempfile
 
+sys.dont_write_bytecode = True
+from checks import Checks, run as run_words
+
 TOP = pathlib.Path(__file__).resolve().parent.parent
 
-passed = failed = 0
-
-
-def check(name, found, expected):
-    global passed, failed
-    if found == expected:
-        passed += 1
-        return
-    failed += 1
-    print(f"captures: {name}: found {found!r:.400}, expected {expected!r:.400}")
+checks = Checks("captures")
+check = checks.check
 
 
 def run(program, words, text=b""):
     """The exit code, and what was written to standard output."""
-    done = subprocess.run([program, *words], input=text, stdout=subprocess.PIPE,
-                          stderr=subprocess.DEVNULL, timeout=600)
-    return done.returncode, done.stdout
+    return run_words([program, *words], text, 600)[:2]
 
 
 def sum_of(octets):
@@ -155,8 +148,7 @@ def main(*programs):
     print(f"captures: {found}")
     captures(capture, provider, reader)
     launched(launcher, capture)
-    print(f"{passed} passed, {failed} failed")
-    return failed > 0 or passed == 0
+    return checks.end()
 
 
 if __name__ == "__main__":

@@ -1,45 +1,27 @@
 """Random scripts of commands: users who bind the forward service, hand over CLTUs and ask for reports,
 while an antenna takes them and ends them, production changes, and the power fails.
 """
-from drills import Run, context_message, line_of
+from drills import context_message
 from forms import DAY_MILLIS, MILLI, PICOS, pdu_message
-from scripts import PEERS, Entries, Users
+from scripts import PEERS, Lines
 from sessions import (CLTU, GET, HEARTBEAT_MESSAGE, SCHEDULE, START, STOP, THROW, TRANSFER, bind_pdu,
                       cltu_start_pdu, get_pdu, schedule_pdu, stop_pdu, throw_pdu, transfer_pdu,
                       unbind_pdu)
-from sites import head_of
 
 LAST = 4_294_967_295
 FIRSTS = [0, 1, 7, 127, 128, 65_535, LAST - 2, LAST - 1, LAST]
 DELAYS = [0, 0, 0, 1, 999, 1_000, 1_001, 5_000, 1_000_000, 600_000_000, 600_000_001, LAST]
 
 
-class Commands:
-    """The lines of a script, and a run of them so far."""
+class Commands(Lines):
+    """The lines of a script of commands."""
 
     def __init__(self, pick):
-        self.pick = pick
         owners = [peer.split(b" ")[1] for peer in PEERS]
         self.room, self.longest = pick.choice([1, 5, 20, 1_000]), pick.choice([1, 3, 8, 300])
-        self.lines = [b"site", *PEERS, b"raf raf=1 MOC complete 1 5 60", b"cltu fsl-fg=7.cltu=1 %s %d %d %d"
-                      % (pick.choice(owners), self.room, self.longest, pick.choice([1, 60, 600])), b"end"]
-        self.run = Run(head_of(self.lines)[0])
-        self.users = Users(pick, self.run, Entries(pick))
-
-    def add(self, *lines):
-        """Whether the script goes on behind these lines."""
-        for line in lines:
-            self.lines.append(line)
-            try:
-                says = line_of(line)
-                if says is not None:
-                    self.run.line(says)
-            except ValueError:
-                return False
-        return True
-
-    def in_line(self, connection, octets):
-        return b"in %d %s" % (connection, octets.hex().encode())
+        super().__init__(pick, [
+            b"site", *PEERS, b"raf raf=1 MOC complete 1 5 60", b"cltu fsl-fg=7.cltu=1 %s %d %d %d" % (
+                pick.choice(owners), self.room, self.longest, pick.choice([1, 60, 600])), b"end"])
 
     def signed(self, peer):
         """A peer's credentials, now and then wrong ones."""

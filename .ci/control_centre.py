@@ -12,26 +12,14 @@ import subprocess
 import threading
 import time
 
+from checks import Checks
+
 # How many seconds a user waits for anything.
 PATIENCE = 60
 TURNS = "100000000"
 
-# How many checks passed and failed.
-counts = {True: 0, False: 0}
-lock = threading.Lock()
-
-
-def check(name, found, expected):
-    with lock:
-        counts[found == expected] += 1
-    if found != expected:
-        print(f"station: {name}: found {found!r:.400}, expected {expected!r:.400}")
-
-
-def told_counts():
-    """Says how many checks passed, and answers the exit code."""
-    print(f"station: {counts[True]} checks passed, {counts[False]} failed")
-    return counts[False] > 0
+checks = Checks("station")
+check = checks.check
 
 
 # ---- messages, after CCSDS 913.1-B (transport), 911.1-B (RAF), 912.1-B (FCLTU) and X.690

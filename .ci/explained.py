@@ -12,9 +12,11 @@ below, which have numbers of their own, is to have a word. The last line is `N p
 import os
 import pathlib
 import re
-import subprocess
 import sys
 import tempfile
+
+sys.dont_write_bytecode = True
+from checks import Checks, run as run_words
 
 TOP = pathlib.Path(__file__).resolve().parent.parent
 
@@ -30,31 +32,24 @@ OF_NUMBERS = re.compile(
     r"|eventInvocationIdentification|eventIdentifier|eventQualifier|cltuData|octets[\w ]*|items"
     r"|heartbeat interval in seconds|dead factor|fault, none of 1 to 5): ")
 
-passed = failed = 0
+checks = Checks("explained")
 
 
 def check(name, found, expected):
-    global passed, failed
-    if found == expected:
-        passed += 1
-        return
-    failed += 1
-    if isinstance(found, str) and isinstance(expected, str):
+    """Of two texts that differ it says where they first do."""
+    if found != expected and isinstance(found, str) and isinstance(expected, str):
         lines, wanted = found.splitlines(), expected.splitlines()
         place = next((at for at, pair in enumerate(zip(lines, wanted)) if pair[0] != pair[1]),
                      min(len(lines), len(wanted)))
-        found, expected = lines[place:place + 1], wanted[place:place + 1]
+        if lines[place:place + 1] != wanted[place:place + 1]:
+            found, expected = lines[place:place + 1], wanted[place:place + 1]
         name = f"{name}, line {place + 1}"
-    print(f"explained: {name}: found {found!r:.400}, expected {expected!r:.400}")
+    checks.check(name, found, expected)
 
 
 def run(program, words, text=b"", **more):
     """The exit code, and what was written to standard output."""
-    if "stdin" not in more:
-        more["input"] = text
-    more.setdefault("stdout", subprocess.PIPE)
-    done = subprocess.run([program, *words], stderr=subprocess.DEVNULL, timeout=120, **more)
-    return done.returncode, done.stdout
+    return run_words([program, *words], text, **more)[:2]
 
 
 def lines_of(text):
@@ -136,8 +131,7 @@ def main(*programs):
     examples(program, provider)
     statuses(program)
     launched(program, launcher)
-    print(f"{passed} passed, {failed} failed")
-    return failed > 0 or passed == 0
+    return checks.end()
 
 
 if __name__ == "__main__":

@@ -16,6 +16,9 @@ import struct
 import subprocess
 import sys
 
+sys.dont_write_bytecode = True
+from checks import Checks
+
 FEED = sys.argv[1]
 # A program that hears nothing ends after so many milliseconds, and is stopped after so many
 # seconds.
@@ -24,16 +27,8 @@ PAUSES, PATIENCE = b"10000", 30
 FRAME = b"frame 20000/1000/0 0 41 0 0010a1\n"
 LOSS, PRODUCTION, MARK = b"loss 20000/2000/0 0 1 2\n", b"production 1\n", b"mark 20000/3000/0\n"
 
-passed = failed = 0
-
-
-def check(name, found, expected):
-    global passed, failed
-    if found == expected:
-        passed += 1
-    else:
-        failed += 1
-        print(f"feeds: {name}: found {found!r:.300}, expected {expected!r:.300}")
+checks = Checks("feeds")
+check = checks.check
 
 
 def started(address=b"127.0.0.1:0"):
@@ -123,5 +118,4 @@ lines_and_an_end()
 resets()
 a_second_connection()
 a_port_that_is_taken()
-print(f"{passed} passed, {failed} failed")
-sys.exit(failed > 0)
+sys.exit(checks.end())

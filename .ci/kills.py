@@ -23,6 +23,9 @@ import tempfile
 import threading
 import time
 
+sys.dont_write_bytecode = True
+from checks import Checks
+
 PROVIDER, STORE = sys.argv[1:3]
 SEED = int(sys.argv[3]) if len(sys.argv) > 3 else random.SystemRandom().randrange(1_000_000)
 ROUNDS = 100
@@ -33,16 +36,8 @@ MOST_ENTRIES = b"500000"
 # A program that runs for longer is stopped, in seconds.
 PATIENCE = 20
 
-passed = failed = 0
-
-
-def check(name, found, expected):
-    global passed, failed
-    if found == expected:
-        passed += 1
-    else:
-        failed += 1
-        print(f"kills: seed {SEED}, {name}: found {found!r:.300}, expected {expected!r:.300}")
+checks = Checks(f"kills: seed {SEED}")
+check = checks.check
 
 
 def line_of(number):
@@ -159,5 +154,4 @@ with tempfile.TemporaryDirectory() as place:
     more = rounds(place)
 print(f"kills: seed {SEED}; in {more} of {ROUNDS} rounds the file held one entry more than was"
       " acknowledged")
-print(f"{passed} passed, {failed} failed")
-sys.exit(failed > 0)
+sys.exit(checks.end())

@@ -19,6 +19,7 @@ import tempfile
 from html.parser import HTMLParser
 
 sys.dont_write_bytecode = True
+from checks import Checks, run as run_words
 from passes import random_script
 
 TOP = pathlib.Path(__file__).resolve().parent.parent
@@ -26,25 +27,13 @@ MARK = b"start 0/1/0 0/0/0 0\n"
 ABOVE = ["line", "time"]
 QUALITIES = {b"0": ("good", "good"), b"1": ("erred", "erred"), b"2": ("unknown", "undetermined")}
 
-passed = failed = 0
-
-
-def check(name, found, expected):
-    global passed, failed
-    if found == expected:
-        passed += 1
-        return
-    failed += 1
-    print(f"page: {name}: found {found!r:.600}, expected {expected!r:.600}")
+checks = Checks("page", 600)
+check = checks.check
 
 
 def run(program, words, text=b"", **more):
     """The exit code, and what was written to standard output."""
-    if "stdin" not in more:
-        more["input"] = text
-    more.setdefault("stdout", subprocess.PIPE)
-    done = subprocess.run([program, *words], stderr=subprocess.DEVNULL, timeout=900, **more)
-    return done.returncode, done.stdout
+    return run_words([program, *words], text, 900, **more)[:2]
 
 
 # ---- a page as it is read
@@ -431,8 +420,7 @@ def main(*programs):
     for name in ["2,000 lines", "a bad line"]:
         check(f"launched, {name}", run(launcher, ["picture"], odd()[name]), (0, pages[name]))
     loads({name: pages[name] for name in ["live-pass.script", "2,000 lines", "odd octets"]})
-    print(f"{passed} passed, {failed} failed")
-    return failed > 0 or passed == 0
+    return checks.end()
 
 
 if __name__ == "__main__":

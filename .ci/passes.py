@@ -5,46 +5,27 @@ entry in the midst of a pass, at each of its calls.
 import random
 
 from commanding import Commands, commands_script
-from drills import Run, context_message, line_of
+from drills import context_message, line_of
 from forms import DAY_MILLIS, MILLI, SECOND, pdu_message
-from scripts import INSTANCES, PEERS, Entries, Users, entries_script, users_script
+from scripts import INSTANCES, PEERS, Lines, entries_script, users_script
 from sessions import CLTU, HEARTBEAT_MESSAGE, bind_pdu, unbind_pdu
-from sites import head_of
 
 MODES = [b"timely", b"timely", b"complete", b"complete", b"offline"]
 PERMITTED = [b"1/1/63", b"1/1/*", b"1/0/*", b"1/0/1 7/0/7 1/1/0"]
 
 
-class Pass:
-    """The lines of a script, and a run of them so far."""
+class Pass(Lines):
+    """The lines of a script of a pass."""
 
     def __init__(self, pick):
-        self.pick, self.lines = pick, [b"site", *PEERS]
+        lines = [b"site", *PEERS]
         for which, peer in enumerate(PEERS):
             mode, service = pick.choice(MODES), pick.choice([b"raf", b"rcf"])
             channels = [pick.choice(PERMITTED)] if service == b"rcf" else []
-            self.lines.append(b" ".join([b"%s %s=%d.sagr=7 %s %s %d %d 60" % (
+            lines.append(b" ".join([b"%s %s=%d.sagr=7 %s %s %d %d 60" % (
                 service, service, which, peer.split(b" ")[1], mode, pick.choice([1, 1, 2, 3, 10]),
                 0 if mode == b"offline" else pick.choice([1, 2, 5, 60])), *channels]))
-        self.lines += [pick.choice(INSTANCES[4:7]), b"end"]
-        self.run = Run(head_of(self.lines)[0])
-        self.entries = Entries(pick)
-        self.users = Users(pick, self.run, self.entries)
-
-    def add(self, *lines):
-        """Whether the script goes on behind these lines."""
-        for line in lines:
-            self.lines.append(line)
-            try:
-                says = line_of(line)
-                if says is not None:
-                    self.run.line(says)
-            except ValueError:
-                return False
-        return True
-
-    def in_line(self, connection, octets):
-        return b"in %d %s" % (connection, octets.hex().encode())
+        super().__init__(pick, [*lines, pick.choice(INSTANCES[4:7]), b"end"])
 
     def bind(self, connection):
         """A user comes and binds an instance of his own."""

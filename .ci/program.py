@@ -18,6 +18,7 @@ import tempfile
 sys.dont_write_bytecode = True
 import associations
 import channels
+from checks import Checks, run as run_words
 import launching
 import rehearsals
 import starts
@@ -36,25 +37,13 @@ ONE = b"sent 0 0100000000000020a81ea01c800080084e2000000bb8000081014102010002010
 END = b"sent 0 0100000000000008a806a10480008300\n"
 FIRST = b"sent 0 0100000000000020a81ea01c800080084e20000003e800008101410201ff020100800004030010a1\n"
 
-passed = failed = 0
-
-
-def check(name, found, expected):
-    global passed, failed
-    if found == expected:
-        passed += 1
-    else:
-        failed += 1
-        print(f"program: {name}: found {found!r:.300}, expected {expected!r:.300}")
+checks = Checks("program")
+check = checks.check
 
 
 def run(words, script=b"", **more):
-    """The exit code, and what was written to the two streams."""
-    if "stdin" not in more:
-        more["input"] = script
-    done = subprocess.run([PROGRAM, *words], stdout=subprocess.PIPE, stderr=subprocess.PIPE,
-                          timeout=120, **more)
-    return done.returncode, done.stdout, done.stderr
+    """The exit code of the program, and what was written to the two streams."""
+    return run_words([PROGRAM, *words], script, **more)
 
 
 def told(words, script, output):
@@ -373,5 +362,4 @@ files()
 large_files()
 examples()
 launching.drive(LAUNCHER, run, check, OUTSIDE + rehearsals.OUTSIDE)
-print(f"{passed} passed, {failed} failed")
-sys.exit(failed > 0)
+sys.exit(checks.end())

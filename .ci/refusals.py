@@ -7,31 +7,16 @@ The last line is `N passed, M failed`.
 """
 import os
 import pathlib
-import subprocess
 import sys
 import tempfile
 
+sys.dont_write_bytecode = True
+from checks import Checks, run
+
 TOP = pathlib.Path(__file__).resolve().parent.parent
 
-passed = failed = 0
-
-
-def check(name, found, expected):
-    global passed, failed
-    if found == expected:
-        passed += 1
-    else:
-        failed += 1
-        print(f"refusals: {name}: found {found!r:.400}, expected {expected!r:.400}")
-
-
-def run(words, text=b"", **more):
-    """The exit code, and what was written to the two streams."""
-    if "stdin" not in more:
-        more["input"] = text
-    more.setdefault("stdout", subprocess.PIPE)
-    done = subprocess.run(words, stderr=subprocess.PIPE, timeout=120, **more)
-    return done.returncode, done.stdout, done.stderr
+checks = Checks("refusals")
+check = checks.check
 
 
 SITE = b"site\n%send\n"
@@ -71,7 +56,7 @@ def said(launcher, name, words, status, wanted, provider, **more):
         check(f"{name}, {word}", word in found[2], True)
 
 
-def checks(launcher, path):
+def sites(launcher, path):
     """`check` names the line of the configuration itself."""
     for name, script, status, wanted in REFUSALS:
         if status != 4:
@@ -95,7 +80,7 @@ def refusals(provider, launcher):
         name = bytes(path)
         said(launcher, "a used path", ["init", path], 5, [name, b"isn't empty"], provider)
         said(launcher, "no archive", ["list", path], 5, [name, b"octet 4"], provider)
-        checks(launcher, pathlib.Path(folder) / "x.conf")
+        sites(launcher, pathlib.Path(folder) / "x.conf")
         said(launcher, "no file", ["list", folder + "/y"], 8, [b"/y", b"there"], provider)
     folder = os.open("/", os.O_RDONLY)
     said(launcher, "a read fault", ["drill"], 6, [b"can't be read"], provider, stdin=folder)
@@ -112,8 +97,7 @@ def refusals(provider, launcher):
 
 def main(provider, launcher):
     refusals(*(str(pathlib.Path(each).resolve()) for each in (provider, launcher)))
-    print(f"{passed} passed, {failed} failed")
-    return failed > 0 or passed == 0
+    return checks.end()
 
 
 if __name__ == "__main__":

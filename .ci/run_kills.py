@@ -19,8 +19,8 @@ import tempfile
 import threading
 import time
 
-from control_centre import (Station, User, cds, check, cltu_start, elements, frame, instance, items,
-                            programs, site, start, started, told_at, told_counts, transfer)
+from control_centre import (Station, User, cds, check, checks, cltu_start, elements, frame,
+                            instance, items, programs, site, start, started, told_at, transfer)
 
 programs.update(provider=os.path.abspath(sys.argv[1]))
 ROUNDS = int(sys.argv[2]) if len(sys.argv) > 2 else 100
@@ -170,4 +170,4 @@ with tempfile.TemporaryDirectory() as place:
         base = there
 print(f"kills of a station: seed {SEED}, {ROUNDS} rounds; {stored} frames were kept, users had been handed"
       f" {handed}, and told of {told} telecommands")
-sys.exit(told_counts())
+sys.exit(checks.end())

@@ -411,6 +411,31 @@ class Users:
         return pdu + b"\0"
 
 
+class Lines:
+    """The lines of a script, whose head these are, and a run of them so far."""
+
+    def __init__(self, pick, head):
+        self.pick, self.lines = pick, head
+        self.run = Run(head_of(head)[0])
+        self.entries = Entries(pick)
+        self.users = Users(pick, self.run, self.entries)
+
+    def add(self, *lines):
+        """Whether the script goes on behind these lines."""
+        for line in lines:
+            self.lines.append(line)
+            try:
+                says = line_of(line)
+                if says is not None:
+                    self.run.line(says)
+            except ValueError:
+                return False
+        return True
+
+    def in_line(self, connection, octets):
+        return b"in %d %s" % (connection, octets.hex().encode())
+
+
 def entries_script(pick):
     entries, lines = Entries(pick), random_head(pick)
     for entries.at in range(pick.randrange(2, len(entries.stamps))):

@@ -20,9 +20,10 @@ import tempfile
 import threading
 import time
 
-from control_centre import (BACKLOG, END_OF_DATA, HEARTBEAT, PATIENCE, Station, User, cds, channel, check,
-                            cltu_start, elements, frame, instance, integer, items, of_frames, programs,
-                            site, start, started, stop, stopped, told_at, told_counts, transfer)
+from control_centre import (BACKLOG, END_OF_DATA, HEARTBEAT, PATIENCE, Station, User, cds, channel,
+                            check, checks, cltu_start, elements, frame, instance, integer, items,
+                            of_frames, programs, site, start, started, stop, stopped, told_at,
+                            transfer)
 
 TOP = os.path.dirname(os.path.dirname(os.path.abspath(__file__)))
 PROVIDER, USER = map(os.path.abspath, sys.argv[1:])
@@ -441,4 +442,4 @@ for part in [one_user, deliveries, crowd, stops, commands, receiving, commanding
             part(folder)
         except Exception as error:
             check(part.__name__, repr(error), None)
-sys.exit(told_counts())
+sys.exit(checks.end())

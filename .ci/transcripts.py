@@ -12,6 +12,9 @@ import re
 import subprocess
 import sys
 
+sys.dont_write_bytecode = True
+from checks import Checks
+
 SCRIPTS = pathlib.Path(__file__).resolve().parent / "scripts"
 
 
@@ -46,15 +49,11 @@ def difference(program, script, status, transcript):
 
 def main(program):
     program = str(pathlib.Path(program).resolve())
-    passed = failed = 0
+    checks = Checks("transcripts")
     for file in sorted(SCRIPTS.glob("*.txt")):
         for title, *case in cases_of(file.read_text()):
-            wrong = difference(program, *case)
-            passed, failed = (passed, failed + 1) if wrong else (passed + 1, failed)
-            if wrong:
-                print(f"{file.name}: {title}: {wrong}")
-    print(f"{passed} passed, {failed} failed")
-    return failed > 0 or passed == 0
+            checks.check(f"{file.name}: {title}", difference(program, *case), None)
+    return checks.end()
 
 
 if __name__ == "__main__":

@@ -19,6 +19,9 @@ import tempfile
 import threading
 import time
 
+sys.dont_write_bytecode = True
+from checks import Checks
+
 PROGRAM, LAUNCHER = map(os.path.abspath, sys.argv[1:3])
 # A run in a network of its own, where a sender's octets have little room, is told which network it
 # was started from.
@@ -27,16 +30,8 @@ STALLED = sys.argv[3:] and sys.argv[3] != NETWORK
 PATIENCE = 60
 MOST_OCTETS = 16_777_216
 
-passed = failed = 0
-
-
-def check(name, found, expected):
-    global passed, failed
-    if found == expected:
-        passed += 1
-    else:
-        failed += 1
-        print(f"user: {name}: found {found!r:.400}, expected {expected!r:.400}")
+checks = Checks("user")
+check = checks.check
 
 
 h = bytes.fromhex
@@ -246,14 +241,13 @@ def stalled():
 if STALLED:
     narrow()
     stalled()
-    print(f"{passed} passed, {failed} failed")
-    sys.exit(failed != 0)
+    sys.exit(checks.end())
 again = subprocess.run(["unshare", "-rn", sys.executable, "-B", *sys.argv, NETWORK], stdout=subprocess.PIPE,
                        stderr=subprocess.PIPE, text=True)
 *told, last = again.stdout.splitlines() or [""]
 if last:
     print(*told, sep="\n", end="\n" if told else "")
-    passed, failed = passed + int(last.split()[0]), failed + int(last.split()[2])
+    checks.add(*(int(count) for count in last.split()[::2]))
 else:
     print("user: no network of its own could be made, and no connection stalled:", again.stderr.strip()[-200:])
 
@@ -411,5 +405,4 @@ with tempfile.TemporaryDirectory() as folder:
     check("credentials with a BIND", b"abcdef" not in provider.heard and len(provider.heard)
           > len(CONTEXT + BIND), True)
 
-print(f"{passed} passed, {failed} failed")
-sys.exit(failed != 0)
+sys.exit(checks.end())

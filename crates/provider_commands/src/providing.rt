@@ -60,6 +60,27 @@ pub fn provide_on<
         (showing (I.left kit.new.input) (I.faults kit.new.input)
         (O.written kit.new.output) (O.faults kit.new.output))
         result) }
+    ensures started { IfOk opening (λ disk. HasStarted D.pending D.faults D.moment D.images_since
+        D.makes D.fails D.fails_to_read F.answers F.faults A.sent A.faults G.shown G.faults
+        G.Link.calls G.Link.faults C.readings
+        (asked words.now) kit.old.draw disk kit.new.disk
+        (outside kit.old.frames kit.old.antenna kit.old.antenna_clock kit.old.doors.items
+        kit.old.clocks.items)
+        (outside kit.new.frames kit.new.antenna kit.new.antenna_clock kit.new.doors.items
+        kit.new.clocks.items)
+        kit.new.passes
+        (showing (I.left kit.old.input) (I.faults kit.old.input)
+        (O.written kit.old.output) (O.faults kit.old.output))
+        (showing (I.left kit.new.input) (I.faults kit.new.input)
+        (O.written kit.new.output) (O.faults kit.new.output))
+        result) }
+    ensures not_started { IfOk opening (λ disk. HasNotStarted D.pending D.faults
+        (asked words.now) disk kit.new.disk kit.new.passes
+        (showing (I.left kit.old.input) (I.faults kit.old.input)
+        (O.written kit.old.output) (O.faults kit.old.output))
+        (showing (I.left kit.new.input) (I.faults kit.new.input)
+        (O.written kit.new.output) (O.faults kit.new.output))
+        result) }
     ensures told { IfErr opening (λ error. IsNoDisk (error_kind error)
         (O.written kit.old.output) (O.written kit.new.output)
         (O.faults kit.old.output) (O.faults kit.new.output) result) }
