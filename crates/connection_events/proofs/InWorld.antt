@@ -1,9 +1,10 @@
 -- Each START on a connection of a script is one of the world's.
-use Rattle.std.proofs.Common.{◌≡◌, ℕ, ◌==◌, false, Option, Some, List, [], ◌∷◌, ◌++◌}
-use Rattle.std.proofs.Common.{length, slice_get, refl, sym, ap, subst, ◌∙◌, append_assoc, ◌≤◌, arith}
+use Rattle.std.proofs.Common.{◌≡◌, ℕ, ◌==◌, true, false, Option, Some, List, [], ◌∷◌, ◌++◌, ⊎_elim}
+use Rattle.std.proofs.Common.{length, slice_get, refl, sym, ap, subst, ◌∙◌, append_assoc, append-nil}
+use Rattle.std.proofs.Common.{◌≤◌, arith}
 use Rattle.std.proofs.lemmas.Bool.Decides.{nat_tests}
-use Rattle.archive_terms.specs.Delivery.{Terms, started}
-use Rattle.archive_terms.specs.Rounds.{Round as DeliveryRound, outcomes}
+use Rattle.archive_terms.specs.Delivery.{started}
+use Rattle.archive_terms.specs.Rounds.{Round as DeliveryRound, Outcome, outcomes}
 use Rattle.return_core.specs.Visits.{rounds_of}
 use Rattle.return_pdu.specs.declared.service.Service.{Service as ReturnService}
 use Rattle.station_config.specs.declared.site.Site.{Site}
@@ -11,33 +12,32 @@ use Rattle.drill_text.specs.Reading.{reading, AreExact}
 use Rattle.drill_text.specs.declared.script_line.ScriptLine.{ScriptLine}
 use Rattle.drill_text.specs.declared.script_line.ScriptLine.TheVariants.{Open}
 use Rattle.session_core.specs.Lists.{Began, start_of}
-use Rattle.session_core.specs.Session.{AreRounds}
-use Rattle.session_laws.specs.Deliveries.{visits_of, done_in_rounds}
-use Rattle.session_laws.specs.Handing.{Start as SessionStart, found_by, begun_by}
-use Rattle.session_laws.specs.Instances.{shape_at, shape_of_terms}
-use Rattle.session_laws.specs.Starts.{Asks}
-use Rattle.station_world.specs.Comes.{Begins, AllCome}
-use Rattle.station_world.specs.Life.{Start, Life, book, done_by}
-use Rattle.station_world.specs.Stays.{LifeGoesOn, StartGoesOn}
-use Rattle.station_world.specs.World.{World, before_all, lives, Event, after_events}
+use Rattle.session_core.specs.Session.{State as SessionState, Round, AreRounds, after_rounds}
+use Rattle.session_laws.specs.Deliveries.{is_serving, visits_of}
+use Rattle.session_laws.specs.Handing.{Start as SessionStart, IsStart, begun_by}
+use Rattle.station_world.specs.Comes.{Begins}
+use Rattle.station_world.specs.Life.{Start, Life, book}
+use Rattle.station_world.specs.World.{World, lives}
 use Rattle.line_events.specs.Progress.{is_at, IsUsers, ProgressIsOfItsDoor}
 use Rattle.line_events.specs.Shows.{is_users}
 use Rattle.session_events.specs.Rounds.{RoundsMayCome}
-use Rattle.session_events.specs.Starts.{starts_over, IsIt, StartsAreThere}
+use Rattle.session_events.specs.Starts.{starts_over, ServesThese, IsIt, StartsAreThere}
+use Rattle.session_events.proofs.Kept.{one_at, it_stays, rounds_both, serves_last}
 use Rattle.station_links.specs.Connected.{began, opened}
 use Rattle.station_links.specs.Run.{rounds_by}
 use Rattle.station_law.specs.Connections.{AreSessions, life}
 use Rattle.station_law.specs.Lines.{step, step_read}
 use Rattle.station_law.specs.Runs.{after}
 use Rattle.station_law.specs.State.{State, start as new_world}
-use Rattle.script_world.specs.Script.{origin, answers, users_after, script_events, world_behind}
-use Rattle.script_world.specs.Script.{IsInWorld, AreInWorld, LivesGoOn}
+use Rattle.script_world.specs.Script.{answers, users_after, world_behind, IsInWorld, AreInWorld}
 use Rattle.script_world.specs.Users.{users_behind}
 use Rattle.connection_events.specs.InWorld.{IsStartOf, state_behind, StartsAreInWorld}
 use Rattle.connection_events.proofs.Doors.{opened_at}
 use Rattle.connection_events.proofs.Lines.{its, reaches}
-use Rattle.connection_events.proofs.Lists.{Stands, filtered, last_there, match_at, begins_both}
-use Rattle.connection_events.proofs.Lists.{first_done}
+use Rattle.connection_events.proofs.Serving.{serves}
+use Rattle.connection_events.proofs.Staying.{Breaks, lasts}
+use Rattle.connection_events.proofs.Past.{life_stays}
+use Rattle.connection_events.proofs.Lists.{Stands, filtered, last_there, first_done}
 
 -- no line names the desk's door
 not_desk : (c : ℕ) → 1 ≤ c → (c == 0) ≡ false
@@ -47,15 +47,27 @@ pub names_users : AreExact → (line : List ℕ) (c : ℕ) → reading line ≡ 
 names_users exact line c is =
     not_desk c (((exact.read line (Open c)).0 is).0.0)
 
-module _ {L : Type 0} (reads : L → Option ScriptLine) where
-  -- ---- a START that a world shows, in each later one
+-- a START behind which no round follows those that it serves is served at the end
+serves_whole : (service : ReturnService) (b : Began) (rounds : List Round) (a : SessionStart)
+    → IsStart service b rounds a → a.later ≡ []
+    → is_serving (after_rounds b.site (start_of b) rounds).standing ≡ true
+serves_whole service b rounds a is none =
+    let site = b.site in
+    let t = begun_by b a in
+    let same : after_rounds site (start_of b) rounds ≡ after_rounds site t a.serving =
+    ap (λ (rs : List Round). after_rounds site (start_of b) rs) is.stands
+    ∙ rounds_both site a.earlier (a.own ∷ (a.serving ++ a.later)) (start_of b)
+    ∙ ap (λ (rs : List Round). after_rounds site t (a.serving ++ rs)) none
+    ∙ ap (λ (rs : List Round). after_rounds site t rs) (append-nil a.serving) in
+    ap (λ (s : SessionState). is_serving s.standing) same ∙ serves_last site t a.serving is.serves
 
-  module _ (site : Site) (first more : List L) (is : IsInWorld reads site first more) where
+module _ {L : Type 0} (reads : L → Option ScriptLine) where
+  -- ---- a START that a world shows, where no line follows, or one that recovers
+
+  module _ (site : Site) (first more : List L) (is : IsInWorld reads site first more)
+      (breaks : Breaks reads (after (answers reads) (new_world site) first) more) where
     abbrev now : World
     now = world_behind reads site first
-
-    abbrev then : World
-    then = world_behind reads site (first ++ more)
 
     abbrev its_life : Life
     its_life = is.shows.life
@@ -64,15 +76,6 @@ module _ {L : Type 0} (reads : L → Option ScriptLine) where
     life_there =
         ap (λ (w : World). slice_get (lives w) (length is.shows.past)) is.shows.is
         ∙ last_there is.shows.past its_life
-
-    go_on : LivesGoOn now then
-    go_on =
-        let o = origin site in
-        let events = script_events reads site first in
-        let come : AllCome o before_all (events ++ is.begins.0) =
-        subst (λ (es : List Event). AllCome o before_all es) is.begins.1 is.come in
-        subst (λ (es : List Event). LivesGoOn now (after_events o before_all es)) (sym is.begins.1)
-        (is.stays events is.begins.0 is.begins come)
 
     module _ (service : ReturnService) (b : Began) (a : SessionStart) (s : Start)
         (one : IsIt service b a s)
@@ -86,46 +89,27 @@ module _ {L : Type 0} (reads : L → Option ScriptLine) where
       abbrev visits : List DeliveryRound
       visits = rounds_of (visits_of b.site (begun_by b a) a.serving)
 
-      was_done : Begins (outcomes s.terms (book its_life).published visits started)
-          (done_by its_life s)
-      was_done =
-          subst (λ (rs : List DeliveryRound). Begins
-          (outcomes s.terms (book its_life).published visits started)
-          (outcomes s.terms (book its_life).published rs started)) (sym one.rounds.1)
-          (first_done s.terms (book its_life).published visits one.rounds.0 started)
+      abbrev Done : List DeliveryRound → List Outcome
+      Done rounds = outcomes s.terms (book its_life).published rounds started
 
-      pub is_start : IsStartOf service b a then
-      is_start =
-          let later =
-          match_at LifeGoesOn (lives now) (lives then) (length is.shows.past) its_life go_on
-          life_there in
-          let goes = later.2 in
-          let start =
-          match_at (StartGoesOn its_life later.0) its_life.starts (later.0).starts in_life.0 s
-          goes.each in_life.1 in
-          let same = start.2 in
-          record {
-            place = length is.shows.past;
-            life = later.0;
-            lives = later.1;
-            number = in_life.0;
-            start = start.0;
-            there = start.1;
-            door = same.door ∙ one.door;
-            told = one.told;
-            asked = one.asked;
-            asks = subst (λ (t : Terms). Asks service b.site (found_by b a) a.own
-                one.told.answer.glimpse.front t) (sym same.terms) one.asks;
-            shape = subst (λ (t : Terms).
-                shape_at b.site (found_by b a).standing service ≡ Some (shape_of_terms t))
-                (sym same.terms) one.shape;
-            published = (book its_life).published;
-            done = subst (λ (t : Terms). Begins
-                (done_in_rounds b.site (begun_by b a) t (book its_life).published a.serving)
-                (done_by later.0 start.0)) (sym same.terms)
-                (begins_both (outcomes s.terms (book its_life).published visits started)
-                (done_by its_life s) (done_by later.0 start.0) was_done same.done);
-          }
+      pub is_start : IsStartOf service b a (world_behind reads site (first ++ more))
+      is_start = record {
+        place = length is.shows.past;
+        life = its_life;
+        lives = life_stays reads site first more breaks (length is.shows.past) its_life life_there;
+        number = in_life.0;
+        start = s;
+        there = in_life.1;
+        door = one.door;
+        told = one.told;
+        asked = one.asked;
+        asks = one.asks;
+        shape = one.shape;
+        done = subst (λ (rs : List DeliveryRound). Begins (Done visits) (Done rs))
+            (sym one.rounds.1)
+            (first_done s.terms (book its_life).published visits one.rounds.0 started);
+        exact = λ these. ap Done (one.all these);
+      }
 
   -- ---- lines
 
@@ -136,6 +120,13 @@ module _ {L : Type 0} (reads : L → Option ScriptLine) where
   users_both [] others state all = refl
   users_both (line ∷ earlier) others state all =
       users_both earlier others (answers reads state line).next (users_behind state (reads line) all)
+
+  after_both : (earlier others : List L) (state : State)
+      → after (answers reads) state (earlier ++ others)
+      ≡ after (answers reads) (after (answers reads) state earlier) others
+  after_both [] others state = refl
+  after_both (line ∷ earlier) others state =
+      after_both earlier others (answers reads state line).next
 
   site_after : AreSessions reads → (lines : List L) (state : State)
       → (after (answers reads) state lines).doors.site ≡ state.doors.site
@@ -167,14 +158,21 @@ module _ {L : Type 0} (reads : L → Option ScriptLine) where
         let right : AreRounds site (start_of b) rounds =
         subst (λ (x : Site). AreRounds x (start_of b) (rounds_by x c fresh deeds)) same
         (sessions.lives opening c before.clock later at brings).right in
-        let has = are_there b rounds (its reads sessions owns may c users left) valid right service a is in
+        let left_so = are_there b rounds (its reads sessions owns may c users left) valid right service a
+        is in
+        let has = left_so.has in
         let reached = reaches reads sessions owns may c users later opening fresh left at in
         let lines = earlier ++ line ∷ reached.first in
         let all = users_after reads (new_world site) [] lines in
+        let last = after (answers reads) (new_world site) lines in
         let split : all ≡ users_after reads opening left reached.first =
         users_both earlier (line ∷ reached.first) (new_world site) []
         ∙ ap (λ (x : Option ScriptLine).
         users_after reads (step_read before x).next (users_behind before x had) reached.first) says in
+        let last_is : last ≡ after (answers reads) opening reached.first =
+        after_both earlier (line ∷ reached.first) (new_world site)
+        ∙ ap (λ (x : Option ScriptLine). after (answers reads) (step_read before x).next reached.first)
+        says in
         let made : its reads sessions owns may c users all
         ≡ starts_over c site (start_of b) rounds (its reads sessions owns may c users left) =
         ap (λ (xs : List Start). its reads sessions owns may c users xs) split
@@ -186,9 +184,32 @@ module _ {L : Type 0} (reads : L → Option ScriptLine) where
         let stands : Stands all has.start =
         filtered (is_at c) all has.place has.start
         (subst (λ (xs : List Start). slice_get xs has.place ≡ Some has.start) (sym made) has.there) in
-        let whole : lines ++ reached.more ≡ earlier ++ line ∷ later =
-        append_assoc earlier (line ∷ reached.first) reached.more
+        let ends : a.later ≡ [] → Breaks reads last reached.more =
+        λ none. subst (λ (x : State). Breaks reads x reached.more) (sym last_is)
+        (reached.rests (subst (λ (x : Site). serves c x (Some fresh) deeds ≡ true) (sym same)
+        (serves_whole service b rounds a is none))) in
+        let lasting = lasts reads reached.more last has.start all stands.0 stands.1 in
+        let whole : (lines ++ lasting.first) ++ lasting.more ≡ earlier ++ line ∷ later =
+        append_assoc lines lasting.first lasting.more
+        ∙ ap (λ (xs : List L). lines ++ xs) (sym lasting.is)
+        ∙ append_assoc earlier (line ∷ reached.first) reached.more
         ∙ ap (λ (xs : List L). earlier ++ line ∷ xs) (sym reached.is) in
+        let users_then : users_after reads (new_world site) [] (lines ++ lasting.first)
+        ≡ users_after reads last all lasting.first =
+        users_both lines lasting.first (new_world site) [] in
+        let now = lasting.still.stays in
+        let kept : ServesThese b a
+        → slice_get (users_after reads last all lasting.first) stands.0 ≡ Some has.start =
+        λ these. ⊎_elim (λ none. lasting.at_once (ends none)) (λ ended. lasting.still.leaves ended)
+        (left_so.over these) in
+        let one = it_stays service b a has.start (users_after reads last all lasting.first) stands.0
+        has.is now (λ these. ap (λ (x : Start). x.rounds)
+        (one_at (slice_get (users_after reads last all lasting.first) stands.0) now.start has.start
+        now.there (kept these))) in
         subst (λ (xs : List L). IsStartOf service b a (world_behind reads site xs)) whole
-        (is_start site lines reached.more (world site lines reached.more) service b a has.start
-        has.is stands)
+        (is_start site (lines ++ lasting.first) lasting.more
+        (world site (lines ++ lasting.first) lasting.more)
+        (subst (λ (x : State). Breaks reads x lasting.more)
+        (sym (after_both lines lasting.first (new_world site))) lasting.breaks)
+        service b a now.start one
+        (subst (λ (xs : List Start). Stands xs now.start) (sym users_then) (stands.0, now.there)))

@@ -1,5 +1,8 @@
 mod Doors
 mod Rounds
+mod Serving
+mod Staying
 mod Lines
 mod Lists
+mod Past
 mod InWorld

@@ -13,12 +13,15 @@ use Rattle.station_law.specs.Connections.{AreSessions, at_door, deeds_at, deeds_
 use Rattle.station_law.specs.Connections.{life, life_by}
 use Rattle.station_law.specs.Doors.{Act, Doors}
 use Rattle.station_law.specs.Lines.{step_read}
+use Rattle.station_law.specs.Runs.{after}
 use Rattle.station_law.specs.Standing.{there}
 use Rattle.station_law.specs.State.{State}
-use Rattle.script_world.specs.Script.{users_after}
+use Rattle.script_world.specs.Script.{answers, users_after}
 use Rattle.script_world.specs.Users.{users_act, users_asked, users_behind}
 use Rattle.connection_events.proofs.Doors.{nobody_at, left_of, asks_of, moves}
 use Rattle.connection_events.proofs.Rounds.{own, behind, gathers}
+use Rattle.connection_events.proofs.Serving.{serves, acts_serve}
+use Rattle.connection_events.proofs.Staying.{Breaks}
 
 module _ {L : Type 0} (reads : L → Option ScriptLine) (sessions : AreSessions reads)
     (owns : ProgressIsOfItsDoor) (may : RoundsMayCome) (c : ℕ) (users : IsUsers c) where
@@ -81,10 +84,22 @@ module _ {L : Type 0} (reads : L → Option ScriptLine) (sessions : AreSessions 
         ∙ ap (λ (o : Option Connected). behind owns may c users site o rest
         (its (users_behind state line all))) (sym ((moves c state l at line).left is))
 
+    -- and it serves behind it where what is left of it does
+    line_serves : (line : Option ScriptLine) (rest : List Deed)
+        → (step_read state line).recovers ≡ false
+        → serves c state.doors.site (Some l) (deeds_at state c l line ++ rest)
+        ≡ serves c state.doors.site (at_door (step_read state line).next c) rest
+    line_serves line rest is =
+        let site = state.doors.site in
+        ap (λ (deeds : List Deed). serves c site (Some l) (deeds ++ rest)) (deeds_of line)
+        ∙ acts_serve c state l at (asks_of c state l at line) rest
+        ∙ ap (λ (o : Option Connected). serves c site o rest) (sym ((moves c state l at line).left is))
+
   -- ---- lines
 
   -- behind the first of some lines, up to the last one at which the connection is there, the door's
-  -- STARTs are what its rounds over all of them make
+  -- STARTs are what its rounds over all of them make; where its session serves then, no line follows
+  -- these, or a recovery does
   pub record Reaches (state : State) (l : Connected) (all : List Start) (lines : List L) : Type 0
     where
       pub first : List L
@@ -93,6 +108,8 @@ module _ {L : Type 0} (reads : L → Option ScriptLine) (sessions : AreSessions 
       pub makes : its (users_after reads state all first)
           ≡ starts_over c state.doors.site l.state
           (rounds_by state.doors.site c l (life reads c state lines).deeds) (its all)
+      pub rests : serves c state.doors.site (Some l) (life reads c state lines).deeds ≡ true
+          → Breaks reads (after (answers reads) state first) more
 
   abbrev deeds_with : State → L → List L → Option Connected → List Deed
   deeds_with state line lines o =
@@ -125,21 +142,34 @@ module _ {L : Type 0} (reads : L → Option ScriptLine) (sessions : AreSessions 
           more = line ∷ lines;
           is = refl;
           makes = sym (ap Over deeds);
+          rests = λ serving. is;
         }
+
+    -- whether it serves behind the line
+    over : (o : Option Connected) → (step_read state (reads line)).recovers ≡ false
+        → at_door (next state line) c ≡ o
+        → serves c site (Some l) (deeds_with state line lines (at_door state c))
+        ≡ serves c site o (life reads c (next state line) lines).deeds
+    over o is left =
+        let later = (life reads c (next state line) lines).deeds in
+        ap (λ (deeds : List Deed). serves c site (Some l) deeds) with_own
+        ∙ line_serves state l at (reads line) later is
+        ∙ ap (λ (x : Option Connected). serves c site x later) left
 
     ends : (step_read state (reads line)).recovers ≡ false → at_door (next state line) c ≡ None
         → Reaches state l all (line ∷ lines)
     ends is none =
-        let over = ended (next state line) lines none in
+        let done = ended (next state line) lines none in
         let made = its (users_behind state (reads line) all) in
         record {
           first = line ∷ [];
           more = lines;
           is = refl;
           makes =
-              sym (ap Over (with_own ∙ ap (λ (v : Life). own_deeds ++ v.deeds) over)
+              sym (ap Over (with_own ∙ ap (λ (v : Life). own_deeds ++ v.deeds) done)
               ∙ line_gathers state l at (reads line) [] all is
               ∙ ap (λ (o : Option Connected). behind owns may c users site o [] made) none);
+          rests = λ serving. absurd (cc (sym serving ∙ over None is none));
         }
 
     goes_on : (m : Connected) → (step_read state (reads line)).recovers ≡ false
@@ -160,6 +190,9 @@ module _ {L : Type 0} (reads : L → Option ScriptLine) (sessions : AreSessions 
               ∙ sym (ap Over with_own
               ∙ line_gathers state l at (reads line) later.deeds all is
               ∙ ap (λ (o : Option Connected). behind owns may c users site o later.deeds made) left);
+          rests = λ serving.
+              rest.rests (ap (λ (x : Site). serves c x (Some m) later.deeds)
+              (sessions.history state line).site ∙ sym (over (Some m) is left) ∙ serving);
         }
 
   module _ (state : State) (l : Connected) (at : at_door state c ≡ Some l) (all : List Start)
@@ -178,7 +211,13 @@ module _ {L : Type 0} (reads : L → Option ScriptLine) (sessions : AreSessions 
 
   pub reaches : (lines : List L) (state : State) (l : Connected) (all : List Start)
       → at_door state c ≡ Some l → Reaches state l all lines
-  reaches [] state l all at = record { first = []; more = []; is = refl; makes = refl }
+  reaches [] state l all at = record {
+    first = [];
+    more = [];
+    is = refl;
+    makes = refl;
+    rests = λ serving. tt;
+  }
   reaches (line ∷ lines) state l all at =
       by_recovery state l at all line lines
       (λ m left. reaches lines (next state line) m (users_behind state (reads line) all) left)

@@ -1,12 +1,11 @@
 -- Places in lists, and what the first rounds of a START do.
 use Rattle.std.proofs.Common.{◌≡◌, ℕ, zero, suc, Bool, true, false, if◌then◌else◌, Some, List, []}
-use Rattle.std.proofs.Common.{◌∷◌, ◌++◌, length, slice_get, refl, ap, subst, ◌∙◌, append_assoc}
+use Rattle.std.proofs.Common.{◌∷◌, ◌++◌, length, slice_get, refl, ap, ◌∙◌, append_assoc}
 use Rattle.std.specs.List.{filter}
 use Rattle.archive_terms.specs.Archive.{Entry}
 use Rattle.archive_terms.specs.Delivery.{Terms, Delivery}
 use Rattle.archive_terms.specs.Rounds.{Round, Outcome, outcome, outcomes, ends_run, after_round}
 use Rattle.station_world.specs.Comes.{Begins}
-use Rattle.station_world.specs.Stays.{Match}
 
 -- ---- places
 
@@ -34,18 +33,6 @@ pub last_there : {X : Type 0} → (xs : List X) (x : X)
     → slice_get (xs ++ x ∷ []) (length xs) ≡ Some x
 last_there [] x = refl
 last_there (y ∷ xs) x = last_there xs x
-
--- one that matches another
-abbrev pub Matched : {X : Type 0} → (X → X → Type 0) → List X → ℕ → X → Type 0
-Matched {X} R ys k x = (y : X) × (slice_get ys k ≡ Some y) × R x y
-
-pub match_at : {X : Type 0} → (R : X → X → Type 0) (xs ys : List X) (k : ℕ) (x : X)
-    → Match R xs ys → slice_get xs k ≡ Some x → Matched R ys k x
-match_at R [] ys k x all at = absurd (cc at)
-match_at R (z ∷ xs) [] k x all at = absurd all
-match_at R (z ∷ xs) (y ∷ ys) zero x all at =
-    let same : z ≡ x = cc at in (y, refl, subst (λ v. R v y) same all.0)
-match_at R (z ∷ xs) (y ∷ ys) (suc k) x all at = match_at R xs ys k x all.1 at
 
 -- ---- what is done
 

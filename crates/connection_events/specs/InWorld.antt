@@ -2,7 +2,6 @@
 -- product's own.
 use Rattle.std.specs.Prelude.{◌≡◌, ℕ, IsTrue, Option, Some, List, ◌∷◌, ◌++◌, slice_get}
 use Rattle.std.specs.List.{AllByRecursion}
-use Rattle.archive_terms.specs.Archive.{Entry}
 use Rattle.return_pdu.specs.declared.service.Service.{Service as ReturnService}
 use Rattle.station_config.specs.Validity.{IsSite}
 use Rattle.station_config.specs.declared.site.Site.{Site}
@@ -15,8 +14,9 @@ use Rattle.session_laws.specs.Handing.{Start as SessionStart, IsStart, found_by,
 use Rattle.session_laws.specs.Instances.{shape_at, shape_of_terms}
 use Rattle.session_laws.specs.Starts.{Asks}
 use Rattle.station_world.specs.Comes.{Begins}
-use Rattle.station_world.specs.Life.{Start, Life, done_by}
+use Rattle.station_world.specs.Life.{Start, Life, book, done_by}
 use Rattle.station_world.specs.World.{World, lives}
+use Rattle.session_events.specs.Starts.{ServesThese}
 use Rattle.station_links.specs.Connected.{began, opened}
 use Rattle.station_links.specs.Run.{BringsPieces, rounds_by}
 use Rattle.station_law.specs.Connections.{life}
@@ -28,8 +28,8 @@ use Rattle.script_world.specs.Script.{answers, world_behind}
 
 -- A START of a session is one of a life of this world: it is at its door, and its terms are what the
 -- START's message asks for, of the instance that is bound, at the front that the round's look saw.
--- What its delivery did in the rounds that it serves, of the entries that were published then, begins
--- what that START has done.
+-- What its delivery did in the rounds that it serves, of what is published in that life, begins what
+-- that START has done, and is all of it where it serves no more.
 pub record IsStartOf (service : ReturnService) (b : Began) (a : SessionStart) (w : World) : Type 0
   where
     pub place : ℕ
@@ -43,9 +43,11 @@ pub record IsStartOf (service : ReturnService) (b : Began) (a : SessionStart) (w
     pub asked : a.own.told ≡ Some told
     pub asks : Asks service b.site (found_by b a) a.own told.answer.glimpse.front start.terms
     pub shape : shape_at b.site (found_by b a).standing service ≡ Some (shape_of_terms start.terms)
-    pub published : List Entry
-    pub done : Begins (done_in_rounds b.site (begun_by b a) start.terms published a.serving)
+    pub done : Begins
+        (done_in_rounds b.site (begun_by b a) start.terms (book life).published a.serving)
         (done_by life start)
+    pub exact : ServesThese b a → done_by life start
+        ≡ done_in_rounds b.site (begun_by b a) start.terms (book life).published a.serving
 
 module _ {L : Type 0} (reads : L → Option ScriptLine) where
   -- the state behind lines of a site

@@ -10,7 +10,8 @@ use station_law::laws::connections_are_sessions;
 
 /// Each START on a connection of a valid site, over any lines behind the one that opens it, is one of
 /// the STARTs of the world behind these lines, with its terms; and what was done for it begins what
-/// that START has done. So the headline is said of it, in each later world.
+/// that START has done, and is all of that where the session serves it no more. So the headline is
+/// said of it, in each later world.
 pub fn starts_are_in_the_world()
     ensures { StartsAreInWorld reading }
 {

@@ -33,7 +33,7 @@ use Rattle.run_rounds.specs.Sessions.{Session, IsSession, AreAsked, sessions_mak
 -- each of these makes of the door's STARTs stands right behind it; and the STARTs at the door,
 -- behind all of them, are those that the sessions' rounds leave. At a valid site each START of RAF
 -- or RCF of a session is one of them, with its terms, and with rounds that begin with its
--- delivery's.
+-- delivery's, and are no others where the session serves it no more.
 pub record AtDoor (site : Site) (door : ℕ) (sessions : List Session) (history : List Answered)
     (turns : List (World × Turn)) (starts : List Start) : Type 0 where
   pub right : AllByRecursion (IsSession site door) sessions

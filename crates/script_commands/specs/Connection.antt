@@ -94,7 +94,7 @@ session_of o = began o.site o.c (world_before o).clock
 
 -- Each START of RAF and of RCF in its rounds, over any first few lines, is one of the STARTs of the
 -- station's world behind these, of which the headline is said: at its door, with what it asks for, and
--- what was done for it begins what that START has done.
+-- what was done for it begins what that START has done, and is all of that where it serves no more.
 abbrev pub AreOfWorld : Connection → Type 0
 AreOfWorld o =
     (some : ℕ) (line : List ℕ) → reading line ≡ Some (Open o.c)

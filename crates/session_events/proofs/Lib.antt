@@ -1,4 +1,4 @@
 mod Rounds
 mod Asking
-mod Kept
+pub mod Kept
 mod Starts

@@ -1,5 +1,5 @@
 -- Each START of a session is one of those that its rounds leave.
-use Rattle.std.proofs.Common.{◌≡◌, ℕ, Bool, true, false, ◌&&◌, ◌==◌, Option, Some}
+use Rattle.std.proofs.Common.{◌≡◌, ◌⊎◌, inl, inr, ℕ, Bool, true, false, ◌&&◌, ◌==◌, Option, Some}
 use Rattle.std.proofs.Common.{None, List, [], ◌∷◌, ◌++◌, length, slice_get, refl, sym, ap, subst}
 use Rattle.std.proofs.Common.{◌∙◌, append_assoc, append-nil, arith}
 use Rattle.std.proofs.lemmas.List.{map-append}
@@ -17,14 +17,17 @@ use Rattle.session_laws.specs.Deliveries.{delivery_of, is_serving, ServesOn, vis
 use Rattle.session_laws.specs.Handing.{found_by, begun_by}
 use Rattle.session_laws.specs.Instances.{Shape, shape_of, shape_of_terms, shape_at, SessionsAreKept}
 use Rattle.session_laws.specs.Starts.{StartsBegin, Asks}
-use Rattle.station_world.specs.Life.{Start, Asked, begun, with_round}
-use Rattle.line_events.specs.Progress.{Progress, taken_now, is_going, progressed}
+use Rattle.station_world.specs.Life.{Start, Asked, begun, with_round, with_end}
+use Rattle.line_events.specs.Progress.{Progress, taken_now, ended_now, is_going, change_going}
+use Rattle.line_events.specs.Progress.{progressed}
 use Rattle.session_events.specs.Asked.{asked_so, asked_in}
 use Rattle.session_events.specs.Rounds.{made_in, made_by, taken_by, progress_by, front_in}
 use Rattle.session_events.specs.Rounds.{progress_of}
-use Rattle.session_events.specs.Starts.{starts_over, StartsAreThere}
+use Rattle.session_events.specs.Starts.{starts_over, ServesNoMore, ServesThese, HasIt, LeavesIt}
+use Rattle.session_events.specs.Starts.{StartsAreThere}
 use Rattle.session_events.proofs.Asking.{asks_so}
-use Rattle.session_events.proofs.Kept.{changes_last, over_stays, over_both, last_there}
+use Rattle.session_events.proofs.Kept.{changes_last, over_stays, over_both, last_there, none_and}
+use Rattle.session_events.proofs.Kept.{one_at, progress_leaves, over_leaves, serves_last}
 
 module _ (door : ℕ) (site : Site) where
   -- ---- what a round makes of it, by whether the session serves
@@ -78,6 +81,50 @@ module _ (door : ℕ) (site : Site) where
       ∙ ap (λ (rs : List DeliveryRound). g.rounds ++ rs)
       (sym (map-append round_of (option_to_list v) later)))
 
+  -- ---- the rounds behind them, where it serves no more
+
+  -- where the START is left: with its rounds; and ended, where a round followed, or by what ends it
+  record Ended (later : List Round) (g : Start) (all : List Start) (place : ℕ) : Type 0 where
+    start : Start
+    there : slice_get all place ≡ Some start
+    rounds : start.rounds ≡ g.rounds
+    over : (later ≡ []) ⊎ (start.ended ≡ true)
+    ends : slice_get (progressed door 0 ended_now all) place ≡ Some (with_end start)
+
+  ends_last : (xs : List Start) (g : Start) → is_going door g ≡ true
+      → slice_get (change_going door with_end (xs ++ g ∷ [])) (length xs) ≡ Some (with_end g)
+  ends_last xs g goes =
+      ap (λ (all : List Start). slice_get all (length xs)) (changes_last door with_end xs g goes)
+      ∙ last_there xs (with_end g)
+
+  ended_over : (rounds : List Round) (t : State) (xs : List Start) (g : Start)
+      → is_going door g ≡ true → is_serving t.standing ≡ true → ServesNoMore site t rounds
+      → Ended rounds g (starts_over door site t rounds (xs ++ g ∷ [])) (length xs)
+  ended_over [] t xs g goes serves none = record {
+    start = g;
+    there = last_there xs g;
+    rounds = refl;
+    over = inl refl;
+    ends = ends_last xs g goes;
+  }
+  ended_over (r ∷ rounds) t xs g goes serves none =
+      let front = front_in r.told in
+      let all = xs ++ g ∷ [] in
+      let next = progressed door front (progress_of door site t r) all in
+      let here : slice_get next (length xs) ≡ Some (with_end g) =
+      ap (λ (p : Progress). slice_get (progressed door front p all) (length xs))
+      (by_serving t r true false serves none) ∙ ends_last xs g goes in
+      let left =
+      over_leaves (with_end g) refl door site rounds (after_round site t r) next (length xs) here in
+      record {
+        start = with_end g;
+        there = left;
+        rounds = refl;
+        over = inr refl;
+        ends = progress_leaves (with_end g) refl door 0 ended_now
+            (starts_over door site (after_round site t r) rounds next) (length xs) left;
+      }
+
 -- ---- a START
 
 -- the laws that this one rests on
@@ -94,10 +141,6 @@ rounds_behind site (r ∷ rounds) more s are =
 some_of : (o : Option Course) → is_some o ≡ true → (c : Course) × (o ≡ Some c)
 some_of None is = absurd (cc is)
 some_of (Some c) is = (c, refl)
-
-none_and : (b : Bool) → (b && false) ≡ false
-none_and true = refl
-none_and false = refl
 
 itself : (door : ℕ) → (door == door) ≡ true
 itself door = grind arith
@@ -147,14 +190,21 @@ starts_are_there laws b rounds before valid are = λ service a is.
     ∙ over_both door site a.serving a.later t (first ++ new ∷ [])
     ∙ ap (λ (all : List Start). starts_over door site last a.later all)
     (serving_over door site a.serving t first new goes is.serves) in
+    let now : List Start = starts_over door site last a.later (first ++ served ∷ []) in
     let left =
     over_stays door site a.later last served (first ++ served ∷ []) (length first)
     (last_there first served) in
+    let ended : ServesThese b a → Ended door site a.later served now (length first) =
+    λ these. ended_over door site a.later last first served goes
+    (serves_last site t a.serving is.serves) these in
+    let same : (these : ServesThese b a) → (ended these).start ≡ left.start =
+    λ these. one_at (slice_get now (length first)) (ended these).start left.start (ended these).there
+    left.there in
+    let has : HasIt service b a now =
     record {
       place = length first;
       start = left.start;
-      there = subst (λ (all : List Start). slice_get all (length first) ≡ Some left.start)
-          (sym whole) left.there;
+      there = left.there;
       is = record {
         door = left.door;
         told = begins.told;
@@ -169,5 +219,12 @@ starts_are_there laws b rounds before valid are = λ service a is.
         shape = subst (λ (x : Terms). shape_at site s.standing service ≡ Some (shape_of_terms x))
             (sym left.terms) has;
         rounds = left.begins;
+        all = λ these. ap (λ (x : Start). x.rounds) (sym (same these)) ∙ (ended these).rounds;
       };
-    }
+    } in
+    subst (LeavesIt service b a) (sym whole) (record {
+      has = has;
+      over = λ these. subst (λ (x : Start). (a.later ≡ []) ⊎ (x.ended ≡ true)) (same these)
+          (ended these).over;
+      ends = λ these. (ended these).ends ∙ ap (λ (x : Start). Some (with_end x)) (same these);
+    })

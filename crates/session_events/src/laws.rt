@@ -11,7 +11,8 @@ pub fn what_a_round_makes_may_come()
 {}
 
 /// Each START among the rounds of a session of a valid site is one of the STARTs that the rounds make:
-/// with the terms of its message and its instance, and with the rounds of its delivery.
+/// with the terms of its message and its instance, and with rounds that begin with those of its
+/// delivery, and are no others where the session serves it no more.
 pub fn each_start_is_the_worlds()
     ensures { StartsAreThere }
 {
