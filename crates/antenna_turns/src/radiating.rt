@@ -29,8 +29,7 @@ pub struct TurnsSpent {
 }
 
 /// Radiates what the book's queue has, until all other workers are gone and nothing is left to
-/// radiate, or until fewer than two turns are left. Where nothing may radiate yet, the worker sleeps
-/// for five milliseconds with no turn open.
+/// radiate, or until fewer than two turns are left.
 pub fn radiate<R: Wait + rt::Clock, A: Antenna, C: Clock>(
     rt: &R,
     station: &Station,
@@ -50,8 +49,8 @@ pub fn radiate<R: Wait + rt::Clock, A: Antenna, C: Clock>(
     'steps: while pass.left() >= 2 {
         match antenna_step(rt, station, pass, antenna, clock) {
             AntennaStep::Idle { all_gone: true } => return Ok(counts),
-            AntennaStep::Idle { all_gone: false } => station_turns::pause(rt),
-            AntennaStep::Waits { .. } => station_turns::pause(rt),
+            AntennaStep::Idle { all_gone: false } => {}
+            AntennaStep::Waits { .. } => {}
             AntennaStep::Expired { .. } => {}
             AntennaStep::Sent { .. } => counts.sent += 1,
             AntennaStep::Failed { .. } => counts.failed += 1,

@@ -13,7 +13,17 @@ use station_book::{Event, Station};
 use station_turns::laws::{gains_compose, readings_compose};
 use station_turns::{Taking, done, interrupted, read, take};
 use std::sync::Wait;
+use std::time::Duration;
+use std::{rt, thread};
 use turn_lock::Pass;
+
+// How many milliseconds the worker sleeps while no CLTU waits, unless it is woken.
+const IDLE_MILLIS: u64 = 50;
+
+// How many nanoseconds it sleeps at most while a CLTU waits for its earliest time.
+const WAIT_NANOS: u64 = 5_000_000;
+
+const PICOS_A_NANO: u128 = 1_000;
 
 /// What a step came to: what its take found, or how the send of the CLTU that it took ended.
 #[derive(Clone, Copy, Debug, PartialEq, Eq)]
@@ -68,8 +78,23 @@ fn found(taking: Taking) -> Result<Radiation, AntennaStep>
     }
 }
 
-/// Takes what may radiate, sends it, and tells how that ended.
-pub fn antenna_step<R: Wait, A: Antenna, C: Clock>(
+// How long the worker sleeps after a take that found nothing to do at this moment: until a CLTU's
+// earliest time, but for five milliseconds at most, since another CLTU may be accepted. None after a
+// take that did something, or that was the last.
+fn rest_of(step: AntennaStep, now: u128) -> Option<Duration> {
+    match step {
+        AntennaStep::Idle { all_gone: false } => Some(Duration::from_millis(IDLE_MILLIS)),
+        AntennaStep::Waits { until } => {
+            let left = until.saturating_sub(now).div_ceil(PICOS_A_NANO);
+            Some(Duration::from_nanos(left.min(u128::from(WAIT_NANOS)) as u64))
+        }
+        _ => None,
+    }
+}
+
+/// Takes what may radiate, sends it, and tells how that ended. If nothing may radiate yet, it sleeps
+/// with no turn open: for 50 ms, or while a CLTU waits, for the lesser of 5 ms and the time left.
+pub fn antenna_step<R: Wait + rt::Clock, A: Antenna, C: Clock>(
     rt: &R,
     station: &Station,
     pass: &mut Pass<Event>,
@@ -87,7 +112,12 @@ pub fn antenna_step<R: Wait, A: Antenna, C: Clock>(
     let reading = read(clock);
     let taking = take(rt, station, pass, reading);
     match found(taking) {
-        Err(step) => step,
+        Err(step) => {
+            if let Some(rest) = rest_of(step, reading) {
+                thread::sleep(rt, rest);
+            }
+            step
+        }
         Ok(radiation) => {
             let Radiation { run, id, octets } = radiation;
             let sent = antenna.send(octets.as_slice());

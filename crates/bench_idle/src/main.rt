@@ -5,6 +5,7 @@
 // nothing. With no words, two links make three polls at a wait of 10.
 #![tactic(auto)]
 
+use bell::Waiter;
 use link_model::{Link, Poll};
 use std::alloc::Global;
 use std::net::{Net, TcpListener, TcpStream};
@@ -44,7 +45,7 @@ fn lines_of<R: Net<Stream = TcpStream, Listener = TcpListener>>(
         let peer = TcpStream::connect(rt, listener.local_addr()?)?;
         let (stream, _) = listener.accept()?;
         lines.push(Line {
-            link: TcpLink::new(alloc, stream, wait)?,
+            link: TcpLink::new(alloc, stream, Waiter::new(rt, alloc)?, wait)?,
             _peer: peer,
             idle: 0,
         })?;

@@ -59,7 +59,7 @@ fn main(rt: HostRuntime) -> ExitCode {
         clocks: Vec::new(alloc),
         frames: LateFrames { feed: None },
         antenna: LateAntenna::none(),
-        antenna_clock: machine_clock(&rt, alloc),
+        antenna_clock: machine_clock(&rt),
         draw: 0,
         passes: None,
     };
@@ -164,9 +164,9 @@ where
             Ok(Some(Plan::List { path })) => {
                 self.provide_found(words, opened(self.files, &path), kit)
             },
-            Ok(Some(Plan::Drill)) => self.provide_over(words, None, kit),
-            Ok(Some(Plan::Rehearse { .. })) => self.provide_over(words, None, kit),
-            Ok(None) => self.provide_over(words, None, kit),
+            Ok(Some(Plan::Drill)) => self.provide_over(self.rt, words, None, kit),
+            Ok(Some(Plan::Rehearse { .. })) => self.provide_over(self.rt, words, None, kit),
+            Ok(None) => self.provide_over(self.rt, words, None, kit),
             Err(_) => Status::Memory.code(),
         }
     }
@@ -190,15 +190,16 @@ where
             result }
     {
         match found {
-            Ok(disk) => self.provide_over(words, Some(disk), kit),
+            Ok(disk) => self.provide_over(self.rt, words, Some(disk), kit),
             Err(error) => provide_on(self.rt, self.alloc, words, Err(error), kit),
         }
     }
 
-    // Runs the command of these words on the kit, over the file that was found for them, if they need
-    // one.
-    fn provide_over<I: Source, O: Sink>(
+    // Runs the command of these words on the kit with a runtime, over the file that was found for
+    // them, if they need one.
+    fn provide_over<Q: Threads + Wait + rt::Clock + Sync, I: Source, O: Sink>(
         &self,
+        rt: &Q,
         words: &[&str],
         disk: Option<FileDisk>,
         kit: &mut Kit<'a, R, I, O>,
@@ -214,7 +215,7 @@ where
             (O.written kit.new.output) (O.faults kit.new.output))
             result }
     {
-        provide_on(self.rt, self.alloc, words, Ok(disk), kit)
+        provide_on(rt, self.alloc, words, Ok(disk), kit)
     }
 
     // Runs the station of a plan, where the environment says of it. It tells on standard error how the
@@ -269,6 +270,7 @@ where
         match open_sockets(self.rt, self.alloc, run, place) {
             Ok(sockets) => self.provide_wired(words, disk, sockets, kit),
             Err(SocketFault::Port) => tell(b"read fault\n", Status::ReadFault, &mut kit.output),
+            Err(SocketFault::Wait) => tell(b"read fault\n", Status::ReadFault, &mut kit.output),
             Err(SocketFault::Memory) => Status::Memory.code(),
         }
     }
@@ -297,8 +299,9 @@ where
             feed: Some(sockets.frames),
         };
         kit.antenna_clock = sockets.antenna_clock;
+        kit.antenna.bells = Some(sockets.bells);
         kit.draw = draw_of(self.rt);
         tell_begin(self.rt, self.alloc);
-        self.provide_over(words, Some(disk), kit)
+        self.provide_over(&sockets.resting, words, Some(disk), kit)
     }
 }

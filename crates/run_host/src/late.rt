@@ -2,6 +2,7 @@
 
 use antenna_core::Antenna;
 use antenna_file::FileAntenna;
+use bell::Bells;
 use octet_core::{Failed, Faults};
 use recorder::{Feed, FrameSource};
 use std::io::Write;
@@ -34,6 +35,8 @@ impl<W: Write + Send + Drop> FrameSource for LateFrames<W> {
 pub struct LateAntenna {
     /// The antenna, if there is one.
     pub antenna: Option<FileAntenna>,
+    /// What notes that a CLTU was sent.
+    pub bells: Option<Bells>,
     // How often a call has failed while there was none.
     missed: Faults,
 }
@@ -43,6 +46,7 @@ impl LateAntenna {
     pub fn none() -> LateAntenna {
         LateAntenna {
             antenna: None,
+            bells: None,
             missed: Faults::new(),
         }
     }
@@ -51,6 +55,7 @@ impl LateAntenna {
     pub fn over(antenna: FileAntenna) -> LateAntenna {
         LateAntenna {
             antenna: Some(antenna),
+            bells: None,
             missed: Faults::new(),
         }
     }
@@ -65,6 +70,9 @@ impl Antenna for LateAntenna {
         late.missed };
 
     fn send(&mut self, octets: &[u8]) -> Result<(), Failed> {
+        if let Some(bells) = &self.bells {
+            bells.note_sent();
+        }
         match &mut self.antenna {
             Some(antenna) => antenna.send(octets),
             None => self.missed.fail(),

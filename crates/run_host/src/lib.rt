@@ -7,17 +7,23 @@
 // fails are told on standard error, a line each with its time. `LateFrames` and `LateAntenna` open
 // nothing where there is no run.
 //
-// Where the place has a port for that, a stop is asked for there. Then the doors give no further
-// link, the links that are out and the source come to an end, and so the run does. The source of
-// entries looks at each call that has no line left to give, and the antenna's worker at each
-// reading of its clock: it is the last one to go, and looks also where a fault has ended the
+// If the place has a port for that, a stop is asked for there. Then the doors give no further link,
+// the links that are out and the source come to an end, and so does the run. The source of entries
+// looks in each call that has no line left to give, once a second at least, and the antenna's worker
+// at readings of its clock: it is the last one to go, and looks also after a fault has ended the
 // recorder, which calls the source.
+//
+// No worker polls. A door waits for octets, connections and rings, the source for lines and rings,
+// and the antenna's worker sleeps until it is rung or its time has passed (`Resting`). Rung are the
+// doors when entries were published and when a radiation was told, the antenna's worker when a user
+// may have asked for one, and all at a stop.
 #![tactic(auto)]
 
 mod files;
 mod host;
 mod late;
 mod place;
+mod ringing;
 mod watching;
 
 pub use files::{RunFiles, open_files, text_of};

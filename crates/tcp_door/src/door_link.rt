@@ -4,6 +4,7 @@ ghost use Rattle.link_model.specs.declared.call.Call.TheVariants.{Offered};
 ghost use Rattle.link_model.specs.Calls.{Tells};
 ghost use Rattle.link_model.specs.Counts.{CountsWhere, offer_failed, offer_stalled};
 
+use bell::{Bells, Waiter};
 use link_model::{Link, Poll};
 use octet_core::{Faults, Offer};
 use operator_side::Stop;
@@ -18,6 +19,9 @@ use tcp_link::TcpLink;
 pub struct DoorLink {
     link: TcpLink,
     stop: Option<Stop>,
+    bells: Option<Bells>,
+    // True from a poll that heard octets until one that heard nothing: then all of them are handled.
+    is_asked: bool,
     faults: Faults,
     stalls: u64,
 }
@@ -31,13 +35,15 @@ impl Model for DoorLink {
 }
 
 impl DoorLink {
-    // A link over this one, which ends at this stop.
-    pub(crate) fn new(link: TcpLink, stop: Option<Stop>) -> DoorLink
+    // A link over this one, which ends at this stop and rings these bells.
+    pub(crate) fn new(link: TcpLink, stop: Option<Stop>, bells: Option<Bells>) -> DoorLink
         ensures { result ≡ record { faults = 0; stalls = 0 } }
     {
         DoorLink {
             link,
             stop,
+            bells,
+            is_asked: false,
             faults: Faults::new(),
             stalls: 0,
         }
@@ -48,11 +54,20 @@ impl DoorLink {
         self.stop.as_ref().is_some_and(Stop::is_asked)
     }
 
-    // Sends what is left, and closes the own side.
-    pub(crate) fn finish(&mut self)
-        ensures { self.new ≡ self.old }
-    {
-        self.link.finish();
+    // Sends what is left, closes the stream, and returns the waiter.
+    pub(crate) fn finish(self) -> Waiter {
+        let DoorLink { mut link, .. } = self;
+        link.finish();
+        link.into_waiter()
+    }
+
+    // Rings if a block answers what the user sent: that may have been a CLTU, and the book has it by
+    // now.
+    fn ring_asked(&self) {
+        match &self.bells {
+            Some(bells) if self.is_asked => bells.ring_asked(),
+            _ => {}
+        }
     }
 
     /// How often a call has failed.
@@ -84,8 +99,13 @@ impl Link for DoorLink {
             return Poll::Closed;
         }
         let answer = self.link.poll(into);
-        if answer == Poll::Failed {
-            let _ = self.faults.fail::<()>();
+        match answer {
+            Poll::Arrived(_) => self.is_asked = true,
+            Poll::Nothing => self.is_asked = false,
+            Poll::Closed => {}
+            Poll::Failed => {
+                let _ = self.faults.fail::<()>();
+            }
         }
         answer
     }
@@ -96,7 +116,10 @@ impl Link for DoorLink {
         ensures stalls { CountsWhere (offer_stalled result) self.old.stalls self.new.stalls }
     {
         match self.link.offer(octets) {
-            Offer::Whole => Offer::Whole,
+            Offer::Whole => {
+                self.ring_asked();
+                Offer::Whole
+            }
             Offer::Stalled if !self.is_stopped() => {
                 self.stalls = self.stalls.saturating_add(1);
                 Offer::Stalled

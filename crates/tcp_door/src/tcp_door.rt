@@ -4,6 +4,7 @@ ghost use Rattle.std.specs.Prelude.{◌≡◌, false};
 use crate::door_link::DoorLink;
 use crate::doorway::Doorway;
 use crate::log::{connected, ended, failed};
+use bell::{Bells, Waiter};
 use door_model::{Door, Served};
 use octet_core::{Failed, Faults};
 use operator_side::{Stop, report};
@@ -48,13 +49,7 @@ impl<W: Write + Send + Drop> TcpDoor<W> {
         ensures { result ≡ record { is_out = false; faults = 0 } }
     {
         TcpDoor {
-            way: Doorway {
-                alloc,
-                address,
-                listener: TcpListener::bind(rt, address),
-                wait,
-                stop: None,
-            },
+            way: Doorway::open(rt, alloc, address, wait),
             reports,
             peer: address,
             is_out: false,
@@ -62,11 +57,20 @@ impl<W: Write + Send + Drop> TcpDoor<W> {
         }
     }
 
-    /// Has it end at this stop. A call that waits then looks once a connection wakes it.
+    /// Has it end at this stop, which a call that waits sees within half a second, or at a ring.
     pub fn end_at(&mut self, stop: Stop)
         ensures { self.new ≡ self.old }
     {
         self.way.stop = Some(stop);
+    }
+
+    /// Has it and its links wait with this waiter, and ring these bells if a user may have asked for a
+    /// radiation.
+    pub fn wait_with(&mut self, waiter: Waiter, bells: Bells)
+        ensures { self.new ≡ self.old }
+    {
+        self.way.wait_with(Ok(waiter));
+        self.way.bells = Some(bells);
     }
 
     /// Where it listens: with the system's port where it was told port 0.
@@ -118,10 +122,10 @@ impl<W: Write + Send + Drop> Door for TcpDoor<W> {
     }
 
     /// Has the link send what is left, closes it, and reports how its serving ended.
-    fn give_back(&mut self, mut link: DoorLink, served: Served) {
+    fn give_back(&mut self, link: DoorLink, served: Served) {
         let (alloc, door, peer) = (self.way.alloc, self.way.address, self.peer);
         let is_stopped = link.is_stopped();
-        link.finish();
+        self.way.waiter = Ok(link.finish());
         report(
             &mut self.reports,
             ended(alloc, door, peer, is_stopped, served),

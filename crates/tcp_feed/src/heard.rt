@@ -2,6 +2,7 @@
 ghost use Rattle.std.specs.Prelude.{◌≡◌, ◌≤◌, false, IfOk, IfSome, length};
 ghost use Rattle.recorder.specs.Feeds.{IsValidFeed, is_failed};
 
+use bell::{Bells, Waiter};
 use drill_text::{LineFault, ScriptLine, parse_line};
 use memchr::memchr;
 use octet_core::Memory;
@@ -12,6 +13,17 @@ use std::io;
 use std::io::{ErrorKind, Read, Write};
 use std::marker::Model;
 use std::net::{SocketAddr, TcpListener, TcpStream};
+use std::os::fd::{AsRawFd, RawFd};
+use std::time::Duration;
+
+// How often a call waits at most while nothing has come yet, and for how many seconds each time. A
+// stop is looked for after each.
+const WAITS: u32 = 5;
+
+const WAIT_SECONDS: u64 = 1;
+
+// How many entries a recorder takes at most before it stores and publishes them.
+const LONGEST_BATCH: u32 = 256;
 
 // The octets of the longest line, a frame's, with its end: a time of 25 characters with
 // picoseconds, a quality of 1, an antenna of 32, a count of 8, and 65,536 octets of two characters
@@ -40,6 +52,15 @@ pub struct Heard {
     is_broken: bool,
     // How many lines were taken.
     lines: u64,
+    // What a call waits with, if it may wait, and what is rung after entries were published.
+    waiter: Option<Waiter>,
+    bells: Option<Bells>,
+    // How many entries were given since the recorder began its batch, and whether the next call begins
+    // a batch.
+    given: u32,
+    is_new_batch: bool,
+    // How often the call may still wait.
+    waits: u32,
 }
 
 impl Model for Heard {
@@ -77,7 +98,84 @@ impl Heard {
             is_over: false,
             is_broken: false,
             lines: 0,
+            waiter: None,
+            bells: None,
+            given: 0,
+            is_new_batch: true,
+            waits: 0,
         })
+    }
+
+    /// Has it wait with this waiter if a recorder's step begins and nothing has come yet, and ring
+    /// these bells after entries that it gave were published.
+    pub fn wait_with(&mut self, waiter: Waiter, bells: Bells)
+        ensures { self.new ≡ self.old }
+    {
+        if let Ok(listener) = &self.listener
+            && let Err(error) = waiter.watch(listener.as_raw_fd())
+        {
+            self.listener = Err(error);
+        }
+        self.waiter = Some(waiter);
+        self.bells = Some(bells);
+    }
+
+    /// A call begins. If it is a batch's first, what was given before is published by now, and the
+    /// call may wait.
+    pub fn begin(&mut self)
+        ensures { self.new ≡ self.old }
+    {
+        self.waits = 0;
+        if !self.is_new_batch {
+            return;
+        }
+        self.waits = WAITS;
+        if self.given > 0
+            && let Some(bells) = &self.bells
+        {
+            bells.ring_published();
+        }
+        self.given = 0;
+        self.is_new_batch = false;
+    }
+
+    /// A call ends: with an entry, or without.
+    pub fn end_call(&mut self, is_entry: bool)
+        ensures { self.new ≡ self.old }
+    {
+        self.given = self.given.saturating_add(u32::from(is_entry));
+        self.is_new_batch = !is_entry || self.given >= LONGEST_BATCH;
+    }
+
+    // Waits if it may, and answers whether it did.
+    fn wait(&mut self) -> io::Result<bool>
+        ensures { self.new ≡ self.old }
+    {
+        let (Some(waiter), Some(waits)) = (&mut self.waiter, self.waits.checked_sub(1)) else {
+            return Ok(false);
+        };
+        self.waits = waits;
+        waiter.wait(Duration::from_secs(WAIT_SECONDS))?;
+        Ok(true)
+    }
+
+    // Has it wait for this socket too, if it waits.
+    fn watch(&self, socket: RawFd) -> io::Result<()> {
+        match &self.waiter {
+            Some(waiter) => waiter.watch(socket),
+            None => Ok(()),
+        }
+    }
+
+    // Nothing has come yet: waits if it may, and else answers so.
+    fn not_yet(&mut self) -> io::Result<Option<Feed>>
+        ensures valid { IfOk result (λ found. IfSome found IsValidFeed) }
+        ensures sound { IfOk result (λ found. IfSome found (λ feed. is_failed feed ≡ false)) }
+    {
+        if self.wait()? {
+            return Ok(None);
+        }
+        Ok(Some(Feed::NotYet))
     }
 
     /// Has it end at this stop, and not where a stream does.
@@ -191,8 +289,10 @@ impl Heard {
             Ok(count) => self.end += count,
             Err(error) if error.kind() == ErrorKind::Interrupted => {}
             Err(error) if error.kind() == ErrorKind::WouldBlock => {
-                self.turn_away();
-                return Ok(Some(Feed::NotYet));
+                if self.turn_away() {
+                    return Ok(None);
+                }
+                return self.not_yet();
             }
             Err(error) => {
                 self.is_broken = true;
@@ -222,21 +322,23 @@ impl Heard {
         match listener.accept() {
             Ok((stream, peer)) => {
                 stream.set_nonblocking(true)?;
+                self.watch(stream.as_raw_fd())?;
                 self.stream = Some(stream);
                 self.peer = peer;
                 self.came = Some(peer);
                 self.lines = 0;
                 Ok(None)
             }
-            Err(error) if is_early(&error) => Ok(Some(Feed::NotYet)),
+            Err(error) if is_early(&error) => self.not_yet(),
             Err(error) => Err(error),
         }
     }
 
-    // Closes a connection that came behind the first, if one did.
-    fn turn_away(&self) {
-        if let Ok(listener) = &self.listener {
-            let _ = listener.accept();
+    // Closes a connection that came behind the first, and answers whether one did.
+    fn turn_away(&self) -> bool {
+        match &self.listener {
+            Ok(listener) => listener.accept().is_ok(),
+            Err(_) => false,
         }
     }
 }

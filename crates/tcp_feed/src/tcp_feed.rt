@@ -3,6 +3,7 @@ ghost use Rattle.std.specs.Prelude.{◌≡◌, false, IfOk};
 ghost use Rattle.recorder.specs.Feeds.{IsValidFeed, is_failed};
 
 use crate::heard::Heard;
+use bell::{Bells, Waiter};
 use octet_core::{Faults, Memory};
 use operator_side::{Stop, report};
 use recorder::{Feed, FrameSource};
@@ -68,6 +69,14 @@ impl<W: Write + Send + Drop> TcpFeed<W> {
         self.heard.end_at(stop);
     }
 
+    /// Has it wait with this waiter, for five seconds at most, in the first call of a recorder's step,
+    /// and ring these bells after entries that it gave were published.
+    pub fn wait_with(&mut self, waiter: Waiter, bells: Bells)
+        ensures { self.new ≡ self.old }
+    {
+        self.heard.wait_with(waiter, bells);
+    }
+
     /// Where it listens: with the system's port where it was told port 0.
     pub fn address(&self) -> SocketAddr {
         self.heard.address()
@@ -96,12 +105,14 @@ fn listen<R: Net<Stream = TcpStream, Listener = TcpListener>>(
     Ok(listener)
 }
 
-// What the lines that have come say next, those that say nothing passed over.
-fn next_of(heard: &mut Heard) -> io::Result<Feed>
+// What the lines that have come say next, with those that say nothing passed over. It looks for the
+// stop where no whole line is held.
+fn next_of<W: Write>(heard: &mut Heard, reports: &mut W) -> io::Result<Feed>
     ensures valid { IfOk result IsValidFeed }
     ensures sound { IfOk result (λ feed. is_failed feed ≡ false) }
 {
     for _ in 0..SKIPPED_LINES {
+        heard.look(reports);
         if let Some(feed) = heard.go_on()? {
             return Ok(feed);
         }
@@ -142,10 +153,12 @@ impl<W: Write + Send + Drop> FrameSource for TcpFeed<W> {
 
     ghost faults = { λ feed. feed.faults };
 
-    /// The entry of the next line that says one, where it has come whole.
+    /// The entry of the next line that says one, once it has come whole. A call that begins a
+    /// recorder's step waits for it, if it has a waiter to wait with.
     fn next(&mut self) -> Feed {
-        self.heard.look(&mut self.reports);
-        let answer = next_of(&mut self.heard);
+        self.heard.begin();
+        let answer = next_of(&mut self.heard, &mut self.reports);
+        self.heard.end_call(matches!(&answer, Ok(Feed::Entry(_))));
         tell(self.alloc, &mut self.heard, &mut self.reports);
         match answer {
             Ok(feed) => feed,

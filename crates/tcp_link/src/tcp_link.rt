@@ -8,6 +8,7 @@ ghost use Rattle.link_model.specs.Calls.{Tells};
 ghost use Rattle.link_model.specs.Counts.{CountsWhere, offer_failed, offer_stalled};
 ghost use Rattle.tcp_link.specs.LinkState.{unsent_now, IsStillLeft};
 
+use bell::Waiter;
 use link_model::{Link, Poll};
 use octet_core::{Faults, Offer};
 use std::alloc::Global;
@@ -15,33 +16,44 @@ use std::io;
 use std::io::{ErrorKind, Read, Write};
 use std::marker::Model;
 use std::net::{Shutdown, TcpStream};
+use std::os::fd::AsRawFd;
 use std::time::Duration;
 
 /// The octets of the longest block that a link takes: a message of the transport with its head.
 pub const LONGEST_BLOCK: usize = 1_048_584;
 
-// How many waits `finish` makes at most: with waits of 10 ms, three seconds.
+// How often an offer waits at most for the octets of the block before, and for how many milliseconds.
+const OFFER_WAITS: u32 = 2;
+
+const OFFER_MILLIS: u64 = 5;
+
+// How often `finish` waits at most, and for how many milliseconds: three seconds.
 const LAST_WAITS: u32 = 300;
+
+const LAST_MILLIS: u64 = 10;
 
 /// A link over a TCP stream. It tells none of its calls.
 ///
 /// Of the block that it took last it keeps what the system didn't take yet. Each call sends of that
 /// what the system takes now, and an offer stalls until all of it is sent.
 ///
-/// A call waits at most as long as the link was told to. A poll waits for octets, but only where
-/// the poll before it heard nothing and no block was taken since. An offer waits for the octets of
-/// the block before to be sent, where some are left, and for nothing else. So neither an idle nor a
-/// stalled connection spins, and where there is more to be done nothing is waited for.
+/// A poll waits at most as long as the link was told to: for octets, for a ring of its waiter, and for
+/// room if octets are left to be sent. It waits only if the poll before it heard nothing and no block
+/// was taken since. An offer waits until the octets of the block before are sent, for ten
+/// milliseconds at most. So neither an idle nor a stalled connection spins, and nothing waits while
+/// there is more to be done. A few rings may end a wait early; vain ones soon do no more, since the
+/// waiter then asks for none.
 #[derive(Drop)]
 pub struct TcpLink {
+    // (before the waiter, so that the stream is closed first and its waiter watches it no longer)
     stream: TcpStream,
+    waiter: Waiter,
+    wait: Duration,
     // The octets that the system didn't take at once, and how many of them it has taken since.
     kept: Vec<u8>,
     sent: usize,
     // Whether the last poll heard octets, or a block was taken since.
     is_busy: bool,
-    // Whether calls of the stream wait.
-    is_blocking: bool,
     faults: Faults,
     stalls: u64,
 }
@@ -62,35 +74,35 @@ impl Model for TcpLink {
 }
 
 impl TcpLink {
-    /// A link over this stream, each of whose calls waits at most so long, which is more than no
-    /// time. It fails where the system refuses the stream's settings or the memory.
-    pub fn new(alloc: Global, stream: TcpStream, wait: Duration) -> io::Result<TcpLink>
+    /// A link over this stream, whose polls wait with this waiter, and at most so long. It fails if
+    /// the system refuses the stream's settings or the memory.
+    pub fn new(
+        alloc: Global,
+        stream: TcpStream,
+        waiter: Waiter,
+        wait: Duration,
+    ) -> io::Result<TcpLink>
         ensures { IfOk result (λ link. link ≡ record { unsent = 0; faults = 0; stalls = 0 }) }
     {
         stream.set_nodelay(true)?;
-        stream.set_nonblocking(false)?;
-        stream.set_read_timeout(Some(wait))?;
-        stream.set_write_timeout(Some(wait))?;
+        stream.set_nonblocking(true)?;
+        waiter.watch(stream.as_raw_fd())?;
         Ok(TcpLink {
             stream,
+            waiter,
+            wait,
             kept: Vec::with_capacity(alloc, LONGEST_BLOCK)?,
             sent: 0,
             is_busy: false,
-            is_blocking: true,
             faults: Faults::new(),
             stalls: 0,
         })
     }
 
-    // Has the stream's calls wait, or not.
-    fn set_blocking(&mut self, is_blocking: bool) -> io::Result<()>
-        ensures { self.new ≡ self.old }
-    {
-        if self.is_blocking != is_blocking {
-            self.stream.set_nonblocking(!is_blocking)?;
-            self.is_blocking = is_blocking;
-        }
-        Ok(())
+    /// Closes the stream, and returns the waiter.
+    pub fn into_waiter(self) -> Waiter {
+        let TcpLink { waiter, .. } = self;
+        waiter
     }
 
     // Sends of the kept octets what the system takes now, and answers whether all of them are sent.
@@ -123,51 +135,68 @@ impl TcpLink {
         Ok(())
     }
 
+    // Sends the kept octets within so many waits of so many milliseconds, and answers whether all of
+    // them are sent.
+    fn send_all(&mut self, waits: u32, millis: u64) -> io::Result<bool>
+        ensures all { IfOk result (λ all. all ≡ (self.new.unsent == 0)) }
+        ensures less { self.new.unsent ≤ self.old.unsent }
+        ensures rest { self.new ≡ unsent_now self.old self.new.unsent }
+    {
+        for _ in 0..waits {
+            if self.send_rest()? {
+                return Ok(true);
+            }
+            self.waiter.wait_for_ring(Duration::from_millis(millis))?;
+        }
+        self.send_rest()
+    }
+
     // Offers a block, and answers whether it was taken.
     fn try_offer(&mut self, octets: &[u8]) -> io::Result<bool>
         ensures taken { result ≡ Ok true → self.new.unsent ≤ length octets.now }
         ensures left { result ≡ Ok false → IsStillLeft self.old.unsent self.new.unsent }
         ensures rest { self.new ≡ unsent_now self.old self.new.unsent }
     {
-        let waits = self.sent < self.kept.len();
-        self.set_blocking(waits)?;
-        if !self.send_rest()? {
+        if !self.send_all(OFFER_WAITS, OFFER_MILLIS)? {
             return Ok(false);
         }
-        self.set_blocking(false)?;
         self.send_block(octets)?;
         self.is_busy = true;
+        self.waiter.found_something();
         Ok(true)
     }
 
     // Sends what is left of the last block, and reads what arrived.
+    fn send_and_read(&mut self, into: &mut [u8]) -> io::Result<usize>
+        ensures bound { ReadsAtMost result into.new }
+        ensures less { self.new.unsent ≤ self.old.unsent }
+        ensures rest { self.new ≡ unsent_now self.old self.new.unsent }
+    {
+        self.send_rest()?;
+        self.stream.read(into)
+    }
+
+    // Does the same, and if nothing has arrived and it may wait, once more after a wait.
     fn try_poll(&mut self, into: &mut [u8]) -> io::Result<usize>
         ensures bound { ReadsAtMost result into.new }
         ensures less { self.new.unsent ≤ self.old.unsent }
         ensures rest { self.new ≡ unsent_now self.old self.new.unsent }
     {
-        let waits = !self.is_busy;
-        if self.sent < self.kept.len() {
-            self.set_blocking(false)?;
-            self.send_rest()?;
+        match self.send_and_read(into) {
+            Err(error) if is_early(&error) && !self.is_busy => {}
+            answer => return answer,
         }
-        self.set_blocking(waits)?;
-        self.stream.read(into)
+        self.waiter.wait_for_ring(self.wait)?;
+        self.send_and_read(into)
     }
 
-    /// Sends what is left of the last block, in so many waits at most as last three seconds where
-    /// each is 10 ms, and shuts the own side of the stream. What can't be sent is given up.
+    /// Sends what is left of the last block, within three seconds, and shuts the own side of the
+    /// stream. What can't be sent is given up.
     pub fn finish(&mut self)
         ensures less { self.new.unsent ≤ self.old.unsent }
         ensures rest { self.new ≡ unsent_now self.old self.new.unsent }
     {
-        let _ = self.set_blocking(true);
-        for _ in 0..LAST_WAITS {
-            match self.send_rest() {
-                Ok(false) => {}
-                _ => break,
-            }
-        }
+        let _ = self.send_all(LAST_WAITS, LAST_MILLIS);
         let _ = self.stream.shutdown(Shutdown::Write);
     }
 
@@ -219,6 +248,7 @@ impl Link for TcpLink {
             Ok(0) => Poll::Closed,
             Ok(count) => {
                 self.is_busy = true;
+                self.waiter.found_something();
                 Poll::Arrived(count)
             }
             Err(error) if is_early(&error) => {

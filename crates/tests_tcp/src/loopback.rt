@@ -1,4 +1,5 @@
 // Both ends of a connection over the loopback.
+use bell::Waiter;
 use std::alloc::Global;
 use std::io;
 use std::io::Read;
@@ -15,7 +16,12 @@ pub fn connect<R: Net<Stream = TcpStream, Listener = TcpListener>>(
     let listener = TcpListener::bind(rt, "127.0.0.1:0")?;
     let peer = TcpStream::connect(rt, listener.local_addr()?)?;
     let (stream, _) = listener.accept()?;
-    let link = TcpLink::new(alloc, stream, Duration::from_millis(millis))?;
+    let link = TcpLink::new(
+        alloc,
+        stream,
+        Waiter::new(rt, alloc)?,
+        Duration::from_millis(millis),
+    )?;
     Ok((link, peer))
 }
 

@@ -6,6 +6,7 @@
 // is made, at the loopback, where the words ask for one.
 #![tactic(auto)]
 
+use bell::Waiter;
 use cds_time::{MachineTime, SystemClock};
 use octet_core::{ReaderSource, WriterSink};
 use std::alloc::{AllocError, Global};
@@ -105,7 +106,12 @@ fn link_of(rt: &HostRuntime, alloc: Global, words: &[&str]) -> Result<Option<Tcp
 fn connect(rt: &HostRuntime, alloc: Global, port: u16) -> io::Result<TcpLink> {
     let address = SocketAddr::from((Ipv4Addr::LOCALHOST, port));
     let stream = TcpStream::connect(rt, address)?;
-    TcpLink::new(alloc, stream, Duration::from_millis(WAIT_MILLIS))
+    TcpLink::new(
+        alloc,
+        stream,
+        Waiter::new(rt, alloc)?,
+        Duration::from_millis(WAIT_MILLIS),
+    )
 }
 
 // What the numbers of credentials begin from: 0 where the machine has no random numbers.
