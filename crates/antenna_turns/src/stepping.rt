@@ -92,6 +92,13 @@ fn rest_of(step: AntennaStep, now: u128) -> Option<Duration> {
     }
 }
 
+// Sleeps after a take that found nothing to do at this moment.
+fn rest<R: rt::Clock>(rt: &R, step: AntennaStep, now: u128) {
+    if let Some(time) = rest_of(step, now) {
+        thread::sleep(rt, time);
+    }
+}
+
 /// Takes what may radiate, sends it, and tells how that ended. If nothing may radiate yet, it sleeps
 /// with no turn open: for 50 ms, or while a CLTU waits, for the lesser of 5 ms and the time left.
 pub fn antenna_step<R: Wait + rt::Clock, A: Antenna, C: Clock>(
@@ -113,9 +120,7 @@ pub fn antenna_step<R: Wait + rt::Clock, A: Antenna, C: Clock>(
     let taking = take(rt, station, pass, reading);
     match found(taking) {
         Err(step) => {
-            if let Some(rest) = rest_of(step, reading) {
-                thread::sleep(rt, rest);
-            }
+            rest(rt, step, reading);
             step
         }
         Ok(radiation) => {
