@@ -5,9 +5,11 @@ usage: rings.py PROGRAM
 A thread of the station that has something to do is rung by the one that made it so; one ring left
 out leaves hundreds of a thousand to a round of the thread itself, a hundred milliseconds later.
 The archive and the antenna's files stand in memory, so that no disk is waited for. A machine that
-does other things makes a few late: five of a thousand may be.
+does other things makes a few late: five of a thousand may be, and four more for each octet that a
+plain process, asked after each of them, sends back as late.
 """
 import os
+import socket
 import sys
 import tempfile
 import time
@@ -24,13 +26,43 @@ cltu {COMMANDS} MOC 100000 100 60
 """
 
 
-def late(name, spent, most):
-    """Fails where more than a few of these took longer than so many seconds."""
-    slow = sum(1 for it in spent if it > most)
-    check(f"{name}: {slow} of {len(spent)} took over {1e3 * most:.0f} ms", slow <= LATE, True)
+class Machine:
+    """How soon the machine wakes a process that waits: one that sends each octet back."""
+
+    def __init__(self):
+        self.end, other = socket.socketpair()
+        self.spent = []
+        self.child = os.fork()
+        if not self.child:
+            self.end.close()
+            while octet := other.recv(1):
+                other.sendall(octet)
+            os._exit(0)
+        other.close()
+
+    def ask(self):
+        begin = time.perf_counter()
+        self.end.sendall(b".")
+        self.end.recv(1)
+        self.spent.append(time.perf_counter() - begin)
+
+    def close(self):
+        self.end.close()
+        os.waitpid(self.child, 0)
 
 
-def frames(station, user):
+def count_late(spent, most):
+    return sum(1 for it in spent if it > most)
+
+
+def late(name, spent, machine, most):
+    """Fails where more of these than the machine's own delays explain took longer than so many seconds."""
+    slow, own = count_late(spent, most), count_late(machine.spent, most)
+    told = f"{name}: {slow} of {len(spent)} took over {1e3 * most:.0f} ms, {own} of a plain process"
+    check(told, slow <= LATE + 4 * own, True)
+
+
+def frames(station, user, machine):
     """How long each frame takes from the source to its user."""
     front = station.front_end()
     spent = []
@@ -39,6 +71,7 @@ def frames(station, user):
         front.sendall(frame(number).encode())
         user.frames(1)
         spent.append(time.perf_counter() - begin)
+        machine.ask()
     front.close()
     return spent
 
@@ -48,7 +81,7 @@ def is_notice(pdu):
     return pdu[0] == 0xac and told_at(pdu, 1)[0] == 0x80
 
 
-def telecommands(user, lines):
+def telecommands(user, lines, machine):
     """How long each telecommand takes to the antenna's file, and to its notice."""
     sent, told = [], []
     for number in range(1, COUNT + 1):
@@ -60,6 +93,7 @@ def telecommands(user, lines):
         while not is_notice(user.answer()[8:]):
             pass
         told.append(time.perf_counter() - begin)
+        machine.ask()
     return sent, told
 
 
@@ -72,12 +106,17 @@ def main():
         commander.bound("commander", "MOC", COMMANDS, interval=3600, service=16)
         taker.say(start(1))
         taker.answer()
-        late("frames", frames(station, taker), 0.05)
+        machine = Machine()
+        spent = frames(station, taker, machine)
+        machine.close()
+        late("frames", spent, machine, 0.05)
         commander.say(cltu_start(1))
         commander.answer()
-        sent, told = telecommands(commander, os.path.join(folder, "cltus.lines"))
-        late("telecommands", sent, 0.02)
-        late("notices", told, 0.05)
+        machine = Machine()
+        sent, told = telecommands(commander, os.path.join(folder, "cltus.lines"), machine)
+        machine.close()
+        late("telecommands", sent, machine, 0.02)
+        late("notices", told, machine, 0.05)
         station.stop("rings")
         station.process.communicate(timeout=60)
     sys.exit(checks.end())
