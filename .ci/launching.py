@@ -14,8 +14,7 @@ from contextlib import contextmanager
 from pathlib import Path
 
 TOP = Path(__file__).resolve().parent.parent
-HINT = b"provider: no command has these words; bin/provider --help lists the commands\n"
-USAGE = 2, b"usage\n", HINT
+USAGE = 2, b"usage\n", True
 PROGRAM = "crates/provider_cli/out/provider_cli"
 ENDED = "run=ended status=0 runners=1 races=unchecked proved=no"
 
@@ -42,7 +41,7 @@ case $1 in
     ci)
         [ -z "$CHANGES" ] || echo >>"$CHANGES"
         sed 's/[ :].*/ proved/; s/^/rt: /; s/cds_time proved/cds_time is kept: so/' crates.txt
-        for main in provider_cli explain_cli capture_cli picture_cli user_cli; do
+        for main in provider_cli explain_cli capture_cli picture_cli check_cli user_cli; do
             mkdir -p crates/$main/out
             printf '#!/bin/sh\n%s\necho "proved program: $*"\n' "$ECHOES" >crates/$main/out/$main
             chmod +x crates/$main/out/$main
@@ -87,6 +86,12 @@ class Copy:
         running = self.start(words, given, **more)
         output, errors = running.communicate(script, timeout=60)
         return running.returncode, output, errors
+
+    def refused(self, words, **more):
+        """The same, and of standard error whether it is one line of the launcher."""
+        status, output, errors = self.run(words, **more)
+        launcher = more.get("launcher", "bin/provider").split("/")[1].encode()
+        return status, output, errors.startswith(launcher + b": ") and errors.count(b"\n") == 1
 
     def noted(self, name):
         file = self.notes / name
@@ -139,12 +144,12 @@ def words(copy, run, check, outside):
         if line in OWN:
             continue
         is_refused = run(line)[0] == 2
-        found = copy.run(line, given=says)
+        found = copy.refused(line, given=says)
         check(f"launcher, words {line}", (found == USAGE, found[0] == 2), (is_refused,) * 2)
     check("words, an unproved `init` of no path", copy.run([b"init", b""])[0], 1)
     for line in [[], [b"init"], [b"init", b"x", b"y"], [b"init", b"\xff"], [b"rehearse", b"0"]]:
         copy.forget()
-        check(f"launcher, refused {line}", copy.run(line), USAGE)
+        check(f"launcher, refused {line}", copy.refused(line), USAGE)
         check(f"launcher, refused {line}, rt", copy.noted("words"), None)
     with open("/dev/full", "wb") as full:
         check("usage that can't be written", copy.run([], stdout=full)[0], 7)
@@ -272,7 +277,7 @@ def prove(copy, check):
     for line in [[b"drill"], [b"list", b"x y"], [b"rehearse", b"7"]]:
         said = b"proved program: " + b" ".join(line) + b"\n"
         check(f"proved {line}", copy.run(line), (0, said, b""))
-    check("proved, words", copy.run([b"rehearse", b"0"]), USAGE)
+    check("proved, words", copy.refused([b"rehearse", b"0"]), USAGE)
 
 
 def explaining(copy, check):
@@ -296,7 +301,7 @@ def explaining(copy, check):
     shutil.rmtree(Path(path).parent)
     for line in [[b"explain", b"x"], [b"explain", b"raf", b"raf"], [b"prove", b"x"],
                  [b"prove", b"explain", b"x"]]:
-        check(f"launcher, refused {line}", copy.run(line), USAGE)
+        check(f"launcher, refused {line}", copy.refused(line), USAGE)
 
 
 def capturing(copy, check):
@@ -318,7 +323,7 @@ def capturing(copy, check):
     shutil.rmtree(path.parent)
     file.unlink()
     for line in [[b"explain", b"--pcap"], [b"explain", b"--pcap", b"x", b"y"], [b"capture"]]:
-        check(f"launcher, refused {line}", copy.run(line), USAGE)
+        check(f"launcher, refused {line}", copy.refused(line), USAGE)
 
 
 # What stands in front of each line of a script that is run for a picture.
@@ -366,7 +371,7 @@ def drawing(copy, check):
     copy.forget()
     shutil.rmtree(path.parent)
     for line in [[b"picture", b"x"], [b"picture", b""], [b"prove", b"picture", b"x"], [b"Picture"]]:
-        check(f"launcher, refused {line}", copy.run(line), USAGE)
+        check(f"launcher, refused {line}", copy.refused(line), USAGE)
 
 
 def running(copy, check):
@@ -383,9 +388,13 @@ def running(copy, check):
     for place, word in [(1, b"9"), (1, b"1099511627777"), (2, b"0"), (2, b"65537"), (4, b"0"),
                         (4, b"65536"), (6, b"01"), (7, b"+1"), (7, b"")]:
         line = [*words[:place], word, *words[place + 1:]]
-        check(f"launcher, refused {line}", copy.run(line), USAGE)
+        check(f"launcher, refused {line}", copy.refused(line), USAGE)
     for line in [words[:6], [*words, *[b"1"] * 15], [b"prove", b"run"]]:
-        check(f"launcher, refused {line}", copy.run(line), USAGE)
+        check(f"launcher, refused {line}", copy.refused(line), USAGE)
+
+
+def raf_words():
+    return b"raf 1 MOC none sagr=1 none none 2 9".split()
 
 
 def receiving(copy, check):
@@ -394,9 +403,23 @@ def receiving(copy, check):
         return copy.run([*words], launcher="bin/user", **more)
 
     copy.forget()
-    status, output, errors = user(b"show", b"raf")
+    words = raf_words()
+    status, output, errors = user(*words)
     check("unproved user", (status, output, errors.count(b"`bin/user prove`")), (1, b"", 1))
     check("unproved user, rt", copy.noted("words"), None)
+    says = {"SAYS": ENDED, "OUTPUT": "a\nb"}
+    status, output, errors = user(b"show", b"raf", given=says, script=b"x\n")
+    told = [b"NOT PROVED" in line and b"bin/user prove" in line for line in (errors.splitlines()[0], errors.splitlines()[-1])]
+    check("unproved show", (status, output, told), (0, b"a\nb", [True] * 2))
+    where = f"{copy.top}/crates/show_cli try --seconds 600 -- show raf\n"
+    check("unproved show, words", (copy.noted("words"), copy.noted("input")), (where.encode(), b"x\n"))
+    given = {"SAYS": ENDED.replace("0", "5"), "OUTPUT": "bad message 7\n"}
+    status, output, errors = user(b"show", b"raf", given=given)
+    check("unproved show, a bad message", (status, output, b"from 7 on" in errors), (5, b"bad message 7\n", True))
+    given = {"SAYS": "checked: no-answer: the program wrote more\nrun=no-answer proved=no"}
+    status, output, errors = user(b"show", b"raf", given=given)
+    check("unproved show, no answer", (status, output, b"the program wrote more" in errors), (1, b"", True))
+    copy.forget()
     path = copy.top / PROGRAM.replace("provider_cli", "user_cli")
     status, output, errors = user(b"prove")
     check("prove user", (status, output), (0, bytes(path) + b"\n"))
@@ -404,10 +427,12 @@ def receiving(copy, check):
     copy.forget()
     check("prove user again", user(b"prove"), (0, bytes(path) + b"\n", b""))
     check("prove user again, rt", copy.noted("words"), None)
-    for words in [[b"show", b"raf"], [b"prove", b"x"], [b"help", b"x"]]:
-        check(f"proved user {words}", user(*words), (0, b"proved program: " + b" ".join(words) + b"\n", b""))
+    words = [b"show", b"raf"]
+    check(f"proved user {words}", user(*words), (0, b"proved program: " + b" ".join(words) + b"\n", b""))
+    for words in [[b"prove", b"x"], [b"help", b"x"], [b"sho", b"raf"]]:
+        check(f"proved user {words}", copy.refused(words, launcher="bin/user"), USAGE)
     with changed(copy.top / "crates/user_line/src/lib.rt", b"\n"):
-        check("a user of other sources", user(b"show", b"raf")[:2], (1, b""))
+        check("a user of other sources", user(*raf_words())[:2], (1, b""))
     with changed(copy.top / "crates/station_run/src/lib.rt", b"\n"):
         check("a user beside other sources", user(b"show", b"raf")[0], 0)
     shutil.rmtree(path.parent)
@@ -426,50 +451,79 @@ def operating(copy, check):
     copy.forget()
     with socket.create_server(("127.0.0.1", 0)) as station:
         port = {"STATION_STOP": str(station.getsockname()[1])}
-        operator = copy.start([b"stop"], port)
-        peer, _ = station.accept()
-        check("stop, what is asked", peer.recv(9), b"stop\n")
-        peer.sendall(b"stopping\n")
-        time.sleep(0.2)
-        check("stop, until the end", operator.poll(), None)
-        peer.close()
-        check("stop", (*operator.communicate(timeout=60), operator.returncode), (b"stopped\n", b"", 0))
-        operator = copy.start([b"stop"], port)
-        station.accept()[0].close()
-        told = operator.communicate(timeout=60)
-        check("stop, no answer", (told[0], b"no station" in told[1], operator.returncode), (b"", True, 1))
-    for given in [port, {"STATION_STOP": "x"}, {"STATION_STOP": ""}]:
+        stopping(copy, check, station, port)
+    with socket.socket(socket.AF_UNIX) as station:
+        path = {"STATION_STOP": str(copy.top / "stop socket")}
+        station.bind(path["STATION_STOP"])
+        station.listen()
+        stopping(copy, check, station, path)
+    for given in [port, path, {"STATION_STOP": "x"}, {"STATION_STOP": ""}]:
         status, output, errors = copy.run([b"stop"], given=given)
         check(f"stop, {given}", (status, output, errors.count(b"\n")), (1, b"", 1))
     checking(copy, check)
     for line in [[b"stop", b"x"], [b"stop", b""], [b"check"], [b"check", b"x", b"y"], [b"Stop"]]:
-        check(f"launcher, refused {line}", copy.run(line), USAGE)
+        check(f"launcher, refused {line}", copy.refused(line), USAGE)
     check("operating, files", copy.left(), [])
 
 
+def stopping(copy, check, station, place):
+    """How `stop` asks a station at a port or a socket."""
+    operator = copy.start([b"stop"], place)
+    peer, _ = station.accept()
+    check(f"stop, what is asked at {place}", peer.recv(9), b"stop\n")
+    peer.sendall(b"stopping\n")
+    time.sleep(0.2)
+    check(f"stop, until the end, at {place}", operator.poll(), None)
+    peer.close()
+    check(f"stop at {place}", (*operator.communicate(timeout=60), operator.returncode), (b"stopped\n", b"", 0))
+    operator = copy.start([b"stop"], place)
+    station.accept()[0].close()
+    told = operator.communicate(timeout=60)
+    check(f"stop, no answer at {place}", (told[0], b"no station" in told[1], operator.returncode), (b"", True, 1))
+
+
 def checking(copy, check):
-    """`check` has `drill` read a configuration as the head of a script."""
-    copy.forget()
-    echoes = 'cat >"$NOTES/script"; [ -z "$SITE" ] || echo "$SITE"; exit ${ENDS:-0}'
-    copy.run([b"prove"], given={"ECHOES": echoes})
+    """`check` is a program of its own; where the provider alone is proved, `drill` reads the head of a script."""
     file = copy.top / "a b.conf"
+    echoes = {"ECHOES": 'cat >"$NOTES/script"; [ -z "$SITE" ] || echo "$SITE"; exit ${ENDS:-0}'}
+    path = copy.top / PROGRAM.replace("provider_cli", "check_cli")
+    copy.forget()
+    copy.run([b"prove"], given=echoes)
     for text, script in [(b"", b""), (b"x\ny\n", b"x\ny\n"), (b"x\n\ny", b"x\n\ny\n"),
                          (b"x\nend\ny\n", b"x\nend \ny\n"), (b"\xff end\n", b"\xff end\n")]:
         file.write_bytes(text)
-        check(f"check {text}", copy.run([b"check", bytes(file)]), (0, b"valid\n", b""))
-        check(f"check {text}, script", copy.noted("script"), b"site\n" + script + b"end\n")
-    bad = {"SITE": "bad site 3 2", "ENDS": "4"}
-    status, output, errors = copy.run([b"check", bytes(file)], given=bad)
-    check("check, a bad line", (status, output), (4, b"bad site 2 2\n"))
-    check("check, its words", (errors.count(b"\n"), b"line 2 of %s has too few" % bytes(file) in errors),
-          (1, True))
-    for code in [11, 70]:
-        status, output, errors = copy.run([b"check", bytes(file)], given={"ENDS": str(code)})
-        check(f"check, status {code}", (status, output, errors.count(b"\n")), (code, b"", 1))
+        check(f"check by drill, {text}", copy.run([b"check", bytes(file)])[:2], (0, b"valid\n"))
+        check(f"check by drill, {text}, script", copy.noted("script"), b"site\n" + script + b"end\n")
+    checked(copy, check, file, "check by drill", 1)
+    check("prove check", copy.run([b"prove", b"check"], given=echoes)[:2], (0, bytes(path) + b"\n"))
+    for text in [b"", b"x\nend\ny", b"\xff end\n"]:
+        file.write_bytes(text)
+        check(f"check {text}", copy.run([b"check", bytes(file)])[:2], (0, b"valid\n"))
+        check(f"check {text}, input", copy.noted("script"), text)
+    checked(copy, check, file, "check", 0)
+    copy.forget()
+    shutil.rmtree(path.parent)
+    says = {"SAYS": ENDED, "OUTPUT": "valid\n"}
+    status, output, errors = copy.run([b"check", bytes(file)], given=says)
+    check("unproved check", (status, output, b"NOT PROVED" in errors), (0, b"valid\n", True))
+    where = f"{copy.top}/crates/check_cli try --seconds 600 -- check\n"
+    check("unproved check, words", (copy.noted("words"), copy.noted("input")), (where.encode(), file.read_bytes()))
     file.unlink()
     status, output, errors = copy.run([b"check", bytes(file)])
     check("check, no file", (status, output, errors.count(b"can't be read")), (1, b"", 1))
     copy.forget()
+
+
+def checked(copy, check, file, name, before):
+    """How a check ends, by a program that counts so many lines before the file's."""
+    file.write_bytes(b"\nprovider\n")
+    bad = {"SITE": f"bad site {2 + before} 2", "ENDS": "4"}
+    status, output, errors = copy.run([b"check", bytes(file)], given=bad)
+    check(f"{name}, a bad line", (status, output), (4, b"bad site 2 2\n"))
+    check(f"{name}, its words", (errors.count(b"\n"), b"line 2 of %s has too few" % bytes(file) in errors), (1, True))
+    for code in [11, 70]:
+        status, output, errors = copy.run([b"check", bytes(file)], given={"ENDS": str(code)})
+        check(f"{name}, status {code}", (status, output, errors.count(b"\n")), (code, b"", 1))
 
 
 def is_proved(copy):

@@ -68,7 +68,17 @@ def sites(launcher, path):
         check(f"check, {name}", found[:2], (4, told))
         for word in [b"line %d of %s" % (number, bytes(path)), *wanted[1:]]:
             check(f"check, {name}, {word}", word in found[2], True)
-    check("check, a site", run([launcher, "check", TOP / "examples/station.conf"]), (0, b"valid\n", b""))
+    status, output, errors = run([launcher, "check", TOP / "examples/station.conf"])
+    check("check, a site", (status, output), (0, b"valid\n"))
+    for word in [b"2 peers: MOC, SCIENCE", b"6 instances", b"raf=offl1 (SCIENCE)", b"268435456 octets"]:
+        check(f"check, a site, {word}", word in errors, True)
+    for line, said in [("peer MOC bind md5 60 a1b2c3d4e5f6", "word 4 (column 15), `md5`,"),
+                       ("versions 4 10", "word 3 (column 12), `10`,"), ("heartbeat 9 5 2 100", "don't fit each other"),
+                       ("provder GROUND", "did you mean `provider`"), ("capacity", "`capacity N`"),
+                       ("raf sagr=1 NOBODY offline 1 0 60", "word 3 (column 12), `NOBODY`,")]:
+        path.write_text(line + "\n")
+        status, output, errors = run([launcher, "check", path])
+        check(f"check, {line}: {errors}", (status, said.encode() in errors), (4, True))
 
 
 def refusals(provider, launcher):

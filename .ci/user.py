@@ -316,10 +316,22 @@ talk("a bad message", [b"\x09" + bytes(7)], 5, b"bad message 0\n", CONTEXT + BIN
 talk("an abort", [BR, ABORT], 11, b"ok 101\nabort 127\n", CONTEXT + BIND + START)
 talk("a close", [[BR, "close"]], 11, b"ok 101\nclosed\n")
 talk("a reset", [[BR, "reset"]], 8, b"ok 101\nlink fault\n", slow=0.2)
+with tempfile.NamedTemporaryFile() as asking:
+    env = {**os.environ, "USER_END": asking.name}
+    talk("asked to end", [BR, [SR, A1], STOPPED, UNBOUND], 0, LINES.replace(b"end\n", b""), SAID, env=env)
+    talk("asked to end before START is refused", [BR, REFUSED], 3, b"ok 101\nno 1 4\n", CONTEXT + BIND + START, env=env)
+talk("not asked to end", [BR, SR], 10, b"ok 101\nok 1\nturns spent\n", CONTEXT + BIND + START, turns="8",
+     env={**os.environ, "USER_END": "/no/such/file"})
+talk("an address", WHOLE, 0, LINES, SAID, env={**os.environ, "USER_ADDRESS": "127.0.0.1"})
 talk("turns", [BR], 10, b"ok 101\nturns spent\n", CONTEXT + BIND + START, turns="8")
 with socket.create_server(("127.0.0.1", 0)) as listener:
     port = listener.getsockname()[1]
 check("nobody listens", run(raf(port)), (8, b"link fault\n"))
+for address, found in [("127.0.0.2", (8, b"link fault\n")), ("localhost", (2, b"usage\n")), ("", (2, b"usage\n"))]:
+    env = {**os.environ, "USER_ADDRESS": address}
+    check(f"the address {address}", run(raf(port), env=env), found)
+done = subprocess.run([PROGRAM, *raf(port)], env={**os.environ, "USER_ADDRESS": "127.0.0.2"}, capture_output=True)
+check("why nobody is reached", (b"127.0.0.2:%d: " % port in done.stderr, b"refused" in done.stderr.lower()), (True, True))
 provider = Provider(WHOLE)
 with open("/dev/full", "wb") as full:
     done = subprocess.run([PROGRAM, *raf(provider.port)], stdout=full, timeout=PATIENCE)

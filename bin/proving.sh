@@ -5,6 +5,9 @@ out=$top/crates/$main/out
 program=$out/$main
 # What stands beside the program and says of what it was built.
 note=$program.sources
+# What a package has at its top, which has programs and no sources: of which commit and kit it is.
+package=$top/PACKAGE
+[ ! -f "$package" ] || program=$top/programs/$main
 
 say() { printf '%s: %s\n' "$launcher" "$*" >&2; }
 
@@ -73,6 +76,7 @@ is_of_gate() {
 # crates. Its own time is before the last look at them, so that what changed since then shows.
 is_proved() {
     [ -x "$program" ] || return 1
+    [ ! -f "$package" ] || return 0
     sum=
     if [ -f "$note" ]; then
         { read -r sum && read -r crates; } <"$note"
@@ -93,6 +97,7 @@ write_note() {
 }
 
 need_rt() {
+    [ ! -f "$package" ] || refuse "this is a package, which hasn't got that program and can't prove it"
     command -v rt >/dev/null || refuse "there is no rt on the path: the Rattle kit has it"
 }
 

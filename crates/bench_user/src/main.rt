@@ -44,7 +44,7 @@ fn round(alloc: Global) -> Result<Vec<u8>, AllocError> {
 fn print(user: &mut User, octets: &[u8]) -> Result<u64, Memory> {
     let mut printed = 0u64;
     for piece in octets.chunks(PIECE) {
-        let turned = user.turn(0, false, Heard::Octets(piece))?;
+        let turned = user.turn(0, false, false, Heard::Octets(piece))?;
         printed = printed.saturating_add(turned.lines.len() as u64);
     }
     Ok(printed)

@@ -71,12 +71,13 @@ impl Centre {
         Ok(())
     }
 
-    /// Makes a turn with one poll, so many seconds behind 20,000 days.
-    pub fn turn(&mut self, seconds: u32, waits: bool) -> Result<(), Memory> {
+    /// Makes a turn with one poll, so many seconds behind 20,000 days. A block may wait in it, and the
+    /// user may be asked to end.
+    pub fn turn(&mut self, seconds: u32, waits: bool, asked: bool) -> Result<(), Memory> {
         let mut space = [0; 2048];
         let poll = self.link.poll(&mut space);
         let now = moment_of(seconds);
-        let turned = self.user.turn(now, waits, heard_of(poll, &space))?;
+        let turned = self.user.turn(now, waits, asked, heard_of(poll, &space))?;
         self.take(turned)
     }
 

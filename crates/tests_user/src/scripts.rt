@@ -90,6 +90,59 @@ pub const BEATING: &str = "\
 1000120:=| Done
 ";
 
+/// One who is asked to end: while frames come, once is enough; before START's return came, which STOP
+/// waits for; before BIND's; and where STOP was said already.
+pub const ASKED: &str = "\
+0:=CONTEXT, BIND
+1: BR=START| ok 101
+2: SR=| ok 1
+3: A1=| frame 20000/1000/0 0 -1 41 0010a1
+4 asked:=STOP-1
+5: A1=| frame 20000/1000/0 0 -1 41 0010a1
+6: STOPPED-1=UNBIND| ok 3
+7: UNBOUND=| ok 103| Done
+8 asked:=| Done
+new
+0:=CONTEXT, BIND
+1: BR=START| ok 101
+2 asked:=
+3:=
+4: SR=STOP-1| ok 1
+5 asked: STOPPED-1=UNBIND| ok 3
+6 asked: UNBOUND=| ok 103| Done
+new
+0 asked:=CONTEXT, BIND
+1: BR=START| ok 101
+2: SR, A1=STOP-1| ok 1| frame 20000/1000/0 0 -1 41 0010a1
+3: STOPPED-1, UNBOUND=UNBIND| ok 3| ok 103| Done
+new
+0:=CONTEXT, BIND
+1: BR=START| ok 101
+2: SR=| ok 1
+3 asked: EOD=STOP-1| end
+4 asked: EOD=| end
+5: STOPPED-1=UNBIND| ok 3
+6: UNBOUND=| ok 103| Done
+new
+0:=CONTEXT, BIND
+1 asked: BR=START| ok 101
+2 asked: NO-START=| no 1 4| Refused
+";
+
+/// One who only reads, or who sends a telecommand, goes on though it is asked to end.
+pub const ASKED_TO_SHOW: &str = "\
+0 asked: A1=| frame 20000/1000/0 0 -1 41 0010a1
+1 asked: EOD=| end
+2 asked: shut=| Done
+";
+
+pub const ASKED_TO_SEND: &str = "\
+0:=CONTEXT, BIND-CLTU
+1: BR=START-CLTU| ok 101
+2 asked: SF=TRANSFER-7| ok 1
+3 asked:=
+";
+
 /// One who receives good frames of a second.
 pub const SOME: &str = "\
 0:=CONTEXT, BIND

@@ -16,7 +16,7 @@ fn told(alloc: Global, task: &str, first: &[u8], second: &[u8]) -> Result<String
     centre.arrive(alloc, second)?;
     centre.shut();
     for _ in 0..3 {
-        centre.turn(0, false)?;
+        centre.turn(0, false, false)?;
     }
     centre.tell(alloc)
 }

@@ -1,5 +1,6 @@
-// Scripts of turns. A line is the seconds of a turn's moment, with `waits` where a block waits, `:`,
-// the messages that come, `=` and what is told of the turn. With `shut` the provider closes.
+// Scripts of turns. A line is the seconds of a turn's moment, with `waits` where a block waits or
+// `asked` where the user is asked to end, `:`, the messages that come, `=` and what is told of the
+// turn. With `shut` the provider closes.
 use crate::centre::Centre;
 use crate::messages::octets_of;
 use crate::scripts;
@@ -7,20 +8,20 @@ use crate::texts::text_of;
 use std::alloc::Global;
 use std::test::Fail;
 
-// The seconds of a turn, and whether a block waits.
-fn when_of(words: &str) -> (u32, bool) {
-    let (seconds, waits) = words.split_once(' ').unwrap_or((words, ""));
-    (seconds.parse().unwrap_or(0), waits == "waits")
+// The seconds of a turn, and what else is so in it.
+fn when_of(words: &str) -> (u32, &str) {
+    let (seconds, so) = words.split_once(' ').unwrap_or((words, ""));
+    (seconds.parse().unwrap_or(0), so)
 }
 
 // What is told of a turn to which messages came.
 fn told(alloc: Global, centre: &mut Centre, when: &str, messages: &str) -> Result<String, Fail> {
-    let (seconds, waits) = when_of(when);
+    let (seconds, so) = when_of(when);
     match messages.trim() {
         "shut" => centre.shut(),
         _ => centre.arrive(alloc, octets_of(alloc, messages)?.as_slice())?,
     }
-    centre.turn(seconds, waits)?;
+    centre.turn(seconds, so == "waits", so == "asked")?;
     centre.tell(alloc)
 }
 
@@ -57,10 +58,13 @@ fn wrong_line_of<'a>(alloc: Global, task: &str, scripts: &'a str) -> Result<Opti
 }
 
 // A task and its scripts.
-const SCRIPTS: [(&str, &str); 9] = [
+const SCRIPTS: [(&str, &str); 12] = [
     ("show-raf", scripts::SHOWN),
     ("raf", scripts::RAF),
     ("raf", scripts::BEATING),
+    ("raf", scripts::ASKED),
+    ("show-raf", scripts::ASKED_TO_SHOW),
+    ("cltu-1", scripts::ASKED_TO_SEND),
     ("raf-some", scripts::SOME),
     ("cltu-0", scripts::NO_CLTU),
     ("cltu-1", scripts::ONE_CLTU),

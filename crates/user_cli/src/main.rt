@@ -3,15 +3,21 @@
 // The words are those of `user_words`; other words are `usage`. Where PASS is `file`, the word is the
 // first line of the file that the environment's USER_PASS_FILE names, so that no password stands
 // among the words of a process. `user_service` says what is done and how it ends; here the connection
-// is made, at the loopback, where the words ask for one.
+// is made where the words ask for one, at the address that USER_ADDRESS names, or else at the loopback.
+// One that can't be made is told on standard error, with the system's reason. A user that receives
+// frames is asked to end once the file that USER_END names is there.
 #![tactic(auto)]
 
+mod end_file;
+
+use crate::end_file::EndFile;
 use bell::Waiter;
 use cds_time::{MachineTime, SystemClock};
 use octet_core::{ReaderSource, WriterSink};
 use std::alloc::{AllocError, Global};
-use std::env::Args;
-use std::net::{Ipv4Addr, SocketAddr, TcpStream};
+use std::env::{Args, VarError};
+use std::io::Eprint;
+use std::net::{IpAddr, Ipv4Addr, SocketAddr, TcpStream};
 use std::process::ExitCode;
 use std::random::RandomSource;
 use std::time::Duration;
@@ -79,33 +85,75 @@ fn run(rt: &HostRuntime, alloc: Global, words: &[String]) -> Result<u8, AllocErr
     for word in words {
         texts.push(word.as_str())?;
     }
-    let link = link_of(rt, alloc, texts.as_slice())?;
+    let Some(address) = address_of(rt) else {
+        let _ = rt.eprintln("USER_ADDRESS is no address; 192.0.2.7 or 2001:db8::7 is one");
+        texts.clear();
+        return serve(rt, alloc, texts.as_slice(), IpAddr::V4(Ipv4Addr::LOCALHOST));
+    };
+    serve(rt, alloc, texts.as_slice(), address)
+}
+
+// Does what the words ask for, with a station at this address.
+fn serve(
+    rt: &HostRuntime,
+    alloc: Global,
+    words: &[&str],
+    address: IpAddr,
+) -> Result<u8, AllocError> {
+    let link = link_of(rt, alloc, words, address)?;
     let mut kit = UserKit {
         input: ReaderSource::new(rt.reader()),
         output: WriterSink::new(io::writer(rt)),
         link,
         clock: SystemClock::new(MachineTime(rt)),
+        end: EndFile::new(rt, env::var(rt, "USER_END").ok()),
         draw: draw_of(rt),
     };
-    let ending = use_service(alloc, texts.as_slice(), &mut kit);
+    let ending = use_service(alloc, words, &mut kit);
     if let Some(link) = &mut kit.link {
         link.finish();
     }
     Ok(ending.code())
 }
 
+// The address of the station: what USER_ADDRESS names, or else the loopback's; none where it is none.
+fn address_of(rt: &HostRuntime) -> Option<IpAddr> {
+    match env::var(rt, "USER_ADDRESS") {
+        Ok(text) => text.parse::<IpAddr>().ok(),
+        Err(VarError::NotPresent) => Some(IpAddr::V4(Ipv4Addr::LOCALHOST)),
+        Err(_) => None,
+    }
+}
+
 // The connection that the words ask for, where it can be made.
-fn link_of(rt: &HostRuntime, alloc: Global, words: &[&str]) -> Result<Option<TcpLink>, AllocError> {
+fn link_of(
+    rt: &HostRuntime,
+    alloc: Global,
+    words: &[&str],
+    address: IpAddr,
+) -> Result<Option<TcpLink>, AllocError> {
     match Plan::read(alloc, words) {
-        Ok(Some(Plan::Talk { port, .. })) => Ok(connect(rt, alloc, port).ok()),
+        Ok(Some(Plan::Talk { port, .. })) => Ok(told(rt, alloc, SocketAddr::from((address, port)))),
         Ok(_) => Ok(None),
         Err(_) => Err(AllocError),
     }
 }
 
-fn connect(rt: &HostRuntime, alloc: Global, port: u16) -> io::Result<TcpLink> {
-    let address = SocketAddr::from((Ipv4Addr::LOCALHOST, port));
-    let stream = TcpStream::connect(rt, address)?;
+// The connection to a station; one that can't be made is told.
+fn told(rt: &HostRuntime, alloc: Global, station: SocketAddr) -> Option<TcpLink> {
+    match connect(rt, alloc, station) {
+        Ok(link) => Some(link),
+        Err(error) => {
+            if let Ok(line) = format!(in alloc; "{station}: {error}") {
+                let _ = rt.eprintln(line.as_str());
+            }
+            None
+        }
+    }
+}
+
+fn connect(rt: &HostRuntime, alloc: Global, station: SocketAddr) -> io::Result<TcpLink> {
+    let stream = TcpStream::connect(rt, station)?;
     TcpLink::new(
         alloc,
         stream,

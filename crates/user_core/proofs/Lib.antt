@@ -4,3 +4,4 @@ pub mod Rests
 pub mod Spoken
 pub mod Steps
 pub mod Turns
+pub mod Asked

@@ -1,7 +1,7 @@
 -- What a user says over turns.
 use Rattle.std.proofs.Common.{◌≡◌, ◌⊎◌, inl, inr, ℕ, ◌+◌, ◌==◌, Bool, true, false, Option, Some}
 use Rattle.std.proofs.Common.{None, List, [], ◌∷◌, ◌++◌, refl, sym, ap, subst, ◌∙◌, append_assoc, append-nil}
-use Rattle.std.specs.Prelude.{if◌then◌else◌, is_some, length}
+use Rattle.std.specs.Prelude.{if◌then◌else◌, is_some, length, ◌&&◌}
 use Rattle.isp1_tml.specs.Fault.{capped}
 use Rattle.isp1_auth.specs.Numbers.{next_number}
 use Rattle.isp1_tml.specs.Message.{Content, spelling, heartbeat}
@@ -17,10 +17,10 @@ use Rattle.user_core.specs.declared.event.Event.TheVariants.{Nothing, Returned, 
 use Rattle.user_core.specs.declared.event.Event.TheVariants.{EndOfData, Aborted}
 use Rattle.user_core.specs.Event.{event_of}
 use Rattle.user_core.specs.Course.{is_over, rests, after, answered, aborted, closes, finished_by}
-use Rattle.user_core.specs.Course.{is_awaited, has_begun, was_last, may_say}
+use Rattle.user_core.specs.Course.{is_awaited, has_begun, was_last, may_say, receives}
 use Rattle.user_core.specs.Dialogue.{Talk, front_of, message_said, said_to, next_said, went_on, told_to}
 use Rattle.user_core.specs.Dialogue.{heard, heard_by, refused_at, closed_by, opened}
-use Rattle.user_core.specs.Dialogue.{begun, beats, beating, bad_at}
+use Rattle.user_core.specs.Dialogue.{begun, beats, beating, bad_at, asked_to, in_course}
 use Rattle.user_core.specs.Hearing.{Kept, Hearing, nothing, came, ended, heard_all, heard_in, unread_in}
 use Rattle.user_core.specs.Turn.{Standing, talk_of, talk_in, new_user}
 use Rattle.user_core.specs.Laws.{Utterance, invoked, beaten, octets_by, octets_said, place_after}
@@ -216,6 +216,15 @@ opened_grows task now d =
     if_grows task d (went_on task now d) d (d.course.said == 0) (went_grows task now d)
     (same_said task d)
 
+asked_grows : (task : Task) (asked : Bool) (now : ℕ) (d : Talk)
+    → Grows task d (asked_to task asked now d)
+unfolding asked_to
+asked_grows task asked now d =
+    let e = in_course (closes true d.course) d in
+    if_grows task d (went_on task now e) d (asked && receives task.work)
+    (joins task d e (went_on task now e) (stays task d e refl refl refl) (went_grows task now e))
+    (same_said task d)
+
 beating_grows : (task : Task) (now : ℕ) (d : Talk) → Grows task d (beating now d)
 unfolding beating
 beating_grows task now d =
@@ -235,15 +244,18 @@ begun_grows : (task : Task) (waits : Bool) (now : ℕ) (s : Standing)
 begun_grows task waits now s =
     stays task (talk_of s) (begun waits now (talk_of s)) refl refl refl
 
-turn_grows : (task : Task) (waits : Bool) (now : ℕ) (s : Standing) (h : Hearing)
-    → Grows task (talk_of s) (talk_in task waits now (talk_of s) s.stream h)
-turn_grows task waits now s h =
+turn_grows : (task : Task) (waits asked : Bool) (now : ℕ) (s : Standing) (h : Hearing)
+    → Grows task (talk_of s) (talk_in task waits asked now (talk_of s) s.stream h)
+turn_grows task waits asked now s h =
     let a = begun waits now (talk_of s) in
-    let b = opened task now a in
+    let o = opened task now a in
+    let b = asked_to task asked now o in
     let c = heard_in task now s.stream h b in
     joins task (talk_of s) c (beating now c)
     (joins task (talk_of s) b c
-    (joins task (talk_of s) a b (begun_grows task waits now s) (opened_grows task now a))
+    (joins task (talk_of s) o b
+    (joins task (talk_of s) a o (begun_grows task waits now s) (opened_grows task now a))
+    (asked_grows task asked now o))
     (in_grows task now s.stream h b))
     (beating_grows task now c)
 
@@ -262,7 +274,7 @@ turn_says s t = by (is_over s.course) refl
       says = rw is (record { said = []; octets_are = refl; place_is = refl; latest_is = refl });
     }
     by false is =
-        let g = turn_grows s.task t.waits t.now s t.hearing in
+        let g = turn_grows s.task t.waits t.asked t.now s t.hearing in
         record {
           task = rw is refl;
           says = rw is (record {

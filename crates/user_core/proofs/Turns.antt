@@ -17,9 +17,9 @@ use Rattle.user_lines.specs.Lines.{lines_of, bad_line}
 use Rattle.user_lines.specs.Shown.{Shown, shown, shown_by, shown_of}
 use Rattle.user_task.specs.declared.task.Task.{Task}
 use Rattle.user_task.specs.Work.{is_show, service_of}
-use Rattle.user_core.specs.Course.{is_over}
+use Rattle.user_core.specs.Course.{is_over, closes, receives}
 use Rattle.user_core.specs.Dialogue.{Talk, went_on, opened, begun, beats, beating, closed_at}
-use Rattle.user_core.specs.Dialogue.{closed_by}
+use Rattle.user_core.specs.Dialogue.{closed_by, asked_to, in_course}
 use Rattle.user_core.specs.Hearing.{Kept, Hearing, nothing, came, ended, unread_in}
 use Rattle.user_core.specs.Hearing.{place_behind, heard_in, stream_in}
 use Rattle.user_core.specs.Turn.{Standing, talk_of, standing_of, new_user}
@@ -405,6 +405,13 @@ module _ (each : EachIsRead) (out : WorkedOut) (on : GoingOn) (stay : RefusedFor
   opened_lines task now d =
       if_lines d (went_on task now d) d (d.course.said == 0) (went_lines task now d) refl
 
+  asked_lines : (task : Task) (asked : Bool) (now : ℕ) (d : Talk)
+      → (asked_to task asked now d).lines ≡ d.lines
+  unfolding asked_to
+  asked_lines task asked now d =
+      let e = in_course (closes true d.course) d in
+      if_lines d (went_on task now e) d (asked && receives task.work) (went_lines task now e) refl
+
   -- who is over prints nothing, and stays so
   over_prints : (s : Standing) (turns : List Turn) → is_over s.course ≡ true
       → (printed s turns ≡ []) × (after_turns s turns ≡ s)
@@ -434,11 +441,13 @@ module _ (each : EachIsRead) (out : WorkedOut) (on : GoingOn) (stay : RefusedFor
 
   one_turn : (s : Standing) (t : Turn) (turns : List Turn) → is_over s.course ≡ false
       → Settled s.stream → AreOctets (s.stream.rest ++ octets_in (t ∷ turns)) → Turned s t turns
-  one_turn s t turns is settled o =
-      let d = opened s.task t.now (begun t.waits t.now (talk_of s)) in
+  one_turn s t turns is settled octets =
+      let b = begun t.waits t.now (talk_of s) in
+      let o = opened s.task t.now b in
+      let d = asked_to s.task t.asked t.now o in
       let e = heard_in s.task t.now s.stream t.hearing d in
       let h = any_heard s.task t.now s.stream t.hearing (octets_in turns) (ends_in turns) d
-      (opened_lines s.task t.now (begun t.waits t.now (talk_of s))) settled o in
+      (asked_lines s.task t.asked t.now o ∙ opened_lines s.task t.now b) settled octets in
       let after : after_turn s t
       ≡ standing_of s.task (beating t.now e) (stream_in s.stream t.hearing) = rw is refl in
       let lines : (answer_in s t).lines ≡ (beating t.now e).lines = rw is refl in

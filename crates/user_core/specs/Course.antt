@@ -6,7 +6,7 @@ use Rattle.user_lines.specs.declared.tag.Tag.TheVariants as tag
 use Rattle.user_lines.specs.Tag.{number_of}
 use Rattle.user_task.specs.declared.cltus.CltuLine.{CltuLine}
 use Rattle.user_task.specs.declared.work.Work.{Work}
-use Rattle.user_task.specs.declared.work.Work.TheVariants.{Cltu}
+use Rattle.user_task.specs.declared.work.Work.TheVariants.{Show, Raf, Rcf, Cltu}
 use Rattle.user_task.specs.Invocation.{Said, bind, start, transfer, stop, unbind}
 use Rattle.user_task.specs.Work.{is_show, cltus_of}
 use Rattle.user_core.specs.declared.course.Awaited.{Awaited}
@@ -81,6 +81,13 @@ after work Halted c = closes (has_begun c.said) c
 after work EndOfData c = closes (has_begun c.said) c
 after work (Emptied last_ok) c = closes (was_last (cltus_of work) c.said last_ok) c
 after work Aborted c = aborted (is_show work) c
+
+-- it receives frames, and ends once it is asked to
+abbrev pub receives : Work → Bool
+receives (Show service) = false
+receives (Raf from to quality) = true
+receives (Rcf from to channel) = true
+receives (Cltu first cltus) = false
 
 -- ---- what is said
 

@@ -15,7 +15,7 @@ use Rattle.user_core.specs.declared.course.Course.{Course}
 use Rattle.user_core.specs.declared.status.Status.{Status}
 use Rattle.user_core.specs.declared.status.Status.TheVariants.{Done, BadMessage, PeerEnded}
 use Rattle.user_core.specs.Course.{first_course, is_over, rests, ended, after, may_say, invoke_at}
-use Rattle.user_core.specs.Course.{said_course, finished}
+use Rattle.user_core.specs.Course.{said_course, finished, closes, receives}
 use Rattle.user_core.specs.Event.{event_of}
 
 -- where the task stands, the number of the latest credentials, the heartbeat, and what the turn
@@ -135,6 +135,12 @@ begun waits now d =
 -- a turn before which nothing was said says BIND
 unfoldable pub opened : Task → ℕ → Talk → Talk
 opened task now d = if d.course.said == 0 then went_on task now d else d
+
+-- who receives frames and is asked to end says STOP as behind the end of the data: once START's
+-- return came
+unfoldable pub asked_to : Task → Bool → ℕ → Talk → Talk
+asked_to task asked now d =
+    if asked && receives task.work then went_on task now (in_course (closes true d.course) d) else d
 
 -- nothing was sent for the interval
 abbrev pub is_due : Pulse → ℕ → Bool

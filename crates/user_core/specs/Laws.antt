@@ -1,6 +1,7 @@
 -- What holds of every user, over every list of turns.
 use Rattle.std.specs.Prelude.{◌≡◌, ◌⊎◌, ℕ, ◌+◌, ◌<◌, Bool, true, false, not, ◌&&◌, Option, Some}
 use Rattle.std.specs.Prelude.{None, List, [], ◌∷◌, ◌++◌, slice_index}
+use Rattle.std.specs.List.{list_any}
 use Rattle.isp1_auth.specs.Numbers.{first_number, next_number}
 use Rattle.isp1_tml.specs.Message.{Content, spelling, heartbeat}
 use Rattle.isp1_tml.specs.Unread.{Unread}
@@ -10,7 +11,7 @@ use Rattle.user_task.specs.Invocation.{Said, invocation_at}
 use Rattle.user_task.specs.Work.{service_of, is_show}
 use Rattle.user_lines.specs.Lines.{bad_line}
 use Rattle.user_lines.specs.Shown.{Shown, shown, shown_of}
-use Rattle.user_core.specs.Course.{is_over}
+use Rattle.user_core.specs.Course.{is_over, rests, receives}
 use Rattle.user_core.specs.Dialogue.{Talk, front_of, message_said, heard}
 use Rattle.user_core.specs.Hearing.{Kept, Hearing, nothing, came, ended, unread_in, heard_all}
 use Rattle.user_core.specs.Turn.{Standing, Answer, new_user, turned, answered}
@@ -60,14 +61,15 @@ pub record Says (task : Task) (place latest to latest_to : ℕ) (octets : List �
 
 pub record Turn : Type 0 where
   pub waits : Bool
+  pub asked : Bool
   pub now : ℕ
   pub hearing : Hearing
 
 abbrev pub after_turn : Standing → Turn → Standing
-after_turn s t = turned s t.waits t.now t.hearing
+after_turn s t = turned s t.waits t.asked t.now t.hearing
 
 abbrev pub answer_in : Standing → Turn → Answer
-answer_in s t = answered s t.waits t.now t.hearing
+answer_in s t = answered s t.waits t.asked t.now t.hearing
 
 abbrev pub after_turns : Standing → List Turn → Standing
 after_turns s [] = s
@@ -100,6 +102,15 @@ abbrev pub OneAnswer : Type 0
 OneAnswer =
     (task : Task) (now place : ℕ) (d : Talk) (m : Content)
     → AnswersOnce task now d (heard task now place d m)
+
+-- One who receives frames and was asked to end awaits a return behind each turn from then on, until
+-- it is over: it says what comes next as soon as a return came, STOP behind START's and UNBIND behind
+-- STOP's.
+abbrev pub EndsWhenAsked : Type 0
+EndsWhenAsked =
+    (task : Task) (turns : List Turn) → receives task.work ≡ true
+    → list_any (λ (t : Turn). t.asked) turns ≡ true
+    → rests (after_turns (new_user task) turns).course ≡ true
 
 -- A user that is over offers and prints nothing, and stays so.
 pub record StaysOver (s : Standing) (t : Turn) : Type 0 where

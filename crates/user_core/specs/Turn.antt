@@ -6,7 +6,7 @@ use Rattle.user_core.specs.declared.course.Course.{Course}
 use Rattle.user_core.specs.declared.status.Status.{Status}
 use Rattle.user_core.specs.declared.user.Turned.{Turned}
 use Rattle.user_core.specs.Course.{is_over}
-use Rattle.user_core.specs.Dialogue.{Talk, first_dialogue, begun, opened, beating}
+use Rattle.user_core.specs.Dialogue.{Talk, first_dialogue, begun, opened, asked_to, beating}
 use Rattle.user_core.specs.Hearing.{Kept, no_stream, Hearing, heard_in, stream_in}
 
 -- between two turns: where the task stands, the number of the latest credentials, the heartbeat,
@@ -49,22 +49,25 @@ standing_of task d k = record {
 abbrev pub new_user : Task → Standing
 new_user task = standing_of task (first_dialogue task.draw) no_stream
 
--- a turn opens where nothing was said before, hears what came, and beats where it is time
-abbrev pub talk_in : Task → Bool → ℕ → Talk → Kept → Hearing → Talk
-talk_in task waits now d k h =
-    beating now (heard_in task now k h (opened task now (begun waits now d)))
+-- a turn opens where nothing was said before, closes where the user is asked to end, hears what
+-- came, and beats where it is time
+abbrev pub talk_in : Task → Bool → Bool → ℕ → Talk → Kept → Hearing → Talk
+talk_in task waits asked now d k h =
+    beating now
+    (heard_in task now k h (asked_to task asked now (opened task now (begun waits now d))))
 
 -- the user behind a turn; one that is over stays as it is
-abbrev pub turned : Standing → Bool → ℕ → Hearing → Standing
-turned s waits now h =
+abbrev pub turned : Standing → Bool → Bool → ℕ → Hearing → Standing
+turned s waits asked now h =
     if is_over s.course then s
-    else standing_of s.task (talk_in s.task waits now (talk_of s) s.stream h) (stream_in s.stream h)
+    else standing_of s.task (talk_in s.task waits asked now (talk_of s) s.stream h)
+    (stream_in s.stream h)
 
 abbrev pub said_in : Talk → Answer
 said_in d = record { offer = d.offer; lines = d.lines; status = d.course.status }
 
 -- and offers and prints nothing
-abbrev pub answered : Standing → Bool → ℕ → Hearing → Answer
-answered s waits now h =
+abbrev pub answered : Standing → Bool → Bool → ℕ → Hearing → Answer
+answered s waits asked now h =
     if is_over s.course then record { offer = []; lines = []; status = s.course.status }
-    else said_in (talk_in s.task waits now (talk_of s) s.stream h)
+    else said_in (talk_in s.task waits asked now (talk_of s) s.stream h)

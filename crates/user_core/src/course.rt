@@ -3,7 +3,7 @@ ghost use Rattle.std.specs.Prelude.{◌≡◌, ◌+◌, ◌<◌, ◌^◌};
 ghost use Rattle.user_task.specs.Invocation.{said_of};
 ghost use Rattle.user_core.specs.Course.{first_course, is_over, rests, has_begun, ends_in, was_last};
 ghost use Rattle.user_core.specs.Course.{same_invoke, is_awaited, answered, closes, aborted, ended, after};
-ghost use Rattle.user_core.specs.Course.{may_say, finished, awaited_of, said_course, invoke_at, has_no_cltu};
+ghost use Rattle.user_core.specs.Course.{may_say, finished, awaited_of, said_course, invoke_at, has_no_cltu, receives};
 
 use crate::event::Event;
 use crate::status::Status;
@@ -87,7 +87,7 @@ impl Course {
         }
     }
 
-    fn closes(self, came: bool) -> Course
+    pub(crate) fn closes(self, came: bool) -> Course
         ensures { result ≡ closes came self }
     {
         if came {
@@ -207,6 +207,13 @@ impl Course {
             self.ended(Status::Done)
         }
     }
+}
+
+// Whether the work is to receive frames, which ends once it is asked to.
+pub(crate) fn receives(work: &Work) -> bool
+    ensures { result ≡ receives work.now }
+{
+    matches!(work, Work::Raf { .. } | Work::Rcf { .. })
 }
 
 // Whether the work is to send telecommands, and there are none.

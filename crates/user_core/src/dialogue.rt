@@ -7,10 +7,10 @@ ghost use Rattle.user_core.specs.declared.status.Status.TheVariants as Status;
 ghost use Rattle.user_task.specs.Fitting.{fits_task, fits_said};
 ghost use Rattle.user_task.specs.Invocation.{said_of};
 ghost use Rattle.user_core.specs.Dialogue.{first_dialogue, begun, opened, heard, told_to};
-ghost use Rattle.user_core.specs.Dialogue.{went_on, said_to, greeted, spoken};
+ghost use Rattle.user_core.specs.Dialogue.{went_on, said_to, greeted, spoken, asked_to};
 ghost use Rattle.user_core.specs.Dialogue.{bad_at, closed_at, beating, is_due, ended_by, refused_at};
 
-use crate::course::Course;
+use crate::course::{Course, receives};
 use crate::event::Event;
 use crate::status::Status;
 use cds_time::MOMENT_END;
@@ -93,6 +93,26 @@ impl Dialogue {
         } else {
             Ok(())
         }
+    }
+
+    // Says STOP where the user is asked to end, and its time has come.
+    #[tactic(auto, unfolding(crate::specs::Dialogue::asked_to))]
+    pub(crate) fn ask(
+        &mut self,
+        alloc: Global,
+        task: &Task,
+        asked: bool,
+        now: u128,
+    ) -> Result<(), AllocError>
+        requires fits { IsTrue (fits_task task.now) }
+        requires moment { now < MOMENT_END }
+        ensures { OnOk result (self.new ≡ asked_to task.now asked now self.old) }
+    {
+        if !asked || !receives(&task.work) {
+            return Ok(());
+        }
+        self.course = self.course.closes(true);
+        self.go_on(alloc, task, now)
     }
 
     // Hears a message at this place of the stream.

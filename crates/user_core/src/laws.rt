@@ -1,5 +1,5 @@
 // What holds of every user. A law's function does nothing: its contract is the law.
-ghost use Rattle.user_core.specs.Laws.{OffersInOrder, OneAnswer, EndsForGood, PrintsInOrder};
+ghost use Rattle.user_core.specs.Laws.{OffersInOrder, OneAnswer, EndsForGood, PrintsInOrder, EndsWhenAsked};
 ghost use Rattle.user_core.specs.Laws.{LinesInOrder};
 
 use isp1_tml::laws as stream;
@@ -16,6 +16,13 @@ pub fn offers_in_order()
 #[tactic(auto, using(crate::proofs::Spoken::one_answer))]
 pub fn one_answer()
     ensures { OneAnswer }
+{}
+
+/// One who receives frames and was asked to end awaits a return from then on, until it is over: so
+/// it says STOP once START's return came, and UNBIND once STOP's did.
+#[tactic(auto, using(crate::proofs::Asked::ends_when_asked))]
+pub fn ends_when_asked()
+    ensures { EndsWhenAsked }
 {}
 
 /// Behind its end a user offers nothing and prints nothing, whatever it hears.

@@ -71,13 +71,21 @@ impl User {
 
     /// Hears what came by `now`, a moment in picoseconds since 1958-01-01, and answers what is to be
     /// offered and printed, and how the user ended, once it has. `waits` says that an earlier block
-    /// isn't taken yet and is offered again in this turn: then no heartbeat is due. Where memory is
-    /// refused the user ends.
-    pub fn turn(&mut self, now: u128, waits: bool, heard: Heard<'_>) -> Result<Turned, Memory>
+    /// isn't taken yet and is offered again in this turn: then no heartbeat is due. One who receives
+    /// frames and is `asked` to end says STOP once START's return came, and UNBIND once STOP's did.
+    /// Where memory is refused the user ends.
+    pub fn turn(
+        &mut self,
+        now: u128,
+        waits: bool,
+        asked: bool,
+        heard: Heard<'_>,
+    ) -> Result<Turned, Memory>
         requires { now < MOMENT_END }
-        ensures state { OnOk result (self.new ≡ turned self.old waits now (hearing_of heard.entry)) }
+        ensures state { OnOk result (self.new
+            ≡ turned self.old waits asked now (hearing_of heard.entry)) }
         ensures answer { IfOk result (λ t. answer_of t
-            ≡ answered self.old waits now (hearing_of heard.entry)) }
+            ≡ answered self.old waits asked now (hearing_of heard.entry)) }
         ensures memory { OnErr result (self.new.course.status ≡ Some Status.OutOfMemory) }
     {
         if let Some(status) = self.dialogue.status() {
@@ -93,7 +101,7 @@ impl User {
             dialogue,
             stream,
         } = self;
-        match run(*alloc, task, dialogue, stream, now, waits, heard) {
+        match run(*alloc, task, dialogue, stream, now, waits, asked, heard) {
             Ok(()) => {
                 let (offer, lines) = dialogue.take(*alloc);
                 let status = dialogue.status();
@@ -119,16 +127,18 @@ fn run(
     stream: &mut Stream,
     now: u128,
     waits: bool,
+    asked: bool,
     heard: Heard<'_>,
 ) -> Result<(), AllocError>
     requires fits { IsTrue (fits_task task.now) }
     requires moment { now < MOMENT_END }
     ensures talk { OnOk result (dialogue.new
-        ≡ talk_in task.now waits now dialogue.old stream.old (hearing_of heard.entry)) }
+        ≡ talk_in task.now waits asked now dialogue.old stream.old (hearing_of heard.entry)) }
     ensures stream { OnOk result (stream.new ≡ stream_in stream.old (hearing_of heard.entry)) }
 {
     dialogue.begin(waits, now);
     dialogue.open(alloc, task, now)?;
+    dialogue.ask(alloc, task, asked, now)?;
     hear(alloc, task, dialogue, stream, now, heard)?;
     dialogue.beat(now)
 }

@@ -1,6 +1,6 @@
 -- A user that is done has said all its invocations, and awaits no return; and behind the last of them it
 -- awaits that of UNBIND.
-use Rattle.std.proofs.Common.{◌≡◌, ◌⊎◌, inl, inr, ℕ, zero, suc, ◌+◌, ◌==◌, Bool, true, false, ◌||◌}
+use Rattle.std.proofs.Common.{◌≡◌, ◌⊎◌, inl, inr, ℕ, zero, suc, ◌+◌, ◌==◌, Bool, true, false, ◌||◌, ◌&&◌}
 use Rattle.std.proofs.Common.{if◌then◌else◌, is_some, Option, Some, None, List, [], ◌∷◌, ◌++◌, map}
 use Rattle.std.proofs.Common.{length, refl, ap, sym, subst, ◌∙◌, append_assoc, arith}
 use Rattle.isp1_tml.specs.Fault.{capped}
@@ -13,9 +13,9 @@ use Rattle.user_core.specs.declared.event.Event.TheVariants.{EndOfData, Aborted}
 use Rattle.user_core.specs.declared.status.Status.{Status}
 use Rattle.user_core.specs.declared.status.Status.TheVariants.{Done}
 use Rattle.user_core.specs.Course.{is_over, rests, after, answered, aborted, closes, finished_by}
-use Rattle.user_core.specs.Course.{is_awaited, has_begun, was_last, may_say, awaited_of, invoke_at}
+use Rattle.user_core.specs.Course.{is_awaited, has_begun, was_last, may_say, awaited_of, invoke_at, receives}
 use Rattle.user_core.specs.Dialogue.{Talk, said_to, next_said, went_on, told_to, heard, heard_by}
-use Rattle.user_core.specs.Dialogue.{refused_at, closed_by, opened, begun, beats, beating, bad_at}
+use Rattle.user_core.specs.Dialogue.{refused_at, closed_by, opened, begun, beats, beating, bad_at, asked_to, in_course}
 use Rattle.user_core.specs.Event.{event_of}
 use Rattle.user_core.specs.Hearing.{Kept, Hearing, nothing, came, ended, heard_all, heard_in, unread_in}
 use Rattle.user_core.specs.Laws.{Turn, after_turn, after_turns}
@@ -257,6 +257,19 @@ opened_fine task now d invokes f =
     if_fine task.work (went_on task now d) d (d.course.said == 0)
     (went_fine task now d invokes (half_of task.work d.course f)) f
 
+-- to end is asked of one who isn't done
+pub closing_fine : (work : Work) (c : Course) → Fine work c → Fine work (closes true c)
+closing_fine work c f = record { fine = f.fine; last = f.last }
+
+pub asked_fine : (task : Task) (asked : Bool) (now : ℕ) (d : Talk) → is_show task.work ≡ false
+    → Fine task.work d.course → Fine task.work (asked_to task asked now d).course
+unfolding asked_to
+asked_fine task asked now d invokes f =
+    let e = in_course (closes true d.course) d in
+    if_fine task.work (went_on task now e) d (asked && receives task.work)
+    (went_fine task now e invokes
+    (half_of task.work (closes true d.course) (closing_fine task.work d.course f))) f
+
 beating_fine : (work : Work) (now : ℕ) (d : Talk) → Fine work d.course
     → Fine work (beating now d).course
 unfolding beating
@@ -280,14 +293,16 @@ turn_fine s t invokes f = by (is_over s.course) refl
     by true is = record { task = rw is refl; fine = rw is f }
     by false is =
         let a = begun t.waits t.now (talk_of s) in
-        let b = opened s.task t.now a in
+        let o = opened s.task t.now a in
+        let b = asked_to s.task t.asked t.now o in
         let c = heard_in s.task t.now s.stream t.hearing b in
         record {
           task = rw is refl;
           fine = rw is
               (beating_fine s.task.work t.now c
               (in_fine s.task t.now s.stream t.hearing b invokes
-              (opened_fine s.task t.now a invokes f)));
+              (asked_fine s.task t.asked t.now o invokes
+              (opened_fine s.task t.now a invokes f))));
         }
 
 turns_fine : (task : Task) (s : Standing) (turns : List Turn) → s.task ≡ task

@@ -1,6 +1,6 @@
 -- What the polls of a talk gave is what its user has heard.
 use Rattle.std.proofs.Common.{◌≡◌, ℕ, ◌+◌, Bool, true, false, is_some}
-use Rattle.std.proofs.Common.{Option, Some, None, List, [], ◌∷◌, ◌++◌, length, refl, ap, sym, subst}
+use Rattle.std.proofs.Common.{Option, Some, None, List, [], ◌∷◌, ◌++◌, length, map, refl, ap, sym, subst}
 use Rattle.std.proofs.Common.{◌∙◌, append_assoc, append-nil, length-append, arith}
 use Rattle.std.proofs.lemmas.Bool.{and_parts}
 use Rattle.std.proofs.lemmas.Grind.{flat_map-append}
@@ -11,25 +11,27 @@ use Rattle.link_model.specs.declared.call.Heard.{Heard}
 use Rattle.link_model.specs.declared.call.Heard.TheVariants as heard
 use Rattle.link_model.specs.Calls.{octets_heard, octets_handed, blocks_in, block_in, polls_in, poll_in}
 use Rattle.link_model.specs.Calls.{arrived_at}
+use Rattle.octet_core.specs.Told.{Tells}
 use Rattle.user_core.specs.declared.status.Status.{Status}
 use Rattle.user_core.specs.Course.{is_over}
-use Rattle.user_core.specs.Dialogue.{Talk, closed_by, beats, beating, begun, opened}
+use Rattle.user_core.specs.Dialogue.{Talk, closed_by, beats, beating, begun, opened, asked_to}
 use Rattle.user_core.specs.Hearing.{ended}
 use Rattle.user_core.specs.Laws.{Turn, after_turn, after_turns, octets_in, came_before, printed}
 use Rattle.user_core.specs.Laws.{answer_in}
 use Rattle.user_core.specs.Turn.{Standing, talk_of}
 use Rattle.user_talk.specs.Rounds.{TalkState, Round, turn_at, answer_at, hearing_in, poll_calls, turn_of}
-use Rattle.user_talk.specs.Rounds.{after_round, after_rounds, turns_of, calls_in, lines_in}
+use Rattle.user_talk.specs.Rounds.{after_round, after_rounds, turns_of, calls_in, lines_in, readings_in}
 use Rattle.user_talk.specs.Running.{Tail, whole, unheard, broken, tail_calls, tail_count, tail_lines}
 use Rattle.user_talk.specs.Running.{tail_polled, is_polled, PollsBehindFirst, GoesThrough, but_last}
-use Rattle.user_talk.specs.Running.{before_polls}
+use Rattle.user_talk.specs.Running.{before_polls, tail_readings}
+use Rattle.user_talk.specs.declared.reading.Reading.{Reading}
 use Rattle.user_talk.proofs.Handed.{polls_once, its_turns}
 
 -- the turn that was broken off, where there is one
 abbrev pub broken_turns : TalkState → Tail → List Turn
 broken_turns s whole = []
 broken_turns s unheard = []
-broken_turns s (broken h now) = turn_at s now (hearing_in h) ∷ []
+broken_turns s (broken h read) = turn_at s read (hearing_in h) ∷ []
 
 abbrev pub all_turns : TalkState → List Round → Tail → List Turn
 all_turns s rounds tail = turns_of s rounds ++ broken_turns (after_rounds s rounds) tail
@@ -82,15 +84,15 @@ tail_counted : (tail : Tail) → tail_polled tail ≡ true
     → length (polls_in (tail_calls tail)) ≡ tail_count tail
 tail_counted whole polled = refl
 tail_counted unheard polled = refl
-tail_counted (broken None now) polled = absurd cc
-tail_counted (broken (Some h) now) polled = refl
+tail_counted (broken None read) polled = absurd cc
+tail_counted (broken (Some h) read) polled = refl
 
 none_counted : (tail : Tail) → tail_polled tail ≡ false
     → length (polls_in (tail_calls tail)) + 1 ≡ tail_count tail
 none_counted whole polled = absurd cc
 none_counted unheard polled = absurd cc
-none_counted (broken None now) polled = refl
-none_counted (broken (Some h) now) polled = absurd cc
+none_counted (broken None read) polled = refl
+none_counted (broken (Some h) read) polled = absurd cc
 
 none_first : (r : Round) (rounds : List Round) → r.heard ≡ None
     → length (heards (r ∷ rounds)) ≡ length (heards rounds)
@@ -147,7 +149,8 @@ ended_ends s t is goes = by (is_over s.course) refl
     by : (over : Bool) → is_over s.course ≡ over → ⊥
     by true over = over_is_some s.course.status over (rw over at goes_on)
     by false over =
-        let d = opened s.task t.now (begun t.waits t.now (talk_of s)) in
+        let d = asked_to s.task t.asked t.now
+        (opened s.task t.now (begun t.waits t.now (talk_of s))) in
         closed_ends _ s.stream.place s.stream.rest d
         (sym (beating_status t.now _) ∙ (rw over at goes_on))
 
@@ -223,19 +226,19 @@ came_all s rounds whole goes =
     ∙ (sym (append-nil (flat_map arrived_at (heards rounds))) ∙ sym (heard_are s rounds whole)))
 came_all s rounds unheard goes =
     came_through s rounds [] goes ∙ sym (heard_are s rounds unheard)
-came_all s rounds (broken h now) goes =
+came_all s rounds (broken h read) goes =
     let t = after_rounds s rounds in
-    came_through s rounds (turn_at t now (hearing_in h) ∷ []) goes
+    came_through s rounds (turn_at t read (hearing_in h) ∷ []) goes
     ∙ (ap (λ l. flat_map arrived_at (heards rounds) ++ l) (came_last h ∙ sym (tail_heard h))
-    ∙ sym (heard_are s rounds (broken h now)))
+    ∙ sym (heard_are s rounds (broken h read)))
 
 -- ---- what was handed over
 
 tail_hands : (tail : Tail) → octets_handed (tail_calls tail) ≡ []
 tail_hands whole = refl
 tail_hands unheard = refl
-tail_hands (broken None now) = refl
-tail_hands (broken (Some h) now) = refl
+tail_hands (broken None read) = refl
+tail_hands (broken (Some h) read) = refl
 
 pub handed_are : (s : TalkState) (rounds : List Round) (tail : Tail)
     → octets_handed (all_calls s rounds tail) ≡ octets_handed (calls_in s rounds)
@@ -261,7 +264,7 @@ broken_prints : (s : TalkState) (tail : Tail)
     → printed s.user (broken_turns s tail) ≡ tail_lines s tail
 broken_prints s whole = refl
 broken_prints s unheard = refl
-broken_prints s (broken h now) = append-nil (answer_at s now (hearing_in h)).lines
+broken_prints s (broken h read) = append-nil (answer_at s read (hearing_in h)).lines
 
 pub printed_all : (s : TalkState) (rounds : List Round) (tail : Tail)
     → printed s.user (all_turns s rounds tail)
@@ -274,3 +277,35 @@ printed_all s rounds tail =
     (sym its.printed)
     ∙ (ap (λ u. lines_in s rounds ++ printed u (broken_turns t tail)) (sym its.user)
     ∙ ap (λ l. lines_in s rounds ++ l) (broken_prints t tail)))
+
+-- ---- what is asked
+
+abbrev asked_in : List Turn → List Bool
+asked_in turns = map (λ (t : Turn). t.asked) turns
+
+abbrev asked_of : List Reading → List Bool
+asked_of readings = map (λ (r : Reading). r.asked) readings
+
+asked_last : (s : TalkState) (tail : Tail)
+    → asked_in (broken_turns s tail) ≡ asked_of (tail_readings tail)
+asked_last s whole = refl
+asked_last s unheard = refl
+asked_last s (broken h read) = refl
+
+asked_first : (s : TalkState) (rounds : List Round) (more : List Turn) (rest : List Reading)
+    → asked_in more ≡ asked_of rest
+    → asked_in (turns_of s rounds ++ more) ≡ asked_of (readings_in rounds ++ rest)
+asked_first s [] more rest is = is
+asked_first s (r ∷ rounds) more rest is =
+    ap (λ l. r.read.asked ∷ l) (asked_first (after_round s r) rounds more rest is)
+
+-- each turn asks once
+pub asked_all : (a b : Option (List Bool)) (s : TalkState) (rounds : List Round) (tail : Tail)
+    → Tells a b (map (λ (r : Reading). r.asked) (readings_in rounds ++ tail_readings tail))
+    → Tells a b (map (λ (t : Turn). t.asked) (all_turns s rounds tail))
+asked_all a b s rounds tail told =
+    let t = after_rounds s rounds in
+    subst (λ l. Tells a b l)
+    (sym
+    (asked_first s rounds (broken_turns t tail) (tail_readings tail) (asked_last t tail)))
+    told

@@ -12,9 +12,9 @@ use Rattle.user_core.specs.declared.event.Event.TheVariants.{EndOfData, Aborted}
 use Rattle.user_core.specs.declared.status.Status.{Status}
 use Rattle.user_core.specs.declared.status.Status.TheVariants.{Done, Refused, BadMessage, PeerEnded}
 use Rattle.user_core.specs.Course.{is_over, rests, after, answered, aborted, closes, finished_by}
-use Rattle.user_core.specs.Course.{is_awaited, has_begun, was_last, may_say}
+use Rattle.user_core.specs.Course.{is_awaited, has_begun, was_last, may_say, receives}
 use Rattle.user_core.specs.Dialogue.{Talk, said_to, next_said, went_on, told_to, heard, heard_by}
-use Rattle.user_core.specs.Dialogue.{refused_at, closed_by, opened, begun, beats, beating, bad_at}
+use Rattle.user_core.specs.Dialogue.{refused_at, closed_by, opened, begun, beats, beating, bad_at, asked_to, in_course}
 use Rattle.user_core.specs.Event.{event_of}
 use Rattle.user_core.specs.Hearing.{Kept, Hearing, nothing, came, ended, heard_all, heard_in, unread_in}
 use Rattle.user_core.specs.Laws.{Turn, after_turn, after_turns}
@@ -33,7 +33,7 @@ use Rattle.user_lines.specs.declared.tag.Tag.{Tag}
 use Rattle.user_service.specs.Causes.{unbound}
 use Rattle.user_service.specs.Streams.{IsAnswered}
 use Rattle.user_service.proofs.Answered.{Fine, both_none, first_is_bind, heard_fine, opened_fine}
-use Rattle.user_service.proofs.Answered.{turn_fine, new_fine}
+use Rattle.user_service.proofs.Answered.{turn_fine, new_fine, asked_fine, closing_fine}
 use Rattle.user_task.specs.Invocation.{bind}
 use Rattle.std.proofs.Common.{zero, suc, arith}
 use Rattle.std.specs.Prelude.{not}
@@ -312,6 +312,35 @@ opened_none task now d invokes none = by (d.course.said == 0) refl
         rw is (went_none task now d bind at none)
     by false is = rw is none
 
+-- nor does a user end by being asked to: it only says what comes next
+next_none : (task : Task) (now : ℕ) (d : Talk) (o : Option Said)
+    → invocation_at task.work d.course.said ≡ o → Fine task.work d.course
+    → d.course.status ≡ None → d.course.awaited ≡ None
+    → (next_said task now d o).course.status ≡ None
+next_none task now d None at f none awaits =
+    let last : d.course.awaited ≡ Some unbound = f.last none at in absurd cc
+next_none task now d (Some s) at f none awaits = some_status task now d s ∙ none
+
+went_going : (task : Task) (now : ℕ) (d : Talk) → Fine task.work d.course
+    → d.course.status ≡ None → (went_on task now d).course.status ≡ None
+unfolding went_on
+went_going task now d f none = by (rests d.course) refl
+  where
+    by : (b : Bool) → rests d.course ≡ b → (went_on task now d).course.status ≡ None
+    by true is = rw is none
+    by false is =
+        rw is
+        (next_none task now d (invocation_at task.work d.course.said) refl f none
+        (both_none d.course is).1)
+
+asked_none : (task : Task) (asked : Bool) (now : ℕ) (d : Talk) → Fine task.work d.course
+    → d.course.status ≡ None → (asked_to task asked now d).course.status ≡ None
+unfolding asked_to
+asked_none task asked now d f none =
+    let e = in_course (closes true d.course) d in
+    if_status (went_on task now e) d (asked && receives task.work) None
+    (went_going task now e (closing_fine task.work d.course f) none) none
+
 closed_brings : (st : Status) (show : Bool) (place : ℕ) (rest : List ℕ) (d : Talk)
     → show ≡ false → (closed_by show place rest d).course.status ≡ Some st
     → is_peer_end st ≡ true
@@ -338,11 +367,15 @@ turn_brings : (st : Status) (s : Standing) (t : Turn) → is_show s.task.work �
 turn_brings st s t invokes f none is =
     let going : is_over s.course ≡ false = going_on s.course.status none in
     let a = begun t.waits t.now (talk_of s) in
-    let b = opened s.task t.now a in
+    let o = opened s.task t.now a in
+    let b = asked_to s.task t.asked t.now o in
     let c = heard_in s.task t.now s.stream t.hearing b in
+    let f_open = opened_fine s.task t.now a invokes f in
+    let none_open = opened_none s.task t.now a invokes none in
     let ends : (beating t.now c).course.status ≡ Some st = rw going at is in
     in_brings st s.task t.now s.stream t.hearing b invokes
-    (opened_fine s.task t.now a invokes f) (opened_none s.task t.now a invokes none)
+    (asked_fine s.task t.asked t.now o invokes f_open)
+    (asked_none s.task t.asked t.now o f_open none_open)
     (sym (beating_status t.now c) ∙ ends)
 
 over_turn : (s : Standing) (t : Turn) → is_over s.course ≡ true → after_turn s t ≡ s

@@ -36,7 +36,7 @@ use Rattle.user_service.specs.Causes.{IsCaused, brings_in}
 use Rattle.user_service.specs.Streams.{Prints, BreaksOff, Streams}
 use Rattle.user_service.proofs.Answered.{done_is_answered}
 use Rattle.user_service.proofs.Came.{broken_turns, all_turns, all_calls, polls_counted, came_all}
-use Rattle.user_service.proofs.Came.{handed_are, printed_all}
+use Rattle.user_service.proofs.Came.{handed_are, printed_all, asked_all}
 use Rattle.user_service.proofs.Causes.{is_brought}
 use Rattle.user_service.proofs.Taken.{all_taken}
 
@@ -297,12 +297,14 @@ unbroken s rounds tail went =
     (ap (λ l. turns_of s rounds ++ l) went.unbroken ∙ append-nil (turns_of s rounds))
     ∙ (ap (λ (u : Standing). u.course.status) (sym (its_turns s rounds).user) ∙ went.goes)
 
-module _ {L C O : Type 0} (calls : L → Option (List Call)) (link_faults : L → ℕ)
-    (readings : C → Option (List Cds)) (written : O → Option (List ℕ)) (output_faults : O → ℕ) where
-  pub streams_of : LinesInOrder → (task : Task) (most : ℕ) (ended : Ending) (old new : World L C O)
+module _ {L C E O : Type 0} (calls : L → Option (List Call)) (link_faults : L → ℕ)
+    (readings : C → Option (List Cds)) (asks : E → Option (List Bool))
+    (written : O → Option (List ℕ)) (output_faults : O → ℕ) where
+  pub streams_of : LinesInOrder → (task : Task) (most : ℕ) (ended : Ending) (old new : World L C
+      E O)
       → is_show task.work ≡ false
-      → TalkedTo calls link_faults readings written output_faults task most ended old new
-      → Streams calls written task most ended old new
+      → TalkedTo calls link_faults readings asks written output_faults task most ended old new
+      → Streams calls asks written task most ended old new
   streams_of in_lines task most ended old new invokes talked =
       let s = begun task in
       let e = talked.end in
@@ -334,6 +336,7 @@ module _ {L C O : Type 0} (calls : L → Option (List Call)) (link_faults : L �
         turns = turns_of s rounds;
         broken = broken_turns t tail;
         came = came_all s rounds tail its.goes_through;
+        asked = asked_all (asks old.request) (asks new.request) s rounds tail its.reads.asked;
         waiting = left_in t.outbox;
         handed = ap (λ l. l ++ left_in t.outbox) (handed_are s rounds tail) ∙ in_order s rounds;
         taken = all_taken s rounds tail refl;

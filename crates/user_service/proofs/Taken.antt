@@ -27,7 +27,7 @@ untaken_poll b (Some h) = refl
 untaken_tail : (b : Bool) (tail : Tail) → untaken_by b (tail_calls tail) ≡ b
 untaken_tail b whole = refl
 untaken_tail b unheard = refl
-untaken_tail b (broken h now) = untaken_poll b h
+untaken_tail b (broken h read) = untaken_poll b h
 
 -- offers of a queue: where its last one was taken whole, nothing is left of it
 offers_take : (b : Bool) (block behind octets : List ℕ) (first second : Offer)
@@ -66,12 +66,11 @@ offers_take b (x ∷ block) behind octets first second taken =
 round_takes : (b : Bool) (s : TalkState) (r : Round) → untaken_by b (calls_of s r) ≡ false
     → left_in (after_round s r).outbox ≡ []
 round_takes b s r taken =
-    let now = r.now in
-    let offer = (answer_at s now (hearing_in r.heard)).offer in
+    let offer = (answer_at s r.read (hearing_in r.heard)).offer in
     offers_take (untaken_by b (poll_calls r.heard)) s.outbox.block s.outbox.behind offer
     r.answers.first r.answers.second
     (sym (untaken_both b (poll_calls r.heard)
-    (offered (queued_at s now (hearing_in r.heard)) r.answers))
+    (offered (queued_at s r.read (hearing_in r.heard)) r.answers))
     ∙ taken)
 
 rounds_take : (b : Bool) (s : TalkState) (rounds : List Round)

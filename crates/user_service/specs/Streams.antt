@@ -1,7 +1,7 @@
 -- A talk in the words of its streams: how often it polled, what the link was handed, and what was
 -- printed. This product's own.
 use Rattle.std.specs.Prelude.{◌≡◌, ◌⊎◌, ℕ, ◌≤◌, Bool, true, false, Option, None, List, [], ◌∷◌}
-use Rattle.std.specs.Prelude.{◌++◌, length}
+use Rattle.std.specs.Prelude.{◌++◌, length, map}
 use Rattle.isp1_auth.specs.Numbers.{first_number}
 use Rattle.link_model.specs.declared.call.Call.{Call}
 use Rattle.link_model.specs.declared.call.Call.TheVariants.{Polled, Offered}
@@ -54,11 +54,13 @@ untaken_by b (Offered octets answer ∷ calls) = untaken_by (is_left answer) cal
 abbrev pub ends_untaken : List Call → Bool
 ends_untaken calls = untaken_by false calls
 
-module _ {L C O : Type 0} (calls : L → Option (List Call)) (written : O → Option (List ℕ)) where
-  -- There is a list of turns, one of them may be broken off before its offers, which have heard what
-  -- the polls gave. What was handed over begins what is said in them, which is the task's invocations
-  -- in order, and what was printed is their lines with the last line.
-  pub record Streams (task : Task) (most : ℕ) (ended : Ending) (old new : World L C O)
+module _ {L C E O : Type 0} (calls : L → Option (List Call)) (asks : E → Option (List Bool))
+    (written : O → Option (List ℕ)) where
+  -- There is a list of turns, one of them may be broken off before its offers, which have heard
+  -- what the polls gave, and in each of which it was asked whether the user is to end. What was
+  -- handed over begins what is said in them, which is the task's invocations in order, and what was
+  -- printed is their lines with the last line.
+  pub record Streams (task : Task) (most : ℕ) (ended : Ending) (old new : World L C E O)
       : Type 0 where
     pub own : List Call
     pub told : Tells (calls old.link) (calls new.link) own
@@ -67,6 +69,8 @@ module _ {L C O : Type 0} (calls : L → Option (List Call)) (written : O → Op
     pub turns : List Turn
     pub broken : List Turn
     pub came : octets_in (turns ++ broken) ≡ octets_heard own
+    pub asked : Tells (asks old.request) (asks new.request)
+        (map (λ (t : Turn). t.asked) (turns ++ broken))
     pub waiting : List ℕ
     pub handed : octets_handed own ++ waiting ≡ offers (new_user task) turns
     pub taken : ends_untaken own ≡ false → waiting ≡ []

@@ -18,7 +18,7 @@ use octet_core::{Sink, Source};
 use std::alloc::Global;
 use user_core::laws;
 use user_show::Ending;
-use user_talk::talk;
+use user_talk::{EndRequest, talk};
 use user_task::{Cltus, Task, Work};
 use user_words::{Asked, Identity};
 
@@ -83,34 +83,37 @@ impl Order {
 }
 
 // Talks over a task that invokes.
-fn hold<L: Link, C: Clock, O: Sink>(
+fn hold<L: Link, C: Clock, E: EndRequest, O: Sink>(
     alloc: Global,
     task: Task,
     turns: u64,
     link: &mut L,
     clock: &mut C,
+    end: &mut E,
     output: &mut O,
 ) -> Ending
     requires fits { IsTrue (fits_task task) }
     requires invokes { is_show task.work ≡ false }
-    ensures talked { TalkedTo L.calls L.faults C.readings O.written O.faults task turns result
-        (world link.old clock.old output.old) (world link.new clock.new output.new) }
-    ensures streams { Streams L.calls O.written task turns result
-        (world link.old clock.old output.old) (world link.new clock.new output.new) }
+    ensures talked { TalkedTo L.calls L.faults C.readings E.answers O.written O.faults task turns
+        result (world link.old clock.old end.old output.old)
+        (world link.new clock.new end.new output.new) }
+    ensures streams { Streams L.calls E.answers O.written task turns result
+        (world link.old clock.old end.old output.old)
+        (world link.new clock.new end.new output.new) }
 {
     laws::lines_in_order();
-    talk(alloc, task, turns, link, clock, output)
+    talk(alloc, task, turns, link, clock, end, output)
 }
 
 // Does an order, over an input that has the CLTUs where they are asked for.
-pub(crate) fn send<I: Source, O: Sink, L: Link, C: Clock>(
+pub(crate) fn send<I: Source, O: Sink, L: Link, C: Clock, E: EndRequest>(
     alloc: Global,
     order: Order,
-    kit: &mut UserKit<I, O, L, C>,
+    kit: &mut UserKit<I, O, L, C, E>,
     mut link: L,
 ) -> Ending
     requires { FitsTalk order.identity order.asked order.turns }
-    ensures { Sends I.left I.faults O.written O.faults L.calls L.faults C.readings
+    ensures { Sends I.left I.faults O.written O.faults L.calls L.faults C.readings E.answers
         order.identity order.asked order.turns result link kit.old kit.new }
 {
     match cltus_for(alloc, order.asked, &mut kit.input) {
@@ -123,6 +126,7 @@ pub(crate) fn send<I: Source, O: Sink, L: Link, C: Clock>(
                 turns,
                 &mut link,
                 &mut kit.clock,
+                &mut kit.end,
                 &mut kit.output,
             );
             kit.link = Some(link);

@@ -11,16 +11,17 @@ use octet_core::{Sink, Source};
 use std::alloc::Global;
 use std::mem;
 use user_show::{Ending, end_with, show};
+use user_talk::EndRequest;
 use user_words::Plan;
 
 /// Does what the words of a command line ask for, the program's name left away, and answers how the
 /// program ends.
-pub fn use_service<I: Source, O: Sink, L: Link, C: Clock>(
+pub fn use_service<I: Source, O: Sink, L: Link, C: Clock, E: EndRequest>(
     alloc: Global,
     words: &[&str],
-    kit: &mut UserKit<I, O, L, C>,
+    kit: &mut UserKit<I, O, L, C, E>,
 ) -> Ending
-    ensures { Served I.left I.faults O.written O.faults L.calls L.faults C.readings
+    ensures { Served I.left I.faults O.written O.faults L.calls L.faults C.readings E.answers
         (asked_of_line (texts_of words.now)) result kit.old kit.new }
 {
     match Plan::read(alloc, words) {
@@ -31,13 +32,13 @@ pub fn use_service<I: Source, O: Sink, L: Link, C: Clock>(
 }
 
 // Does what a plan says.
-fn serve<I: Source, O: Sink, L: Link, C: Clock>(
+fn serve<I: Source, O: Sink, L: Link, C: Clock, E: EndRequest>(
     alloc: Global,
     plan: Plan,
-    kit: &mut UserKit<I, O, L, C>,
+    kit: &mut UserKit<I, O, L, C, E>,
 ) -> Ending
     requires { FitsPlan plan }
-    ensures { Serves I.left I.faults O.written O.faults L.calls L.faults C.readings
+    ensures { Serves I.left I.faults O.written O.faults L.calls L.faults C.readings E.answers
         (Some plan) result kit.old kit.new }
 {
     match plan {
@@ -59,13 +60,13 @@ fn serve<I: Source, O: Sink, L: Link, C: Clock>(
 }
 
 // Talks over the link, where there is one.
-fn converse<I: Source, O: Sink, L: Link, C: Clock>(
+fn converse<I: Source, O: Sink, L: Link, C: Clock, E: EndRequest>(
     alloc: Global,
     order: Order,
-    kit: &mut UserKit<I, O, L, C>,
+    kit: &mut UserKit<I, O, L, C, E>,
 ) -> Ending
     requires { FitsTalk order.identity order.asked order.turns }
-    ensures { Converses I.left I.faults O.written O.faults L.calls L.faults C.readings kit.old.link
+    ensures { Converses I.left I.faults O.written O.faults L.calls L.faults C.readings E.answers kit.old.link
         order.identity order.asked order.turns result kit.old kit.new }
 {
     match mem::replace(&mut kit.link, None) {

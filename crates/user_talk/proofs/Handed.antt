@@ -69,7 +69,7 @@ turn_hands : (s : TalkState) (r : Round)
     → octets_handed (calls_of s r) ++ left_in (after_round s r).outbox
     ≡ left_in s.outbox ++ (answer_in s.user (turn_of s r)).offer
 turn_hands s r =
-    let q = queued_at s r.now (hearing_in r.heard) in
+    let q = queued_at s r.read (hearing_in r.heard) in
     ap (λ l. l ++ left_in (left_by q r.answers))
     (handed_both (poll_calls r.heard) (offered q r.answers)
     ∙ ap (λ l. l ++ octets_handed (offered q r.answers)) (no_block_polled r.heard))
@@ -133,7 +133,7 @@ heard_first r rounds = by_heard r.heard
 
 turn_polls : (s : TalkState) (r : Round) → polls_in (calls_of s r) ≡ as_list r.heard
 turn_polls s r =
-    let q = queued_at s r.now (hearing_in r.heard) in
+    let q = queued_at s r.read (hearing_in r.heard) in
     polls_both (poll_calls r.heard) (offered q r.answers)
     ∙ (ap (λ l. polls_in (poll_calls r.heard) ++ l)
     (none_offered q r.answers.first r.answers.second)

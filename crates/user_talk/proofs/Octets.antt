@@ -61,5 +61,5 @@ offers_give o answers =
 pub turn_gives : (s : TalkState) (r : Round) → AreOctets (octets_heard (poll_calls r.heard))
     → AreOctets (octets_heard (calls_of s r))
 turn_gives s r poll =
-    let q = queued_at s r.now (hearing_in r.heard) in
+    let q = queued_at s r.read (hearing_in r.heard) in
     calls_give (poll_calls r.heard) (offered q r.answers) poll (offers_give q r.answers)

@@ -1,5 +1,5 @@
 -- Polls with their turns, one behind the other.
-use Rattle.std.proofs.Common.{◌≡◌, inl, inr, ℕ, ◌+◌, ◌<◌, ◌≤◌, true, false, ◌&&◌, Option}
+use Rattle.std.proofs.Common.{◌≡◌, inl, inr, ℕ, ◌+◌, ◌<◌, ◌≤◌, Bool, true, false, ◌&&◌, Option}
 use Rattle.std.proofs.Common.{Some, None, is_some, List, [], ◌∷◌, ◌++◌, length, refl, ap, sym, subst}
 use Rattle.std.proofs.Common.{◌∙◌, append-nil, length-append, arith}
 use Rattle.std.specs.List.{list_all}
@@ -20,6 +20,7 @@ use Rattle.user_talk.specs.Running.{World, world, WentOn, WasLast, Turns, TurnsO
 use Rattle.user_talk.specs.Running.{Tail, whole, unheard, broken, tail_count, tail_polled, is_polled}
 use Rattle.user_talk.specs.Running.{GoesOn, Ends, Polls, Talked, PollsBehindFirst}
 use Rattle.user_talk.specs.declared.end.End.{End}
+use Rattle.user_talk.specs.declared.reading.Reading.{Reading}
 use Rattle.user_talk.specs.declared.end.End.TheVariants as end
 use Rattle.user_talk.specs.declared.rounds.TheConstants.{PIECE_OCTETS}
 use Rattle.user_talk.proofs.Running.{ran_both, ended_both, all_both, reads_none, through_but_last}
@@ -39,7 +40,7 @@ one_poll h (r ∷ []) whole is = record {
   tail_is = refl;
   few = omega arith;
 }
-one_poll h [] (broken k now) is = record {
+one_poll h [] (broken k read) is = record {
   polled = refl;
   tail_is = subst (λ x. is_some x ≡ true) (sym is) refl;
   few = omega arith;
@@ -47,10 +48,10 @@ one_poll h [] (broken k now) is = record {
 one_poll h [] whole is = absurd is
 one_poll h [] unheard is = absurd is
 one_poll h (r ∷ []) unheard is = absurd is
-one_poll h (r ∷ []) (broken k now) is = absurd is
+one_poll h (r ∷ []) (broken k read) is = absurd is
 one_poll h (r ∷ q ∷ rounds) whole is = absurd is
 one_poll h (r ∷ q ∷ rounds) unheard is = absurd is
-one_poll h (r ∷ q ∷ rounds) (broken k now) is = absurd is
+one_poll h (r ∷ q ∷ rounds) (broken k read) is = absurd is
 
 -- the first turn, which polls nothing
 pub record NoPoll (rounds : List Round) (tail : Tail) : Type 0 where
@@ -59,28 +60,29 @@ pub record NoPoll (rounds : List Round) (tail : Tail) : Type 0 where
 
 no_poll : (rounds : List Round) (tail : Tail) → IsTurn None rounds tail → NoPoll rounds tail
 no_poll (r ∷ []) whole is = record { polls = (is, (refl, refl)); few = omega arith }
-no_poll [] (broken k now) is = record {
+no_poll [] (broken k read) is = record {
   polls = subst (λ x. is_some x ≡ false) (sym is) refl;
   few = omega arith;
 }
 no_poll [] whole is = absurd is
 no_poll [] unheard is = absurd is
 no_poll (r ∷ []) unheard is = absurd is
-no_poll (r ∷ []) (broken k now) is = absurd is
+no_poll (r ∷ []) (broken k read) is = absurd is
 no_poll (r ∷ q ∷ rounds) whole is = absurd is
 no_poll (r ∷ q ∷ rounds) unheard is = absurd is
-no_poll (r ∷ q ∷ rounds) (broken k now) is = absurd is
+no_poll (r ∷ q ∷ rounds) (broken k read) is = absurd is
 
-module _ {L C O : Type 0} (calls : L → Option (List Call)) (link_faults : L → ℕ)
-    (readings : C → Option (List Cds)) (written : O → Option (List ℕ)) (output_faults : O → ℕ) where
+module _ {L C E O : Type 0} (calls : L → Option (List Call)) (link_faults : L → ℕ)
+    (readings : C → Option (List Cds)) (asks : E → Option (List Bool))
+    (written : O → Option (List ℕ)) (output_faults : O → ℕ) where
   -- a poll that failed
-  pub unheard_ends : (s t : TalkState) (link now : L) (clock : C) (output : O)
+  pub unheard_ends : (s t : TalkState) (link now : L) (clock : C) (request : E) (output : O)
       → s.user.course.status ≡ None
       → Tells (calls link) (calls now) (Polled PIECE_OCTETS Failed ∷ [])
       → Rose (link_faults link) (link_faults now)
-      → Polls calls link_faults readings written output_faults (Some end.LinkFault) s t
-      (world link clock output) (world now clock output)
-  unheard_ends s t link now clock output goes told rose = (
+      → Polls calls link_faults readings asks written output_faults (Some end.LinkFault) s t
+      (world link clock request output) (world now clock request output)
+  unheard_ends s t link now clock request output goes told rose = (
     record {
       rounds = [];
       tail = unheard;
@@ -91,7 +93,7 @@ module _ {L C O : Type 0} (calls : L → Option (List Call)) (link_faults : L �
       ended = record {
         told = told;
         octets = none_are;
-        reads = reads_none (readings clock);
+        reads = reads_none (readings clock) (asks request);
         printed = gains-none (written output);
         goes_through = tt;
         ends = (goes, inl refl);
@@ -103,9 +105,9 @@ module _ {L C O : Type 0} (calls : L → Option (List Call)) (link_faults : L �
     λ e. absurd cc,
   )
 
-  polls_by : (h : Heard) (e : Option End) (s t : TalkState) (old new : World L C O)
-      → Turns calls link_faults readings written output_faults (Some h) e s t old new
-      → Polls calls link_faults readings written output_faults e s t old new
+  polls_by : (h : Heard) (e : Option End) (s t : TalkState) (old new : World L C E O)
+      → Turns calls link_faults readings asks written output_faults (Some h) e s t old new
+      → Polls calls link_faults readings asks written output_faults e s t old new
   polls_by h None s t old new went = record {
     rounds = went.round ∷ [];
     polled = subst (λ x. (is_some x && true) ≡ true) (sym went.heard) refl;
@@ -129,21 +131,23 @@ module _ {L C O : Type 0} (calls : L → Option (List Call)) (link_faults : L �
 
   -- a poll with its turn
   pub polls_on : (h : Heard) (hearing : Hearing) (e : Option End) (s t : TalkState) (link mid : L)
-      (clock : C) (output : O) (new : World L C O) → hearing_in (Some h) ≡ hearing
+      (clock : C) (request : E) (output : O) (new : World L C E O) → hearing_in (Some h) ≡ hearing
       → Tells (calls link) (calls mid) (Polled PIECE_OCTETS h ∷ [])
       → AreOctets (arrived_at h) → link_faults mid ≡ link_faults link
-      → TurnsOn calls link_faults readings written output_faults hearing e s t
-      (world mid clock output) new
-      → Polls calls link_faults readings written output_faults e s t (world link clock output) new
-  polls_on h hearing e s t link mid clock output new is told are same turns =
-      polls_by h e s t (world link clock output) new
+      → TurnsOn calls link_faults readings asks written output_faults hearing e s t
+      (world mid clock request output) new
+      → Polls calls link_faults readings asks written output_faults e s t (world link clock
+      request output) new
+  polls_on h hearing e s t link mid clock request output new is told are same turns =
+      polls_by h e s t (world link clock request output) new
       (turns (Some h) link is told (poll_gives h are) same)
 
-  pub goes_none : (s : TalkState) (link : L) (clock : C) (output : O)
+  pub goes_none : (s : TalkState) (link : L) (clock : C) (request : E) (output : O)
       → s.user.course.status ≡ None
-      → GoesOn calls link_faults readings written output_faults 0 s s (world link clock output)
-      (world link clock output)
-  goes_none s link clock output goes = record {
+      → GoesOn calls link_faults readings asks written output_faults 0 s s (world link clock
+      request output)
+      (world link clock request output)
+  goes_none s link clock request output goes = record {
     rounds = [];
     polled = refl;
     counted = refl;
@@ -151,7 +155,7 @@ module _ {L C O : Type 0} (calls : L → Option (List Call)) (link_faults : L �
       state = refl;
       told = tells_none (calls link);
       octets = none_are;
-      reads = reads_none (readings clock);
+      reads = reads_none (readings clock) (asks request);
       printed = gains-none (written output);
       goes_through = tt;
       link_well = refl;
@@ -160,10 +164,10 @@ module _ {L C O : Type 0} (calls : L → Option (List Call)) (link_faults : L �
     goes = goes;
   }
 
-  pub goes_more : (n : ℕ) (s t u : TalkState) (p q r : World L C O)
-      → GoesOn calls link_faults readings written output_faults n s t p q
-      → GoesOn calls link_faults readings written output_faults 1 t u q r
-      → GoesOn calls link_faults readings written output_faults (n + 1) s u p r
+  pub goes_more : (n : ℕ) (s t u : TalkState) (p q r : World L C E O)
+      → GoesOn calls link_faults readings asks written output_faults n s t p q
+      → GoesOn calls link_faults readings asks written output_faults 1 t u q r
+      → GoesOn calls link_faults readings asks written output_faults (n + 1) s u p r
   goes_more n s t u p q r first second = record {
     rounds = first.rounds ++ second.rounds;
     polled = all_both is_polled first.rounds second.rounds first.polled second.polled;
@@ -173,15 +177,16 @@ module _ {L C O : Type 0} (calls : L → Option (List Call)) (link_faults : L �
       first.counted,
       second.counted,
     );
-    ran = ran_both calls link_faults readings written output_faults first.rounds second.rounds s t
+    ran = ran_both calls link_faults readings asks written output_faults first.rounds
+        second.rounds s t
         u p q r first.ran second.ran;
     goes = second.goes;
   }
 
-  pub ends_more : (n most : ℕ) (e : End) (s t : TalkState) (p q r : World L C O)
-      → GoesOn calls link_faults readings written output_faults n s t p q → n < most
-      → Ends calls link_faults readings written output_faults 1 e t q r × (e ≡ end.Spent → ⊥)
-      → Ends calls link_faults readings written output_faults most e s p r
+  pub ends_more : (n most : ℕ) (e : End) (s t : TalkState) (p q r : World L C E O)
+      → GoesOn calls link_faults readings asks written output_faults n s t p q → n < most
+      → Ends calls link_faults readings asks written output_faults 1 e t q r × (e ≡ end.Spent → ⊥)
+      → Ends calls link_faults readings asks written output_faults most e s p r
   ends_more n most e s t p q r first more second = record {
     rounds = first.rounds ++ second.0.rounds;
     tail = second.0.tail;
@@ -195,14 +200,14 @@ module _ {L C O : Type 0} (calls : L → Option (List Call)) (link_faults : L �
       more,
     );
     spent = λ is. absurd (second.1 is);
-    ended = ended_both calls link_faults readings written output_faults first.rounds
+    ended = ended_both calls link_faults readings asks written output_faults first.rounds
         second.0.rounds second.0.tail e s t p q r first.ran second.0.ended;
   }
 
   -- all polls were made
-  pub spent : (most : ℕ) (s t : TalkState) (p q : World L C O)
-      → GoesOn calls link_faults readings written output_faults most s t p q
-      → Ends calls link_faults readings written output_faults most end.Spent s p q
+  pub spent : (most : ℕ) (s t : TalkState) (p q : World L C E O)
+      → GoesOn calls link_faults readings asks written output_faults most s t p q
+      → Ends calls link_faults readings asks written output_faults most end.Spent s p q
   spent most s t p q first = record {
     rounds = first.rounds;
     tail = whole;
@@ -213,7 +218,10 @@ module _ {L C O : Type 0} (calls : L → Option (List Call)) (link_faults : L �
     ended = record {
       told = subst (λ l. Tells (calls p.link) (calls q.link) l) (sym (append-nil _)) first.ran.told;
       octets = calls_give (calls_in s first.rounds) [] first.ran.octets none_are;
-      reads = subst (λ l. Reads (readings p.clock) (readings q.clock) l) (sym (append-nil _))
+      reads = subst
+          (λ l. Reads (readings p.clock) (readings q.clock) (asks p.request)
+          (asks q.request) l)
+          (sym (append-nil _))
           first.ran.reads;
       printed = first.ran.printed;
       goes_through = through_but_last s first.rounds first.ran.goes_through;
@@ -230,9 +238,9 @@ module _ {L C O : Type 0} (calls : L → Option (List Call)) (link_faults : L �
 
   -- ---- from the first turn on
 
-  pub first_ends : (task : Task) (most : ℕ) (e : End) (old new : World L C O)
-      → WasLast calls link_faults readings written output_faults None e (begun task) old new
-      → Talked calls link_faults readings written output_faults task most e old new
+  pub first_ends : (task : Task) (most : ℕ) (e : End) (old new : World L C E O)
+      → WasLast calls link_faults readings asks written output_faults None e (begun task) old new
+      → Talked calls link_faults readings asks written output_faults task most e old new
   first_ends task most e old new last =
       let one = no_poll last.rounds last.tail last.is in
       record {
@@ -244,16 +252,16 @@ module _ {L C O : Type 0} (calls : L → Option (List Call)) (link_faults : L �
         ended = last.ended;
       }
 
-  pub first_goes : (task : Task) (most : ℕ) (e : End) (t : TalkState) (old mid new : World L C O)
-      → WentOn calls link_faults readings written output_faults None (begun task) t old mid
-      → Ends calls link_faults readings written output_faults most e t mid new
-      → Talked calls link_faults readings written output_faults task most e old new
+  pub first_goes : (task : Task) (most : ℕ) (e : End) (t : TalkState) (old mid new : World L C E O)
+      → WentOn calls link_faults readings asks written output_faults None (begun task) t old mid
+      → Ends calls link_faults readings asks written output_faults most e t mid new
+      → Talked calls link_faults readings asks written output_faults task most e old new
   first_goes task most e t old mid new first second = record {
     rounds = first.round ∷ second.rounds;
     tail = second.tail;
     polls = (first.heard, (second.polled, second.tail_is));
     few = omega (arith, second.few);
     spent = λ is. omega (arith, second.spent is);
-    ended = ended_both calls link_faults readings written output_faults (first.round ∷ [])
+    ended = ended_both calls link_faults readings asks written output_faults (first.round ∷ [])
         second.rounds second.tail e (begun task) t old mid new first.ran second.ended;
   }

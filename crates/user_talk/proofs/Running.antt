@@ -14,12 +14,13 @@ use Rattle.octet_core.specs.Writing.{gains-append, gains_front-append}
 use Rattle.user_core.specs.Laws.{AreOctets}
 use Rattle.user_core.specs.declared.status.Status.TheVariants as status
 use Rattle.user_talk.specs.Readings.{Reads, moment_shown}
-use Rattle.user_talk.specs.Rounds.{TalkState, Round, after_rounds, calls_in, lines_in, moments}
+use Rattle.user_talk.specs.Rounds.{TalkState, Round, after_rounds, calls_in, lines_in, readings_in}
 use Rattle.user_talk.specs.Rounds.{after_round, calls_of, lines_of}
 use Rattle.user_talk.specs.Running.{World, Ran, Ended, Tail, whole, unheard, broken, tail_calls}
 use Rattle.user_talk.specs.Running.{GoesThrough, but_last, before_polls}
-use Rattle.user_talk.specs.Running.{tail_moments, tail_lines, EndsBy, PrintsTo, LastIs}
+use Rattle.user_talk.specs.Running.{tail_readings, tail_lines, EndsBy, PrintsTo, LastIs}
 use Rattle.user_talk.specs.declared.end.End.{End}
+use Rattle.user_talk.specs.declared.reading.Reading.{Reading}
 use Rattle.user_talk.specs.declared.end.End.TheVariants as end
 use Rattle.user_talk.proofs.Octets.{calls_give}
 use Rattle.user_talk.proofs.Told.{tells_both}
@@ -45,23 +46,28 @@ lines_both s (r ∷ a) b =
     ∙ sym (append_assoc (lines_of s r) (lines_in (after_round s r) a)
     (lines_in (after_rounds (after_round s r) a) b))
 
-pub moments_both : (a b : List Round) → moments (a ++ b) ≡ moments a ++ moments b
-moments_both a b = map-append (λ (r : Round). r.now) a b
+pub readings_both : (a b : List Round) → readings_in (a ++ b) ≡ readings_in a ++ readings_in b
+readings_both a b = map-append (λ (r : Round). r.read) a b
 
-pub reads_none : (told : Option (List Cds)) → Reads told told []
-reads_none told = record { shown = []; told = tells_none told; moments_are = refl }
+pub reads_none : (told : Option (List Cds)) (asked : Option (List Bool)) → Reads told told asked asked []
+reads_none told asked =
+    record { shown = []; told = tells_none told; moments_are = refl; asked = tells_none asked }
   where
-    tells_none : (told : Option (List Cds)) → Tells told told []
+    tells_none : {A : Type 0} (told : Option (List A)) → Tells told told []
     tells_none told = grind (arith, append-nil)
 
-pub reads_both : (a b c : Option (List Cds)) (m n : List ℕ) → Reads a b m → Reads b c n
-    → Reads a c (m ++ n)
-reads_both a b c m n first second = record {
+pub reads_both : (a b c : Option (List Cds)) (p q r : Option (List Bool)) (m n : List Reading)
+    → Reads a b p q m → Reads b c q r n → Reads a c p r (m ++ n)
+reads_both a b c p q r m n first second = record {
   shown = first.shown ++ second.shown;
   told = tells_both a b c first.shown second.shown first.told second.told;
   moments_are = map-append moment_shown first.shown second.shown
       ∙ (ap (λ l. l ++ map moment_shown second.shown) first.moments_are
-      ∙ ap (λ l. m ++ l) second.moments_are);
+      ∙ (ap (λ l. map (λ (x : Reading). x.now) m ++ l) second.moments_are
+      ∙ sym (map-append (λ (x : Reading). x.now) m n)));
+  asked = subst (λ l. Tells p r l) (sym (map-append (λ (x : Reading). x.asked) m n))
+      (tells_both p q r (map (λ (x : Reading). x.asked) m) (map (λ (x : Reading). x.asked) n)
+      first.asked second.asked);
 }
 
 -- the last of more turns
@@ -137,18 +143,20 @@ through_behind : (s : TalkState) (a b : List Round) (tail : Tail) → GoesThroug
     → GoesThrough s (before_polls (a ++ b) tail)
 through_behind s a b whole first second = through_whole s a b first second
 through_behind s a b unheard first second = through_both s a b first second
-through_behind s a b (broken h now) first second = through_both s a b first second
+through_behind s a b (broken h read) first second = through_both s a b first second
 
-module _ {L C O : Type 0} (calls : L → Option (List Call)) (link_faults : L → ℕ)
-    (readings : C → Option (List Cds)) (written : O → Option (List ℕ)) (output_faults : O → ℕ) where
-  abbrev RanIn : List Round → TalkState → TalkState → World L C O → World L C O → Type 0
-  RanIn rounds s t old new = Ran calls link_faults readings written output_faults rounds s t old new
+module _ {L C E O : Type 0} (calls : L → Option (List Call)) (link_faults : L → ℕ)
+    (readings : C → Option (List Cds)) (asks : E → Option (List Bool))
+    (written : O → Option (List ℕ)) (output_faults : O → ℕ) where
+  abbrev RanIn : List Round → TalkState → TalkState → World L C E O → World L C E O → Type 0
+  RanIn rounds s t old new = Ran calls link_faults readings asks written output_faults rounds s t
+      old new
 
-  abbrev EndedIn : List Round → Tail → End → TalkState → World L C O → World L C O → Type 0
+  abbrev EndedIn : List Round → Tail → End → TalkState → World L C E O → World L C E O → Type 0
   EndedIn rounds tail e s old new =
-      Ended calls link_faults readings written output_faults rounds tail e s old new
+      Ended calls link_faults readings asks written output_faults rounds tail e s old new
 
-  pub ran_both : (a b : List Round) (s t u : TalkState) (p q r : World L C O) → RanIn a s t p q
+  pub ran_both : (a b : List Round) (s t u : TalkState) (p q r : World L C E O) → RanIn a s t p q
       → RanIn b t u q r → RanIn (a ++ b) s u p r
   ran_both a b s t u p q r first second = record {
     state = second.state ∙ (ap (λ x. after_rounds x b) first.state ∙ sym (after_both s a b));
@@ -159,9 +167,13 @@ module _ {L C O : Type 0} (calls : L → Option (List Call)) (link_faults : L �
     octets = subst (λ l. AreOctets (octets_heard l))
         (ap (λ x. calls_in s a ++ calls_in x b) first.state ∙ sym (calls_both s a b))
         (calls_give (calls_in s a) (calls_in t b) first.octets second.octets);
-    reads = subst (λ l. Reads (readings p.clock) (readings r.clock) l) (sym (moments_both a b))
-        (reads_both (readings p.clock) (readings q.clock) (readings r.clock) (moments a)
-        (moments b) first.reads second.reads);
+    reads = subst
+        (λ l. Reads (readings p.clock) (readings r.clock) (asks p.request)
+        (asks r.request) l)
+        (sym (readings_both a b))
+        (reads_both (readings p.clock) (readings q.clock) (readings r.clock) (asks p.request)
+        (asks q.request) (asks r.request) (readings_in a)
+        (readings_in b) first.reads second.reads);
     printed = subst (λ l. Gains (written p.output) (written r.output) l)
         (ap (λ x. lines_in s a ++ lines_in x b) first.state ∙ sym (lines_both s a b))
         (gains-append (written p.output) (written q.output) (written r.output) (lines_in s a)
@@ -173,7 +185,7 @@ module _ {L C O : Type 0} (calls : L → Option (List Call)) (link_faults : L �
   }
 
   pub ended_both : (a b : List Round) (tail : Tail) (e : End) (s t : TalkState)
-      (p q r : World L C O) → RanIn a s t p q → EndedIn b tail e t q r
+      (p q r : World L C E O) → RanIn a s t p q → EndedIn b tail e t q r
       → EndedIn (a ++ b) tail e s p r
   ended_both a b tail e s t p q r first second =
       let state : after_rounds t b ≡ after_rounds s (a ++ b) =
@@ -190,11 +202,14 @@ module _ {L C O : Type 0} (calls : L → Option (List Call)) (link_faults : L �
         octets = subst (λ l. AreOctets (octets_heard l)) joined
             (calls_give (calls_in s a) (calls_in t b ++ tail_calls tail) first.octets
             second.octets);
-        reads = subst (λ l. Reads (readings p.clock) (readings r.clock) l)
-            (sym (append_assoc (moments a) (moments b) (tail_moments tail))
-            ∙ ap (λ l. l ++ tail_moments tail) (sym (moments_both a b)))
-            (reads_both (readings p.clock) (readings q.clock) (readings r.clock) (moments a)
-            (moments b ++ tail_moments tail) first.reads second.reads);
+        reads = subst
+            (λ l. Reads (readings p.clock) (readings r.clock) (asks p.request)
+            (asks r.request) l)
+            (sym (append_assoc (readings_in a) (readings_in b) (tail_readings tail))
+            ∙ ap (λ l. l ++ tail_readings tail) (sym (readings_both a b)))
+            (reads_both (readings p.clock) (readings q.clock) (readings r.clock) (asks p.request)
+            (asks q.request) (asks r.request) (readings_in a)
+            (readings_in b ++ tail_readings tail) first.reads second.reads);
         printed = subst (λ x. PrintsTo e (written p.output) (written r.output)
             (lines_in s (a ++ b)) (tail_lines x tail)) state
             (subst (λ l. PrintsTo e (written p.output) (written r.output) l

@@ -13,9 +13,9 @@ same_by : (b : Bool) (x y : Answer) (s t : Standing) → x.status ≡ s.course.s
 same_by true x y s t first second = first
 same_by false x y s t first second = second
 
-pub same_status : (s : Standing) (waits : Bool) (now : ℕ) (h : Hearing)
-    → (answered s waits now h).status ≡ (turned s waits now h).course.status
-same_status s waits now h = same_by (is_over s.course) _ _ _ _ refl refl
+pub same_status : (s : Standing) (waits asked : Bool) (now : ℕ) (h : Hearing)
+    → (answered s waits asked now h).status ≡ (turned s waits asked now h).course.status
+same_status s waits asked now h = same_by (is_over s.course) _ _ _ _ refl refl
 
 pub front_none : (now : Option (List ℕ)) (octets : List ℕ) → GainsFront now now octets
 front_none = gains_front-none

@@ -11,6 +11,7 @@ use Rattle.user_core.specs.Turn.{Standing, Answer, new_user}
 use Rattle.user_task.specs.declared.task.Task.{Task}
 use Rattle.user_talk.specs.Outbox.{OutboxState, no_block, waits, put_in, offered, left_by}
 use Rattle.user_talk.specs.declared.outbox.Answers.{Answers}
+use Rattle.user_talk.specs.declared.reading.Reading.{Reading}
 use Rattle.user_talk.specs.declared.rounds.TheConstants.{PIECE_OCTETS}
 
 -- between two turns: the user, and what it has to offer
@@ -21,33 +22,38 @@ pub record TalkState : Type 0 where
 abbrev pub begun : Task → TalkState
 begun task = record { user = new_user task; outbox = no_block }
 
--- ---- a turn at a moment, by what is heard
+-- ---- a turn at a reading, by what is heard
 
 -- a block that waits is offered again in this turn
-abbrev pub turn_at : TalkState → ℕ → Hearing → Turn
-turn_at s now hearing = record { waits = waits s.outbox; now = now; hearing = hearing }
+abbrev pub turn_at : TalkState → Reading → Hearing → Turn
+turn_at s read hearing = record {
+  waits = waits s.outbox;
+  asked = read.asked;
+  now = read.now;
+  hearing = hearing;
+}
 
 -- what the user offers, prints and comes to
-abbrev pub answer_at : TalkState → ℕ → Hearing → Answer
-answer_at s now hearing = answer_in s.user (turn_at s now hearing)
+abbrev pub answer_at : TalkState → Reading → Hearing → Answer
+answer_at s read hearing = answer_in s.user (turn_at s read hearing)
 
 -- what it offers stands behind what waits
-abbrev pub queued_at : TalkState → ℕ → Hearing → OutboxState
-queued_at s now hearing = put_in s.outbox (answer_at s now hearing).offer
+abbrev pub queued_at : TalkState → Reading → Hearing → OutboxState
+queued_at s read hearing = put_in s.outbox (answer_at s read hearing).offer
 
-abbrev pub after_turn_at : TalkState → ℕ → Hearing → Answers → TalkState
-after_turn_at s now hearing answers = record {
-  user = after_turn s.user (turn_at s now hearing);
-  outbox = left_by (queued_at s now hearing) answers;
+abbrev pub after_turn_at : TalkState → Reading → Hearing → Answers → TalkState
+after_turn_at s read hearing answers = record {
+  user = after_turn s.user (turn_at s read hearing);
+  outbox = left_by (queued_at s read hearing) answers;
 }
 
 -- ---- turns, by what the outside answered
 
--- what the outside answered in a turn: the poll, where one was made and didn't fail, the clock, and
--- the offers
+-- what the outside answered in a turn: the poll, where one was made and didn't fail, the clock,
+-- whether the end is asked, and the offers
 pub record Round : Type 0 where
   pub heard : Option Heard
-  pub now : ℕ
+  pub read : Reading
   pub answers : Answers
 
 -- what a poll heard is to a user; one that failed is nothing to it
@@ -72,18 +78,18 @@ poll_calls None = []
 poll_calls (Some h) = Polled PIECE_OCTETS h ∷ []
 
 abbrev pub turn_of : TalkState → Round → Turn
-turn_of s r = turn_at s r.now (hearing_in r.heard)
+turn_of s r = turn_at s r.read (hearing_in r.heard)
 
 abbrev pub after_round : TalkState → Round → TalkState
-after_round s r = after_turn_at s r.now (hearing_in r.heard) r.answers
+after_round s r = after_turn_at s r.read (hearing_in r.heard) r.answers
 
 -- the poll, and then the offers
 abbrev pub calls_of : TalkState → Round → List Call
 calls_of s r =
-    poll_calls r.heard ++ offered (queued_at s r.now (hearing_in r.heard)) r.answers
+    poll_calls r.heard ++ offered (queued_at s r.read (hearing_in r.heard)) r.answers
 
 abbrev pub lines_of : TalkState → Round → List ℕ
-lines_of s r = (answer_at s r.now (hearing_in r.heard)).lines
+lines_of s r = (answer_at s r.read (hearing_in r.heard)).lines
 
 -- ---- rounds, one after the other
 
@@ -103,5 +109,5 @@ abbrev pub lines_in : TalkState → List Round → List ℕ
 lines_in s [] = []
 lines_in s (r ∷ rounds) = lines_of s r ++ lines_in (after_round s r) rounds
 
-abbrev pub moments : List Round → List ℕ
-moments rounds = map (λ (r : Round). r.now) rounds
+abbrev pub readings_in : List Round → List Reading
+readings_in rounds = map (λ (r : Round). r.read) rounds

@@ -17,47 +17,50 @@ use Rattle.user_talk.specs.Ending.{hears_close}
 use Rattle.user_talk.specs.Outbox.{any_failed}
 use Rattle.user_talk.specs.Readings.{Reads}
 use Rattle.user_talk.specs.Rounds.{TalkState, Round, begun, answer_at, hearing_in, poll_calls}
-use Rattle.user_talk.specs.Rounds.{after_round, after_rounds, calls_in, lines_in, moments}
+use Rattle.user_talk.specs.Rounds.{after_round, after_rounds, calls_in, lines_in, readings_in}
 use Rattle.user_talk.specs.declared.end.End.{End}
 use Rattle.user_talk.specs.declared.end.End.TheVariants as end
+use Rattle.user_talk.specs.declared.reading.Reading.{Reading}
 use Rattle.user_talk.specs.declared.rounds.TheConstants.{PIECE_OCTETS}
 
 -- what a talk is held over
-pub record World (L C O : Type 0) : Type 0 where
+pub record World (L C E O : Type 0) : Type 0 where
   pub link : L
   pub clock : C
+  pub request : E
   pub output : O
 
-abbrev pub world : {L C O : Type 0} → L → C → O → World L C O
-world link clock output = record { link = link; clock = clock; output = output }
+abbrev pub world : {L C E O : Type 0} → L → C → E → O → World L C E O
+world link clock request output =
+    record { link = link; clock = clock; request = request; output = output }
 
 -- what stands behind the last whole turn: nothing, a poll that failed, or a turn that was broken off
 -- before its offers
 pub data Tail : Type 0 where
   whole : Tail
   unheard : Tail
-  broken : Option Heard → ℕ → Tail
+  broken : Option Heard → Reading → Tail
 
 abbrev pub tail_calls : Tail → List Call
 tail_calls whole = []
 tail_calls unheard = Polled PIECE_OCTETS Failed ∷ []
-tail_calls (broken h now) = poll_calls h
+tail_calls (broken h read) = poll_calls h
 
-abbrev pub tail_moments : Tail → List ℕ
-tail_moments whole = []
-tail_moments unheard = []
-tail_moments (broken h now) = now ∷ []
+abbrev pub tail_readings : Tail → List Reading
+tail_readings whole = []
+tail_readings unheard = []
+tail_readings (broken h read) = read ∷ []
 
 -- of these a front may have been printed
 abbrev pub tail_lines : TalkState → Tail → List ℕ
 tail_lines s whole = []
 tail_lines s unheard = []
-tail_lines s (broken h now) = (answer_at s now (hearing_in h)).lines
+tail_lines s (broken h read) = (answer_at s read (hearing_in h)).lines
 
 abbrev pub tail_count : Tail → ℕ
 tail_count whole = 0
 tail_count unheard = 1
-tail_count (broken h now) = 1
+tail_count (broken h read) = 1
 
 -- ---- polls
 
@@ -67,7 +70,7 @@ is_polled r = is_some r.heard
 abbrev pub tail_polled : Tail → Bool
 tail_polled whole = true
 tail_polled unheard = true
-tail_polled (broken h now) = is_some h
+tail_polled (broken h read) = is_some h
 
 -- The first turn polls nothing, and each further one polls once.
 abbrev pub PollsBehindFirst : List Round → Tail → Type 0
@@ -93,7 +96,7 @@ but_last (r ∷ q ∷ rounds) = r ∷ but_last (q ∷ rounds)
 abbrev pub before_polls : List Round → Tail → List Round
 before_polls rounds whole = but_last rounds
 before_polls rounds unheard = rounds
-before_polls rounds (broken h now) = rounds
+before_polls rounds (broken h read) = rounds
 
 -- ---- how it ends
 
@@ -105,7 +108,7 @@ pub record LastIs (rounds : List Round) (P : Round → Type 0) : Type 0 where
   pub so : P last
 
 abbrev pub IsBroken : Tail → Type 0
-IsBroken (broken h now) = Unit {0}
+IsBroken (broken h read) = Unit {0}
 IsBroken _ = ⊥
 
 -- a poll failed, or one of the last turn's offers
@@ -133,18 +136,20 @@ PrintsTo _ before after lines more = Gains before after lines
 -- a turn in which this was heard, or which was broken off
 abbrev pub IsTurn : Option Heard → List Round → Tail → Type 0
 IsTurn h (r ∷ []) whole = r.heard ≡ h
-IsTurn h [] (broken k now) = k ≡ h
+IsTurn h [] (broken k read) = k ≡ h
 IsTurn h rounds tail = ⊥
 
-module _ {L C O : Type 0} (calls : L → Option (List Call)) (link_faults : L → ℕ)
-    (readings : C → Option (List Cds)) (written : O → Option (List ℕ)) (output_faults : O → ℕ) where
+module _ {L C E O : Type 0} (calls : L → Option (List Call)) (link_faults : L → ℕ)
+    (readings : C → Option (List Cds)) (asks : E → Option (List Bool))
+    (written : O → Option (List ℕ)) (output_faults : O → ℕ) where
   -- These turns were made, nothing failed in them, and the user goes on. What the polls gave are
   -- octets.
-  pub record Ran (rounds : List Round) (s t : TalkState) (old new : World L C O) : Type 0 where
+  pub record Ran (rounds : List Round) (s t : TalkState) (old new : World L C E O) : Type 0 where
     pub state : t ≡ after_rounds s rounds
     pub told : Tells (calls old.link) (calls new.link) (calls_in s rounds)
     pub octets : AreOctets (octets_heard (calls_in s rounds))
-    pub reads : Reads (readings old.clock) (readings new.clock) (moments rounds)
+    pub reads : Reads (readings old.clock) (readings new.clock)
+        (asks old.request) (asks new.request) (readings_in rounds)
     pub printed : Gains (written old.output) (written new.output) (lines_in s rounds)
     pub goes_through : GoesThrough s rounds
     pub link_well : link_faults new.link ≡ link_faults old.link
@@ -153,11 +158,11 @@ module _ {L C O : Type 0} (calls : L → Option (List Call)) (link_faults : L �
   -- These turns were made, with this behind them, and so the talk ended. Before each poll the user
   -- went on, and what the polls gave are octets.
   pub record Ended (rounds : List Round) (tail : Tail) (e : End) (s : TalkState)
-      (old new : World L C O) : Type 0 where
+      (old new : World L C E O) : Type 0 where
     pub told : Tells (calls old.link) (calls new.link) (calls_in s rounds ++ tail_calls tail)
     pub octets : AreOctets (octets_heard (calls_in s rounds ++ tail_calls tail))
     pub reads : Reads (readings old.clock) (readings new.clock)
-        (moments rounds ++ tail_moments tail)
+        (asks old.request) (asks new.request) (readings_in rounds ++ tail_readings tail)
     pub printed : PrintsTo e (written old.output) (written new.output) (lines_in s rounds)
         (tail_lines (after_rounds s rounds) tail)
     pub goes_through : GoesThrough s (before_polls rounds tail)
@@ -168,13 +173,14 @@ module _ {L C O : Type 0} (calls : L → Option (List Call)) (link_faults : L �
     pub output_kept : (e ≡ end.WriteFault)
         ⊎ (output_faults new.output ≡ output_faults old.output)
 
-  pub record WentOn (h : Option Heard) (s t : TalkState) (old new : World L C O) : Type 0 where
+  pub record WentOn (h : Option Heard) (s t : TalkState) (old new : World L C E O) : Type 0 where
     pub round : Round
     pub heard : round.heard ≡ h
     pub ran : Ran (round ∷ []) s t old new
     pub goes : t.user.course.status ≡ None
 
-  pub record WasLast (h : Option Heard) (e : End) (s : TalkState) (old new : World L C O) : Type 0 where
+  pub record WasLast (h : Option Heard) (e : End) (s : TalkState) (old new : World L C E O) :
+      Type 0 where
     pub rounds : List Round
     pub tail : Tail
     pub is : IsTurn h rounds tail
@@ -182,23 +188,24 @@ module _ {L C O : Type 0} (calls : L → Option (List Call)) (link_faults : L �
     pub ended : Ended rounds tail e s old new
 
   -- what a turn comes to
-  abbrev pub Turns : Option Heard → Option End → TalkState → TalkState → World L C O → World L C O
+  abbrev pub Turns : Option Heard → Option End → TalkState → TalkState → World L C E O → World L
+      C E O
       → Type 0
   Turns h None s t old new = WentOn h s t old new
   Turns h (Some e) s t old new = WasLast h e s old new
 
   -- so it does whatever the poll's call was by which this was heard, where that gave octets
-  abbrev pub TurnsOn : Hearing → Option End → TalkState → TalkState → World L C O → World L C O
+  abbrev pub TurnsOn : Hearing → Option End → TalkState → TalkState → World L C E O → World L C E O
       → Type 0
   TurnsOn hearing e s t old new =
       (h : Option Heard) (before : L) → hearing_in h ≡ hearing
       → Tells (calls before) (calls old.link) (poll_calls h)
       → AreOctets (octets_heard (poll_calls h))
       → link_faults old.link ≡ link_faults before
-      → Turns h e s t (world before old.clock old.output) new
+      → Turns h e s t (world before old.clock old.request old.output) new
 
   -- So many polls were made, each with a turn, and the talk goes on.
-  pub record GoesOn (count : ℕ) (s t : TalkState) (old new : World L C O) : Type 0 where
+  pub record GoesOn (count : ℕ) (s t : TalkState) (old new : World L C E O) : Type 0 where
     pub rounds : List Round
     pub polled : list_all is_polled rounds ≡ true
     pub counted : length rounds ≡ count
@@ -207,7 +214,7 @@ module _ {L C O : Type 0} (calls : L → Option (List Call)) (link_faults : L �
 
   -- So many polls were made at most, each with a turn, and the talk ended. Where they were spent, all
   -- were made.
-  pub record Ends (most : ℕ) (e : End) (s : TalkState) (old new : World L C O) : Type 0 where
+  pub record Ends (most : ℕ) (e : End) (s : TalkState) (old new : World L C E O) : Type 0 where
     pub rounds : List Round
     pub tail : Tail
     pub polled : list_all is_polled rounds ≡ true
@@ -217,12 +224,12 @@ module _ {L C O : Type 0} (calls : L → Option (List Call)) (link_faults : L �
     pub ended : Ended rounds tail e s old new
 
   -- what a poll with its turn comes to
-  abbrev pub Polls : Option End → TalkState → TalkState → World L C O → World L C O → Type 0
+  abbrev pub Polls : Option End → TalkState → TalkState → World L C E O → World L C E O → Type 0
   Polls None s t old new = GoesOn 1 s t old new
   Polls (Some e) s t old new = Ends 1 e s old new × (e ≡ end.Spent → ⊥)
 
   -- A task was talked over from its first turn on, with so many polls at most.
-  pub record Talked (task : Task) (most : ℕ) (e : End) (old new : World L C O) : Type 0 where
+  pub record Talked (task : Task) (most : ℕ) (e : End) (old new : World L C E O) : Type 0 where
     pub rounds : List Round
     pub tail : Tail
     pub polls : PollsBehindFirst rounds tail

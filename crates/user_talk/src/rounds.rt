@@ -13,6 +13,8 @@ ghost use Rattle.user_talk.specs.Running.{world, TurnsOn, Polls, Ends};
 ghost use Rattle.user_talk.specs.declared.rounds.TheConstants.{PIECE_OCTETS};
 
 use crate::end::End;
+use crate::end_request::EndRequest;
+use crate::reading::Reading;
 use crate::turn::{Stop, Talk, Turn};
 use cds_time::Clock;
 use link_model::{Link, Poll};
@@ -22,12 +24,16 @@ use user_core::Heard;
 // How many octets a poll takes at most.
 const PIECE_OCTETS: usize = 65_536;
 
-// The moment that a clock shows now. A time that names none counts as moment 0.
-pub(crate) fn read<C: Clock>(clock: &mut C) -> u128
-    ensures below { result < MOMENT_END }
-    ensures told { Reads (C.readings clock.old) (C.readings clock.new) (result ∷ []) }
+// The moment that a clock shows now, and whether the user is asked to end. A time that names no
+// moment counts as moment 0.
+pub(crate) fn read<C: Clock, E: EndRequest>(clock: &mut C, end: &mut E) -> Reading
+    ensures below { result.now < MOMENT_END }
+    ensures told { Reads (C.readings clock.old) (C.readings clock.new) (E.answers end.old)
+        (E.answers end.new) (result ∷ []) }
 {
-    clock.now().moment().unwrap_or(0)
+    let asked = end.is_asked();
+    let now = clock.now().moment().unwrap_or(0);
+    Reading { now, asked }
 }
 
 // What a poll heard; none where it failed.
@@ -78,62 +84,67 @@ fn end_at(stop: Stop) -> End
 }
 
 // Makes the turn of what was heard, and answers how the talk ended, where it did.
-pub(crate) fn make_turn<L: Link, C: Clock, O: Sink>(
+pub(crate) fn make_turn<L: Link, C: Clock, E: EndRequest, O: Sink>(
     talk: &mut Talk,
     heard: Heard<'_>,
     link: &mut L,
     clock: &mut C,
+    end: &mut E,
     output: &mut O,
 ) -> Option<End>
-    ensures { TurnsOn L.calls L.faults C.readings O.written O.faults (hearing_of heard.entry)
-        result talk.old talk.new (world link.old clock.old output.old)
-        (world link.new clock.new output.new) }
+    ensures { TurnsOn L.calls L.faults C.readings E.answers O.written O.faults
+        (hearing_of heard.entry) result talk.old talk.new (world link.old clock.old end.old output.old)
+        (world link.new clock.new end.new output.new) }
 {
-    let now = read(clock);
-    match talk.turn(now, heard, link, output) {
+    let reading = read(clock, end);
+    match talk.turn(reading, heard, link, output) {
         Ok(turn) => end_of(turn, hears_close(heard)),
         Err(stop) => Some(end_at(stop)),
     }
 }
 
 // Polls once, and makes the turn of what was heard.
-fn round<L: Link, C: Clock, O: Sink>(
+fn round<L: Link, C: Clock, E: EndRequest, O: Sink>(
     talk: &mut Talk,
     piece: &mut [u8],
     link: &mut L,
     clock: &mut C,
+    end: &mut E,
     output: &mut O,
 ) -> Option<End>
     requires piece { length piece.old ≡ PIECE_OCTETS }
     requires going { talk.old.user.course.status ≡ None }
     ensures piece { length piece.new ≡ length piece.old }
-    ensures polls { Polls L.calls L.faults C.readings O.written O.faults result talk.old talk.new
-        (world link.old clock.old output.old) (world link.new clock.new output.new) }
+    ensures polls { Polls L.calls L.faults C.readings E.answers O.written O.faults result talk.old
+        talk.new (world link.old clock.old end.old output.old)
+        (world link.new clock.new end.new output.new) }
 {
     let poll = link.poll(piece);
     match heard_in(poll, piece) {
-        Some(heard) => make_turn(talk, heard, link, clock, output),
+        Some(heard) => make_turn(talk, heard, link, clock, end, output),
         None => Some(End::LinkFault),
     }
 }
 
 // So many rounds, or until the talk ends.
 #[tactic(auto, using(crate::proofs::Polled::goes_none, crate::proofs::Polled::goes_more))]
-pub(crate) fn rounds<L: Link, C: Clock, O: Sink>(
+pub(crate) fn rounds<L: Link, C: Clock, E: EndRequest, O: Sink>(
     talk: &mut Talk,
     turns: u64,
     link: &mut L,
     clock: &mut C,
+    end: &mut E,
     output: &mut O,
 ) -> End
     requires { talk.old.user.course.status ≡ None }
-    ensures { Ends L.calls L.faults C.readings O.written O.faults turns result talk.old
-        (world link.old clock.old output.old) (world link.new clock.new output.new) }
+    ensures { Ends L.calls L.faults C.readings E.answers O.written O.faults turns result talk.old
+        (world link.old clock.old end.old output.old)
+        (world link.new clock.new end.new output.new) }
 {
     let mut piece = [0u8; PIECE_OCTETS];
     for _ in 0..turns {
-        if let Some(end) = round(talk, &mut piece, link, clock, output) {
-            return end;
+        if let Some(over) = round(talk, &mut piece, link, clock, end, output) {
+            return over;
         }
     }
     End::Spent

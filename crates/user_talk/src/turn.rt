@@ -12,6 +12,7 @@ ghost use Rattle.user_talk.specs.Rounds.{begun, answer_at, queued_at, after_turn
 ghost use Rattle.user_talk.specs.declared.turn.Stop.TheVariants as Stop;
 
 use crate::outbox::{Answers, Outbox};
+use crate::reading::Reading;
 use link_model::Link;
 use octet_core::Sink;
 use std::alloc::Global;
@@ -62,35 +63,35 @@ impl Talk {
         }
     }
 
-    // Hears what came by `now`, prints, and offers what is to be offered.
+    // Hears what came by the moment of a reading, prints, and offers what is to be offered.
     #[tactic(auto, using(crate::proofs::Turned::same_status, crate::proofs::Turned::front_none, crate::proofs::Turned::front_all))]
     pub(crate) fn turn<L: Link, O: Sink>(
         &mut self,
-        now: u128,
+        read: Reading,
         heard: Heard<'_>,
         link: &mut L,
         output: &mut O,
     ) -> Result<Turn, Stop>
-        requires { now < MOMENT_END }
+        requires { read.now < MOMENT_END }
         ensures state { IfOk result (λ t. self.new
-            ≡ after_turn_at self.old now (hearing_of heard.entry) t.answers) }
+            ≡ after_turn_at self.old read (hearing_of heard.entry) t.answers) }
         ensures status { IfOk result (λ t. t.status ≡ self.new.user.course.status) }
         ensures told { IfOk result (λ t. Tells (L.calls link.old) (L.calls link.new)
-            (offered (queued_at self.old now (hearing_of heard.entry)) t.answers)) }
+            (offered (queued_at self.old read (hearing_of heard.entry)) t.answers)) }
         ensures faults { IfOk result (λ t. CountsWhere (any_failed t.answers)
             (L.faults link.old) (L.faults link.new)) }
         ensures unheard { OnErr result (link.new ≡ link.old) }
         ensures printed { OnOk result (Gains (O.written output.old) (O.written output.new)
-            (answer_at self.old now (hearing_of heard.entry)).lines) }
+            (answer_at self.old read (hearing_of heard.entry)).lines) }
         ensures front { OnErr result (GainsFront (O.written output.old) (O.written output.new)
-            (answer_at self.old now (hearing_of heard.entry)).lines) }
+            (answer_at self.old read (hearing_of heard.entry)).lines) }
         ensures kept { IsErrOf result Stop.WriteFault
             ⊎ (O.faults output.new ≡ O.faults output.old) }
         ensures rose { IsErrOf result Stop.WriteFault
             → Rose (O.faults output.old) (O.faults output.new) }
     {
         let waits = self.outbox.waits();
-        let Ok(turned) = self.user.turn(now, waits, heard) else {
+        let Ok(turned) = self.user.turn(read.now, waits, read.asked, heard) else {
             return Err(Stop::Memory);
         };
         if output.put_all(turned.lines.as_slice()).is_err() {

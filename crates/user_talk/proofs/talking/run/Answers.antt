@@ -7,12 +7,15 @@ use Rattle.user_talk.proofs.talking.run.Goals as goal
 
 pub returns-in-Some : goal.returns-in-Some
 returns-in-Some g c =
-    let old = world c.args.link.now c.args.clock.now c.args.output.now in
-    let new = world c.make_turn.new.link c.make_turn.new.clock c.make_turn.new.output in
-    first_ends g.L.Link.calls g.L.Link.faults g.C.Clock.readings g.O.Sink.written
-    g.O.Sink.faults c.args.task c.args.turns c.in-Some.end old new
-    (subst (λ s. WasLast g.L.Link.calls g.L.Link.faults g.C.Clock.readings g.O.Sink.written
-    g.O.Sink.faults None c.in-Some.end s old new) c.new-talk.ensures
+    let old = world c.args.link.now c.args.clock.now c.args.end.now c.args.output.now in
+    let new = world c.make_turn.new.link c.make_turn.new.clock c.make_turn.new.end
+    c.make_turn.new.output in
+    first_ends g.L.Link.calls g.L.Link.faults g.C.Clock.readings
+    g.E.EndRequest.answers g.O.Sink.written
+    g.O.Sink.faults c.args.task c.args.turns c.in-Some.over old new
+    (subst (λ s. WasLast g.L.Link.calls g.L.Link.faults g.C.Clock.readings
+    g.E.EndRequest.answers g.O.Sink.written
+    g.O.Sink.faults None c.in-Some.over s old new) c.new-talk.ensures
     (c.in-Some.ensures None c.args.link.now refl (tells_none (g.L.Link.calls c.args.link.now))
     none_are refl))
 
@@ -25,12 +28,15 @@ rounds-requires-after_bounds g c =
 
 pub returns : goal.returns
 returns g c =
-    let old = world c.args.link.now c.args.clock.now c.args.output.now in
-    let mid = world c.make_turn.new.link c.make_turn.new.clock c.make_turn.new.output in
-    let new = world c.rounds.new.link c.rounds.new.clock c.rounds.new.output in
-    first_goes g.L.Link.calls g.L.Link.faults g.C.Clock.readings g.O.Sink.written
+    let old = world c.args.link.now c.args.clock.now c.args.end.now c.args.output.now in
+    let mid = world c.make_turn.new.link c.make_turn.new.clock c.make_turn.new.end
+    c.make_turn.new.output in
+    let new = world c.rounds.new.link c.rounds.new.clock c.rounds.new.end c.rounds.new.output in
+    first_goes g.L.Link.calls g.L.Link.faults g.C.Clock.readings
+    g.E.EndRequest.answers g.O.Sink.written
     g.O.Sink.faults c.args.task c.args.turns c.rounds.result c.make_turn.new.talk old mid new
-    (subst (λ s. WentOn g.L.Link.calls g.L.Link.faults g.C.Clock.readings g.O.Sink.written
+    (subst (λ s. WentOn g.L.Link.calls g.L.Link.faults g.C.Clock.readings
+    g.E.EndRequest.answers g.O.Sink.written
     g.O.Sink.faults None s c.make_turn.new.talk old mid) c.new-talk.ensures
     (c.in-None.ensures None c.args.link.now refl (tells_none (g.L.Link.calls c.args.link.now))
     none_are refl)) c.rounds.ensures
