@@ -397,7 +397,7 @@ def compare(station, listener, commander, source, sent):
     check("all frames are heard", listener.has(source.frames, 20), True)
     check("all telecommands are told", commander.has(len(sent), 20), True)
     size, stored = station.began_with
-    station.grown = resident(station.process) - size - 2 * (os.path.getsize(station.path) - stored)
+    station.grown = resident(station.process) - size - (os.path.getsize(station.path) - stored)
     check(f"grown by less than 8 MiB beside what is stored: {station.grown}", station.grown < 8 << 20, True)
     station.stop("attacked")
     told, _ = station.process.communicate(timeout=PATIENCE)
