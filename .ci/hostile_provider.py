@@ -27,6 +27,7 @@ sys.dont_write_bytecode = True
 from control_centre import (BOUND, PATIENCE, UNBOUND, UNUSED, cds, check, checks, integer, message, started,
                             stopped, tlv)
 from hostility import Generator
+from sessions import stream
 from watched import in_threads
 
 USER = os.path.abspath(sys.argv[1])
@@ -191,14 +192,27 @@ def compare(name, done, provider, service):
     check(f"{name}: the last line's end", lines.pop(), b"")
     check(f"{name}: an exit code of its own: {done.returncode}", done.returncode in STATUSES, True)
     check(f"{name}: a line that it hasn't", [line[:80] for line in lines if not LINE.fullmatch(line)], [])
+    faulty, ends = judged(provider.sent)
+    if done.returncode == 5:
+        check(f"{name}: a bad message begins where one ends", int((lines or [b" -1"])[-1].split()[-1]) in ends, True)
     if lines and lines[-1] in LAST:
-        check(f"{name}: the last line", done.returncode, LAST[lines.pop()])
+        check(f"{name}: the last line", done.returncode, LAST[lines[-1]])
+        check(f"{name}: octets that are no messages", lines.pop() == b"closed" and faulty, False)
     shown = shows(service, provider.sent)
     check(f"{name}: as `show` prints it", lines == shown[:len(lines)], True)
     # (a reset may outrun what was sent before it, and so may the program's turns where it has to wait)
     if done.returncode not in (LAST[b"link fault"], LAST[b"turns spent"]):
         right = shows(service, provider.sent[:provider.right])
         check(f"{name}: what came before is printed", lines[:len(right)] == right, True)
+
+
+def judged(octets):
+    """Whether the transport refuses octets, and the places at which a message may be bad."""
+    messages, fault = stream(octets)
+    ends = [0]
+    for _, body in messages:
+        ends.append(ends[-1] + 8 + len(body))
+    return bool(fault), ends
 
 
 def shows(service, octets):

@@ -231,6 +231,22 @@ def drive(folder, name, orders):
     return fed, sent, shim.calls(), first
 
 
+def made(folder):
+    """What `init` tells as made is there, with its name, whatever comes."""
+    shim = Shim(folder, "open " + CALLS)
+    path = os.path.join(folder, "archive")
+    done = subprocess.run([programs["provider"], "init", path], capture_output=True,
+                          env={**os.environ, **shim.environment})
+    calls = [" ".join(words) for words in shim.calls()]
+    check("init", (done.returncode, done.stdout), (0, b"made\n"))
+    opened = max(place for place, call in enumerate(calls) if call.startswith(f"= open {path} "))
+    written = max(place for place, call in enumerate(calls) if call.startswith(f"= pwrite {path} "))
+    check("init syncs the folder", f"= fsync {folder} 0" in calls[opened:], True)
+    check("init syncs the file", f"= fsync {path} 0" in calls[written:], True)
+    os.remove(path)
+    os.remove(shim.record)
+
+
 def listed(station):
     """What the archive's copy from before the run lists."""
     done = subprocess.run([programs["provider"], "list", station.path + ".before"], capture_output=True)
@@ -268,6 +284,7 @@ if compiler() is None:
     sys.exit(0)
 with tempfile.TemporaryDirectory() as folder:
     try:
+        made(folder)
         images(folder)
     except Exception as error:
         check("images", repr(error), None)
