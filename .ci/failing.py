@@ -160,7 +160,8 @@ def failing():
             for error in FAILURES[call]:
                 orders.put((call, file, number, error))
                 count += 1
-    check("calls of each kind are made", {call for call, _ in places} >= {"open", "pwrite", "fsync", "write"}, True)
+    check("each file is opened, written and synced", {({"pwrite": "write", "fdatasync": "fsync"}.get(call, call),
+          file) for call, file in places} >= {(call, file) for call in ("open", "write", "fsync") for file in FILES}, True)
     in_threads([lambda: one(orders)] * 4)
     print(f"failing: {count} runs, of the calls "
           + ", ".join(f"{call} {file} {most}" for (call, file), most in sorted(places.items())))
