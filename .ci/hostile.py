@@ -24,8 +24,8 @@ import threading
 import time
 
 sys.dont_write_bytecode = True
-from control_centre import (HEARTBEAT, PATIENCE, User, check, checks, context, elements, frame, items,
-                            programs, told_at)
+from control_centre import (HEARTBEAT, PATIENCE, User, check, checks, context, elements, items, programs,
+                            told_at)
 from drills import line_of
 from forms import identifier, moment, pdu_message
 from hostility import Generator
@@ -57,7 +57,7 @@ def configuration():
     lines = ["heartbeat 1 3600 2 100"]
     lines += [f"peer {name.decode()} {level} {hash_.decode()} 60 {word.hex()}"
               for name, (level, hash_, word) in PEERS.items()]
-    lines.append(f"raf {LISTENED.decode()} HONEST complete 5 1 60")
+    lines.append(f"raf {LISTENED.decode()} HONEST complete 1 1 60")
     for owner, names in OWNED.items():
         for name in map(bytes.decode, names):
             mode = {"onlt": "timely 5 1", "onlc": "complete 5 1", "offl": "offline 5 0"}[name[-5:-1]]
@@ -155,8 +155,9 @@ class Attacker:
             peer.settimeout(PATIENCE)
             peer.setsockopt(socket.IPPROTO_TCP, socket.TCP_NODELAY, 1)
             peer.connect(("127.0.0.1", self.port))
-            self.choices.choice([self.invoke] * 12 + [self.begin_badly] * 4 + [self.be_out_of_range, self.be_strange,
-                                 self.replay, self.beat, self.be_slow, self.be_silent, self.not_read])()
+            self.choices.choice([self.invoke] * 12 + [self.begin_badly] * 4
+                                + [self.be_out_of_range, self.be_strange, self.replay, self.beat,
+                                   self.be_slow, self.be_silent, self.not_read])()
             self.leave()
 
     def say(self, *messages):
@@ -282,10 +283,13 @@ class Source:
         return f"frame {self.day}/{self.millis}/0 0 41 0 {octets.hex()}\n"
 
     def go(self):
-        while not self.is_over:
-            self.feed([self.line() for _ in range(10)], b"")
-            if self.is_attacked:
-                self.attack()
+        try:
+            while not self.is_over:
+                self.feed([self.line() for _ in range(10)], b"")
+                if self.is_attacked:
+                    self.attack()
+        except Exception as error:
+            check("the sources", repr(error), None)
 
     def feed(self, lines, more):
         """A connection of its own, which the station has read to its end when this returns."""
@@ -299,7 +303,8 @@ class Source:
                 peer.settimeout(20)
                 while peer.recv(100):
                     pass
-            except ConnectionError:
+            except OSError:
+                # (it was closed before it had said all)
                 pass
 
     def keep(self, octets):
@@ -341,8 +346,9 @@ def stops(station):
     while not station.is_over:
         try:
             with socket.create_connection(("127.0.0.1", station.stop_port), timeout=5) as peer:
-                peer.sendall(make.choices.choice([b"", b"s", b"stop", b"STOP\n", b"stopp\n", b"stop \n", b"\nstop\n",
-                                                  b"\0" * 100_000, make.choices.randbytes(9), b"quit\n", b"sto\n"]))
+                peer.sendall(make.choices.choice([b"", b"s", b"stop", b"STOP\n", b"stopp\n", b"stop \n",
+                                                  b"\nstop\n", b"\0" * 100_000, make.choices.randbytes(9),
+                                                  b"quit\n", b"sto\n"]))
                 if make.choices.randrange(2):
                     peer.shutdown(socket.SHUT_WR)
         except OSError:
@@ -388,8 +394,9 @@ def attacked(folder, wanted):
     for other in others:
         other.join(PATIENCE)
     compare(station, listener, commander, source, sent)
-    print(f"hostile: seed {SEED}, {sum(it.said for it in attackers)} messages in {took:.0f} s; {source.frames} frames"
-          f" and {len(sent)} telecommands beside them; grown by {station.grown // 1024} KiB")
+    print(f"hostile: seed {SEED}, {sum(it.said for it in attackers)} messages in {took:.0f} s;"
+          f" {source.frames} frames and {len(sent)} telecommands beside them;"
+          f" grown by {station.grown // 1024} KiB")
 
 
 def compare(station, listener, commander, source, sent):
@@ -397,7 +404,7 @@ def compare(station, listener, commander, source, sent):
     check("all frames are heard", listener.has(source.frames, 20), True)
     check("all telecommands are told", commander.has(len(sent), 20), True)
     size, stored = station.began_with
-    station.grown = resident(station.process) - size - (os.path.getsize(station.path) - stored)
+    station.grown = resident(station.process) - size - 2 * (os.path.getsize(station.path) - stored)
     check(f"grown by less than 8 MiB beside what is stored: {station.grown}", station.grown < 8 << 20, True)
     station.stop("attacked")
     told, _ = station.process.communicate(timeout=PATIENCE)

@@ -56,7 +56,8 @@ def buffer(service, choices):
     """A transfer buffer of a few frames and notices."""
     quality = integer(choices.randrange(3)) if service == "raf" else b""
     octets = tlv("04", choices.randbytes(choices.choice([1, 20, 1_115])))
-    frame = tlv("a0", UNUSED + TIME + tlv("81", b"A") + integer(choices.choice([-1, 0, 5])) + quality + UNUSED + octets)
+    continuity = integer(choices.choice([-1, 0, 5]))
+    frame = tlv("a0", UNUSED + TIME + tlv("81", b"A") + continuity + quality + UNUSED + octets)
     told = [tlv("a1", UNUSED + tlv("82", b"")), tlv("a1", UNUSED + tlv("81", b"\1"))]
     return tlv("a8", b"".join(choices.choice([frame] * 4 + told) for _ in range(choices.randrange(1, 6))))
 
@@ -89,8 +90,8 @@ def refusals():
 def answers(service, choices):
     """What a provider sends once it heard each message, in PDUs."""
     if service == "cltu":
-        return [[BOUND[8:]], [cltu_started()], [transferred(1, 6)], [transferred(2, 7), notice(6)], [stopped(3)[8:]],
-                [UNBOUND[8:]]]
+        return [[BOUND[8:]], [cltu_started()], [transferred(1, 6)], [transferred(2, 7), notice(6)],
+                [stopped(3)[8:]], [UNBOUND[8:]]]
     frames = [buffer(service, choices) for _ in range(choices.randrange(6))]
     return [[BOUND[8:]], [started(0)[8:], *frames, end_of_data()], [stopped(1)[8:]], [UNBOUND[8:]]]
 
@@ -194,7 +195,8 @@ def compare(name, done, provider, service):
     check(f"{name}: a line that it hasn't", [line[:80] for line in lines if not LINE.fullmatch(line)], [])
     faulty, ends = judged(provider.sent)
     if done.returncode == 5:
-        check(f"{name}: a bad message begins where one ends", int((lines or [b" -1"])[-1].split()[-1]) in ends, True)
+        place = int((lines or [b" -1"])[-1].split()[-1])
+        check(f"{name}: a bad message begins where one ends", place in ends, True)
     if lines and lines[-1] in LAST:
         check(f"{name}: the last line", done.returncode, LAST[lines[-1]])
         check(f"{name}: octets that are no messages", lines.pop() == b"closed" and faulty, False)

@@ -63,7 +63,8 @@ class Generator:
     def other_length(self, pdu):
         _, at = self.choices.choice(places(pdu) or [(0, 1)])
         change = self.choices.choice([b"\x00", b"\x80", b"\xff", b"\x84\xff\xff\xff\xff", b"\x83\x00\x00\x01",
-                                      b"\x88" + b"\xff" * 8, bytes([(pdu[at] + 1) % 256]), bytes([(pdu[at] - 1) % 256])])
+                                      b"\x88" + b"\xff" * 8, bytes([(pdu[at] + 1) % 256]),
+                                      bytes([(pdu[at] - 1) % 256])])
         return self.put(pdu, at, change)
 
     def other_tag(self, pdu):

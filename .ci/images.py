@@ -15,14 +15,14 @@ import errno
 import itertools
 import os
 import random
-import re
+import shutil
 import subprocess
 import sys
 import tempfile
 
 sys.dont_write_bytecode = True
-from control_centre import (User, cds, check, checks, cltu_start, elements, frame, instance, items,
-                            programs, site, start, started, told_at, transfer)
+from control_centre import (User, check, checks, cltu_start, frame, instance, items, programs, site,
+                            start, started, told_at, transfer)
 from shim import Shim, compiler
 from watched import Watched
 
@@ -204,8 +204,7 @@ def drive(folder, name, orders):
     if not before:
         subprocess.run([programs["provider"], "init", os.path.join(folder, "archive")], check=True,
                        stdout=subprocess.DEVNULL)
-    with open(os.path.join(folder, "archive"), "rb") as file, open(os.path.join(folder, "archive.before"), "wb") as copy:
-        copy.write(file.read())
+    shutil.copy(os.path.join(folder, "archive"), os.path.join(folder, "archive.before"))
     text = site(2).replace("complete 3 1 60", "complete 1 1 60") + f"cltu {COMMANDS} MOC 100000 100 60\n"
     station = Watched(folder, 2, configuration=text, shim=shim)
     listener, commander = (User(port) for port in station.ports)

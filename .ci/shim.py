@@ -13,8 +13,6 @@ import tempfile
 
 HERE = os.path.dirname(os.path.abspath(__file__))
 PAGE = 4096
-# Stands for a number of times that none reaches.
-EVER = 1_000_000_000
 
 
 def compiler():

@@ -60,7 +60,7 @@ class Watched(Station):
         with open(text) as file, open(self.written, "w") as log:
             self.process = subprocess.Popen([program or programs["provider"], "run", *words], stdin=file,
                                             stdout=subprocess.PIPE, stderr=log,
-                                            env={name: value for name, value in env.items() if value})
+                                            env={name: value for name, value in env.items() if value is not None})
         started_ones.append(self.process)
         if began:
             self.logs("station: began")
