@@ -259,6 +259,20 @@ def site(doors):
     return "\n".join(lines) + "\n"
 
 
+def log_lines(name, text):
+    """The lines of a log, whose times are compared with the clock: each without its time, and without
+    the ports of peers, which the system chose."""
+    log = []
+    for line in text.split("\n")[:-1]:
+        at, _, text = line.partition(" ")
+        moment = re.fullmatch(r"(\d{4}-\d\d-\d\dT\d\d:\d\d:\d\d)\.\d{3}Z", at)
+        check(f"{name}: the time of {line}", moment is not None and abs(time.time() - calendar
+              .timegm(time.strptime(moment[1], "%Y-%m-%dT%H:%M:%S"))) < PATIENCE, True)
+        text = re.sub(r"127\.0\.0\.1:\d+ (connected|ended)", r"USER \1", text)
+        log.append(re.sub(r"by 127\.0\.0\.1:\d+$", "by USER", text))
+    return log
+
+
 class Station:
     def __init__(self, folder, doors, links, configuration=None, turns=TURNS, made=True,
                  stops=False, given={}):
@@ -297,14 +311,7 @@ class Station:
         with no time, and without the ports of peers, which the system chose."""
         told, complaint = self.process.communicate(timeout=PATIENCE)
         check(name, (self.process.returncode, told.decode().split("\n")[:-1]), (status, lines))
-        log = []
-        for line in complaint.decode().split("\n")[:-1]:
-            at, _, text = line.partition(" ")
-            moment = re.fullmatch(r"(\d{4}-\d\d-\d\dT\d\d:\d\d:\d\d)\.\d{3}Z", at)
-            check(f"{name}: the time of {line}", moment is not None and abs(time.time() - calendar
-                  .timegm(time.strptime(moment[1], "%Y-%m-%dT%H:%M:%S"))) < PATIENCE, True)
-            text = re.sub(r"127\.0\.0\.1:\d+ (connected|ended)", r"USER \1", text)
-            log.append(re.sub(r"by 127\.0\.0\.1:\d+$", "by USER", text))
+        log = log_lines(name, complaint.decode())
         check(f"{name}: the log's end", log[-1:], [f"station: ended with exit code {status}"])
         return log[log[:1] == ["station: began"]:-1]
 
