@@ -452,12 +452,7 @@ def operating(copy, check):
     with socket.create_server(("127.0.0.1", 0)) as station:
         port = {"STATION_STOP": str(station.getsockname()[1])}
         stopping(copy, check, station, port)
-    with socket.socket(socket.AF_UNIX) as station:
-        path = {"STATION_STOP": str(copy.top / "stop socket")}
-        station.bind(path["STATION_STOP"])
-        station.listen()
-        stopping(copy, check, station, path)
-    for given in [port, path, {"STATION_STOP": "x"}, {"STATION_STOP": ""}]:
+    for given in [port, {"STATION_STOP": "x"}, {"STATION_STOP": "/run/stop"}, {"STATION_STOP": ""}]:
         status, output, errors = copy.run([b"stop"], given=given)
         check(f"stop, {given}", (status, output, errors.count(b"\n")), (1, b"", 1))
     checking(copy, check)
@@ -467,7 +462,7 @@ def operating(copy, check):
 
 
 def stopping(copy, check, station, place):
-    """How `stop` asks a station at a port or a socket."""
+    """How `stop` asks a station."""
     operator = copy.start([b"stop"], place)
     peer, _ = station.accept()
     check(f"stop, what is asked at {place}", peer.recv(9), b"stop\n")

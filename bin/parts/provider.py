@@ -25,18 +25,12 @@ RUN = [("TURNS", number(10, MOST_TURNS)), ("LINKS", number(1, 65_536)), ("ARCHIV
        ("CLTUS", str)]
 
 
-def feed(word):
-    if word.startswith("/"):
-        return word
-    return str(PORT(word))
-
-
 def run_parser():
     parser = Parser("run")
     add = parser.add_argument
     add("--config", required=True, metavar="FILE")
     add("--archive", required=True, metavar="FILE")
-    add("--feed", required=True, type=feed, metavar="PORT")
+    add("--feed", required=True, type=PORT, metavar="PORT")
     add("--cltus", required=True, metavar="FILE")
     add("--door", required=True, type=PORT, nargs="+", action="extend", metavar="PORT")
     add("--turns", type=RUN[0][1], default=MOST_TURNS)
@@ -54,13 +48,11 @@ def run_options(given):
     for name, held in [("STATION_ADDRESS", said.address), ("STATION_STOP", said.stop)]:
         if held is not None:
             os.environ[name] = held
-    if said.feed.startswith("/"):
-        os.environ["STATION_FEED"], said.feed = said.feed, "1"
     try:
         os.dup2(os.open(said.config, os.O_RDONLY), 0)
     except OSError as why:
         refuse(f"{said.config} can't be read: {why.strerror}; it is a configuration, as examples/station.conf is", code=6)
-    return ["run", str(said.turns), str(said.links), said.archive, said.feed, said.cltus, *map(str, said.door)]
+    return ["run", str(said.turns), str(said.links), said.archive, str(said.feed), said.cltus, *map(str, said.door)]
 
 
 def check_run(given):
@@ -113,7 +105,7 @@ FORMS = {
     "init": "init has one word, the path of a new archive file, in UTF-8",
     "list": "list has one word, the path of an archive file, in UTF-8",
     "explain": "explain has no words, the word raf, rcf or cltu, or `--pcap FILE`",
-    "stop": "stop has no words: the environment's STATION_STOP names the port or socket of the station",
+    "stop": "stop has no words: the environment's STATION_STOP names the port of the station",
     "check": "check has one word, the file of a configuration",
     "prove": "prove has no words, or the word explain, capture or picture",
     "package": "package has one word, the file that it writes",

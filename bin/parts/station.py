@@ -18,10 +18,10 @@ words.LAUNCHER = "provider"
 
 
 def stop_place():
-    """The port or path at which the station hears a stop; none where it hears none."""
+    """The port at which the station hears a stop; none where it hears none."""
     place = os.environ.get("STATION_STOP", "5199")
-    if place.startswith("/") or place == "":
-        return place or None
+    if place == "":
+        return None
     if not re.fullmatch(r"[1-9][0-9]{0,4}", place) or int(place) > 65_535:
         raise ValueError
     return int(place)
@@ -29,12 +29,7 @@ def stop_place():
 
 def ask(place):
     """Asks the station there to stop: the connection that is closed once it has ended."""
-    if isinstance(place, str):
-        peer = socket.socket(socket.AF_UNIX)
-        peer.settimeout(10)
-        peer.connect(place)
-    else:
-        peer = socket.create_connection(("127.0.0.1", place), 10)
+    peer = socket.create_connection(("127.0.0.1", place), 10)
     peer.sendall(b"stop\n")
     peer.settimeout(None)
     return peer
@@ -45,7 +40,7 @@ def stop():
     try:
         place = stop_place()
     except ValueError:
-        refuse("STATION_STOP is no port, from 1 to 65535, and no path of a socket")
+        refuse("STATION_STOP is no port, from 1 to 65535")
     if place is None:
         refuse("STATION_STOP is empty: a station that hears no stop is ended by SIGTERM")
     told = b""
@@ -56,8 +51,7 @@ def stop():
     except OSError:
         pass
     if told != b"stopping\n":
-        where = f"port {place}" if isinstance(place, int) else place
-        refuse(f"no station hears at {where}; STATION_STOP names the port or socket of one")
+        refuse(f"no station hears at port {place}; STATION_STOP names the port of one")
     print("stopped")
 
 
