@@ -308,8 +308,8 @@ def retrying(folder):
         with peer:
             check("a user who comes again", len(peer.recv(20)), 20)
             user.terminate()
-            user.terminate()
     user.communicate(timeout=PATIENCE)
+    check("a user who comes again, asked to end", user.returncode in (8, 11), True)
 
 
 # ---- a package

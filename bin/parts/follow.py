@@ -122,6 +122,8 @@ class Output:
     def __init__(self, counts, frames, lines):
         self.counts, self.frames, self.lines = counts, frames, lines
         self.rest, self.last = b"", []
+        # whether the run was asked to end
+        self.asked = False
 
     def take(self, piece):
         if self.lines:
@@ -195,6 +197,9 @@ class Asking:
         if os.path.isdir(os.path.dirname(self.file)):
             open(self.file, "w").close()
 
+    def was_asked(self):
+        return self.signal is not None or bool(self.file) and os.path.exists(self.file)
+
     def begin(self, child, seconds):
         self.child = child
         if seconds:
@@ -233,6 +238,7 @@ def run(program, line, env, output, seconds=None, stdin=None):
         # (without a reader the program's next write fails, and that ends it)
         child.stdout.close()
         code = child.wait()
+        output.asked = asking.was_asked()
         asking.end()
         if progress:
             progress.end()

@@ -305,8 +305,8 @@ def pauses(retry):
 
 
 def again(code, output, pause):
-    """Whether a connection that couldn't be made, or broke, is tried again."""
-    if pause is None or code not in (8, 11):
+    """Whether a connection that couldn't be made, or broke, is tried again: not once the run was asked to end."""
+    if pause is None or output.asked or code not in (8, 11):
         return False
     say(f"{follow.end_in_words(code, output.last_lines(), '', '')}; again in {pause} s")
     time.sleep(pause)
