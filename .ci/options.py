@@ -309,7 +309,7 @@ def retrying(folder):
             check("a user who comes again", len(peer.recv(20)), 20)
             user.terminate()
     user.communicate(timeout=PATIENCE)
-    check("a user who comes again, asked to end", user.returncode in (8, 11), True)
+    check(f"a user who comes again, asked to end: {user.returncode}", user.returncode in (8, 11), True)
 
 
 # ---- a package

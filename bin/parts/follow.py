@@ -219,11 +219,16 @@ def run(program, line, env, output, seconds=None, stdin=None):
     follows = line[0] in ("raf", "rcf", "rocf")
     with tempfile.TemporaryDirectory(prefix="user-") as folder:
         asking = Asking(follows, folder)
-        for each in signal.SIGINT, signal.SIGTERM:
+        signals = {signal.SIGINT, signal.SIGTERM}
+        # (one that comes before the program runs waits until it does)
+        signal.pthread_sigmask(signal.SIG_BLOCK, signals)
+        for each in signals:
             signal.signal(each, asking.heed)
         env = {**env, "USER_END": asking.file} if asking.file else env
-        child = subprocess.Popen([program, *line], stdout=subprocess.PIPE, stdin=stdin, env=env, start_new_session=True)
+        child = subprocess.Popen([program, *line], stdout=subprocess.PIPE, stdin=stdin, env=env, start_new_session=True,
+                                 preexec_fn=lambda: signal.pthread_sigmask(signal.SIG_UNBLOCK, signals))
         asking.begin(child, seconds)
+        signal.pthread_sigmask(signal.SIG_UNBLOCK, signals)
         progress = None
         if output.counts and sys.stderr.isatty():
             progress = Progress(output.counts)
