@@ -75,8 +75,10 @@ class Run:
                     self.hear(listener, commander, number + 1)
             self.station.stop("failing")
         except (OSError, EOFError) as error:
-            # (nothing listens where it ended, which its exit code tells)
-            if self.station.process.poll() is None:
+            # (nothing listens where it ended or is just ending, which its exit code tells)
+            try:
+                self.station.process.wait(5)
+            except subprocess.TimeoutExpired:
                 check("a user", repr(error), None)
 
     def hear(self, listener, commander, count):
