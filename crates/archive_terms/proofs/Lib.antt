@@ -19,3 +19,9 @@ pub mod Waiting
 pub mod Fills
 pub mod Agreement
 pub mod Agreeing
+pub mod Steps
+pub mod StillRounds
+pub mod GrowingRounds
+pub mod AllRounds
+pub mod Offers
+pub mod FewBuffers

@@ -35,14 +35,14 @@ resting n k since fixed ended =
     }
 
 -- the notifications among archived items are the losses and production changes
-same_notices : (entries : List (ℕ × Entry))
+pub same_notices : (entries : List (ℕ × Entry))
     → list_any is_notification (archived_items entries)
     ≡ list_any is_notice_item (archived_items entries)
 same_notices [] = refl
 same_notices (x ∷ entries) = cc (same_notices entries)
 
 -- with entries left the first cut buffer has as many as are held
-first_cut : (size : ℕ) (waiting : List (ℕ × Entry)) → 0 < size → 0 < length waiting
+pub first_cut : (size : ℕ) (waiting : List (ℕ × Entry)) → 0 < size → 0 < length waiting
     → cut size (archived_items waiting)
     ≡ archived_items (take (room size None waiting) waiting)
     ∷ cut size (archived_items (drop (room size None waiting) waiting))
@@ -53,7 +53,7 @@ first_cut size waiting some left =
     (cut-step size items some (omega (arith, length-map waiting (λ x. archived x.0 x.1))))
 
 -- where entries are left behind the held ones, these are complete
-complete_or_last : (size : ℕ) (waiting : List (ℕ × Entry)) → room size None waiting < length waiting
+pub complete_or_last : (size : ℕ) (waiting : List (ℕ × Entry)) → room size None waiting < length waiting
     → is_complete size (archived_items (take (room size None waiting) waiting)) ≡ true
 complete_or_last size waiting left =
     let items : List Item = archived_items waiting in
@@ -174,7 +174,7 @@ nothing_left t entries closed now n since some within no_end due =
         let all : length waiting ≤ k = grind (arith, complete_or_last t.size waiting, parts.0) in
         by_stop closed held all parts.0 parts.1
 
-take_none : {X : Type 0} → (n : ℕ) → take n (let none : List X = [] in none) ≡ []
+pub take_none : {X : Type 0} → (n : ℕ) → take n (let none : List X = [] in none) ≡ []
 take_none n = take_all n [] (omega arith)
 
 -- the buffers that rounds at one front hand over

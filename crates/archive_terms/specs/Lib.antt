@@ -6,3 +6,4 @@ pub mod Continuity
 pub mod Glimpse
 pub mod Placed
 pub mod Examples
+pub mod Progress

@@ -29,7 +29,13 @@ ghost use Rattle.archive_terms.specs.Rounds.{ends_run, handed_buffer, picked_at,
 ghost use Rattle.archive_terms.specs.Rounds.{handed, kept, discarded, failed, outcomes};
 ghost use Rattle.archive_terms.specs.Rounds.{handed_buffers, handed_items, settled_items};
 ghost use Rattle.archive_terms.specs.Rounds.{without_backlog, FrontsRise, last_front, to_hand_over};
-ghost use Rattle.archive_terms.specs.Rounds.{TimelyShape};
+ghost use Rattle.archive_terms.specs.Rounds.{TimelyShape, after_rounds};
+ghost use Rattle.archive_terms.specs.Progress.{unready_at, put_by};
+ghost use Rattle.archive_terms.specs.Delivery.{is_late, limit_of};
+ghost use Rattle.archive_terms.specs.Rounds.{Answer};
+ghost use Rattle.archive_terms.specs.Progress.{taken_rounds, all_keep, is_to_tell, ready_at};
+ghost use Rattle.archive_terms.specs.Progress.{still_buffers_at};
+ghost use Rattle.archive_terms.specs.Progress.{are_enough_at};
 ghost use Rattle.archive_terms.specs.Continuity.{frame_places, last_frame, with_frame_before};
 ghost use Rattle.archive_terms.specs.Continuity.{continuity, continuities, told_items};
 ghost use Rattle.archive_terms.specs.Continuity.{told_buffers, gap, gaps, lost_of, lost_up_to};
@@ -500,4 +506,115 @@ pub fn examples()
     ensures buffers_of_ten { let rounds = rounds_of_stream ++ free_round 20 (day_time 37600) ∷ [] in
         map length (handed_buffers (outcomes (all_from complete 10 5 0) stream rounds started))
         ≡ 10 ∷ 10 ∷ [] }
+{}
+
+/// After any rounds, a round whose link answers, whatever the answer, offers the first of the buffers
+/// that are ready; and where none is, the last one that waits, once the round's moment is at or past
+/// that at which its first item was put plus the latency limit. So a timely delivery hands it over
+/// or discards it, and tells a discard in the next offer.
+pub fn what_is_ready_is_offered()
+    ensures ready { (t : Terms) (entries : List Entry) (rounds : List Round) (front now : ℕ)
+        (answer : Answer)
+        → 0 < t.size → IsArchive entries → FrontsRise 0 rounds → last_front 0 rounds ≤ front
+        → (items : List Item) (rest : List (List Item)) →
+        let d = after_rounds t entries rounds started in
+        let r : Round = record { front = front; now = now; link = free answer } in
+        ready_at t entries front d ≡ items ∷ rest
+        → (outcome t entries r d).offer ≡ Some (items, answer) }
+    ensures late { (t : Terms) (entries : List Entry) (rounds : List Round) (front now : ℕ)
+        (answer : Answer)
+        → 0 < t.size → IsArchive entries → FrontsRise 0 rounds → last_front 0 rounds ≤ front
+        → (items : List Item) →
+        let d = after_rounds t entries rounds started in
+        let r : Round = record { front = front; now = now; link = free answer } in
+        ready_at t entries front d ≡ [] → unready_at t entries front d ≡ items ∷ []
+        → IsTrue (is_late (limit_of t) (put_by d now) now)
+        → (outcome t entries r d).offer ≡ Some (items, answer) }
+{}
+
+/// Where the front stands still and the link takes each offer whole, a delivery hands over, one
+/// buffer a round, those that are ready: a fixed one, each that is full or holds a notification,
+/// and where the stop is closed the last one too and then end of data. Where the stop is open, an
+/// online delivery hands the last one over once a round comes at or past the moment at which its
+/// first item was put plus the latency limit.
+pub fn still_rounds()
+    ensures { (t : Terms) (entries : List Entry) (rounds : List Round) (front : ℕ)
+        (moments : List ℕ)
+        → 0 < t.size → IsArchive entries → FrontsRise 0 rounds → last_front 0 rounds ≤ front
+        → let d = after_rounds t entries rounds started in
+        handed_buffers (outcomes t entries (map (free_round front) moments) d)
+        ≡ still_buffers_at t entries front d moments }
+{}
+
+/// Whatever comes meanwhile, each round in which the link takes an offer whole hands over the next
+/// of the buffers that were ready before these rounds: the archive may grow, and a complete or
+/// offline delivery's link may stall between them. It is so of a timely one whose link doesn't
+/// stall, where no backlog is to be told first.
+pub fn ready_buffers_come()
+    ensures { (t : Terms) (entries : List Entry) (rounds later : List Round) (front : ℕ)
+        → 0 < t.size → IsArchive entries → FrontsRise 0 rounds → last_front 0 rounds ≤ front
+        → FrontsRise front later → IsTrue (all_keep t.mode later)
+        → let d = after_rounds t entries rounds started in
+        let due = take (taken_rounds later) (ready_at t entries front d) in
+        IsFalse (is_timely t.mode && is_to_tell d)
+        → take (length due) (handed_buffers (outcomes t entries later d)) ≡ due }
+{}
+
+/// In enough rounds whose link takes each offer whole, all is handed over: as many as there are
+/// ready buffers, and where a last one isn't ready, one more at or past the moment at which its
+/// first item was put plus the latency limit. A complete or offline START has then handed over all
+/// that it is to hand over, end of data too where the stop is closed; a timely one has handed over
+/// or discarded it.
+pub fn all_is_handed_over()
+    ensures complete { (t : Terms) (entries : List Entry) (rounds : List Round) (front : ℕ)
+        (moments : List ℕ)
+        → 0 < t.size → IsArchive entries → FrontsRise 0 rounds → last_front 0 rounds ≤ front
+        → let d = after_rounds t entries rounds started in
+        let still = outcomes t entries (map (free_round front) moments) d in
+        IsFalse (is_timely t.mode) → IsTrue (are_enough_at t entries front d moments)
+        → handed_items (outcomes t entries rounds started) ++ handed_items still
+        ≡ to_hand_over t (take front entries) }
+    ensures timely { (t : Terms) (entries : List Entry) (rounds : List Round) (front : ℕ)
+        (moments : List ℕ)
+        → 0 < t.size → IsArchive entries → FrontsRise 0 rounds → last_front 0 rounds ≤ front
+        → let d = after_rounds t entries rounds started in
+        let still = outcomes t entries (map (free_round front) moments) d in
+        IsTrue (are_enough_at t entries front d moments)
+        → without_backlog (settled_items (outcomes t entries rounds started))
+        ++ without_backlog (handed_items still)
+        ≡ to_hand_over t (take front entries) }
+{}
+
+/// No more ready buffers are left than picked entries and two, a fixed one and end of data.
+pub fn few_buffers_are_left()
+    ensures { (t : Terms) (entries : List Entry) (rounds : List Round) (front : ℕ)
+        → 0 < t.size → IsArchive entries → FrontsRise 0 rounds → last_front 0 rounds ≤ front
+        → length (ready_at t entries front (after_rounds t entries rounds started))
+        ≤ length (picked_at t entries front) + 2 }
+{}
+
+/// Frames fill buffers of at most eight items by their number alone: so many frames fill as many
+/// buffers as their number divided by the size, rounded up.
+pub fn frames_fill_few_buffers()
+    ensures enough { (size : ℕ) (items : List Item) → 0 < size → size ≤ 8
+        → IsTrue (list_all is_short_frame items) → length items ≤ length (cut size items) * size }
+    ensures no_more { (size : ℕ) (items : List Item) → 0 < size → size ≤ 8
+        → IsTrue (list_all is_short_frame items)
+        → length (cut size items) * size < length items + size }
+{}
+
+/// An offline START with buffers of at most eight frames and a closed stop has handed over all that
+/// it picks, and end of data, after as many rounds as its frames fill buffers and two, wherever it
+/// stands.
+pub fn frames_come_in_few_rounds()
+    ensures { (t : Terms) (entries : List Entry) (rounds : List Round) (front : ℕ)
+        (moments : List ℕ)
+        → 0 < t.size → t.size ≤ 8 → IsFalse (is_timely t.mode) → IsFalse t.selection.notices
+        → IsArchive entries → FrontsRise 0 rounds → last_front 0 rounds ≤ front
+        → IsTrue (is_stop_closed t.selection (take front entries))
+        → length (picked_at t entries front) + 2 * t.size ≤ length moments * t.size
+        → let d = after_rounds t entries rounds started in
+        handed_items (outcomes t entries rounds started)
+        ++ handed_items (outcomes t entries (map (free_round front) moments) d)
+        ≡ to_hand_over t (take front entries) }
 {}

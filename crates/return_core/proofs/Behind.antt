@@ -56,7 +56,7 @@ pub go_last : (rounds : List Round) (r : Round) → all_go_on rounds ≡ true �
 go_last rounds r goes last = grind (arith, list_all-append)
 
 -- a link that goes on didn't fail, whatever is offered
-not_failed : (link : Link) (fixed : Bool) → goes_on link ≡ true
+pub not_failed : (link : Link) (fixed : Bool) → goes_on link ≡ true
     → is_failed link (cond fixed (answer_on link) None) ≡ false
 not_failed link fixed goes = grind arith
 

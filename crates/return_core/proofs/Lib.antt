@@ -6,3 +6,4 @@ pub mod Stands
 pub mod Visits
 pub mod Longer
 pub mod Looks
+pub mod Coming

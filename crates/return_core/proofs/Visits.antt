@@ -26,7 +26,7 @@ Law =
     (c : Course) (t : Terms) (entries : List Entry) (rounds : List Round)
     → StandsFor c t entries rounds → PlacesAreCounts t entries
 
-last_behind : (from : ℕ) (rounds : List Round) (r : Round)
+pub last_behind : (from : ℕ) (rounds : List Round) (r : Round)
     → last_front from (rounds ++ r ∷ []) ≡ r.front
 last_behind from [] r = refl
 last_behind from (q ∷ rounds) r = last_behind q.front rounds r
@@ -78,7 +78,7 @@ fate_same : (c : Course) (t : Terms) (entries : List Entry) (rounds : List Round
     → StandsFor c t entries rounds → fate_of c t answer ≡ fate_by c answer
 fate_same c t entries rounds answer s = rw s.run refl
 
-one_stands : Law → (c : Course) (t : Terms) (entries : List Entry) (rounds : List Round)
+pub one_stands : Law → (c : Course) (t : Terms) (entries : List Entry) (rounds : List Round)
     (v : Visit) → StandsFor c t entries rounds → last_front t.selection.first rounds ≤ front_of v
     → IsLook entries c v → goes_on (round_of v).link ≡ true → OneStands c t entries rounds v
 one_stands law c t entries rounds (passed front now) s later look goes = record {
@@ -113,7 +113,7 @@ front_same (passed front now) = refl
 front_same (stepped g now None) = refl
 front_same (stepped g now (Some answer)) = refl
 
-both : (a b : Bool) → (a && b) ≡ true → (a ≡ true) × (b ≡ true)
+pub both : (a b : Bool) → (a && b) ≡ true → (a ≡ true) × (b ≡ true)
 both a b e = grind arith
 
 -- ---- all of them

@@ -4,3 +4,5 @@ pub mod Holding
 pub mod Course
 pub mod Standing
 pub mod Visits
+pub mod Coming
+pub mod Promise

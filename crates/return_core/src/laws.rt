@@ -1,7 +1,7 @@
 // Laws of deliveries over rounds, each the contract of a function that does nothing: a caller has
 // the law by the call.
 ghost use Rattle.std.specs.Prelude.{◌≡◌, ℕ, ◌^◌, ◌<◌, ◌≤◌, true, false, IsTrue, IsFalse, List, []};
-ghost use Rattle.std.specs.Prelude.{◌∷◌, ◌++◌, length, take, Option};
+ghost use Rattle.std.specs.Prelude.{◌∷◌, ◌++◌, ◌&&◌, length, take, Bool, Option, None};
 ghost use Rattle.std.specs.List.{list_any};
 ghost use Rattle.archive_terms.specs.Archive.{Entry, IsArchive};
 ghost use Rattle.archive_terms.specs.Selection.{picked, is_stop_closed};
@@ -10,16 +10,23 @@ ghost use Rattle.archive_terms.specs.Delivery.{archived_items, end_of_data, star
 ghost use Rattle.archive_terms.specs.Rounds.{Answer, free, Round, nothing, outcomes, handed_items};
 ghost use Rattle.archive_terms.specs.Rounds.{settled_items, without_backlog, last_front};
 ghost use Rattle.archive_terms.specs.Rounds.{to_hand_over, TimelyShape};
-ghost use Rattle.archive_terms.specs.Glimpse.{Want, glimpse};
+ghost use Rattle.archive_terms.specs.Glimpse.{Want, Glimpse, glimpse};
 ghost use Rattle.frame_select.specs.Glimpse.{as_said};
 ghost use Rattle.return_core.specs.Item.{are_of_archive};
-ghost use Rattle.return_core.specs.Course.{Course, is_offering, want_of_course};
+ghost use Rattle.return_core.specs.Course.{Course, is_offering, want_of_course, with_step};
 ghost use Rattle.return_core.specs.Standing.{goes_on, all_go_on, waiting_round, blocked_round};
-ghost use Rattle.return_core.specs.Standing.{answered_round, StandsFor};
+ghost use Rattle.return_core.specs.Standing.{answered_round, StandsFor, Steps};
 ghost use Rattle.return_core.specs.Visits.{Visit, stepped, rounds_of, IsLook, AreLooks};
 ghost use Rattle.return_core.specs.Visits.{VisitsStand};
+ghost use Rattle.return_core.specs.Coming.{AreTaken, moments_of, all_find, HandsStill, HandsReady};
+ghost use Rattle.return_core.specs.Coming.{AreTakenOrKept, flagged};
+ghost use Rattle.archive_terms.specs.Progress.{taken_rounds, all_keep, is_to_tell, are_enough_at};
+ghost use Rattle.archive_terms.specs.Rounds.{after_rounds};
 
-use archive_terms::laws::{complete_delivery, places_are_counts, timely_delivery};
+use archive_terms::laws::{
+    all_is_handed_over, complete_delivery, places_are_counts, ready_buffers_come, still_rounds,
+    timely_delivery,
+};
 
 /// A round in which a block of an earlier round waits leaves a delivery as it is, and one whose
 /// buffer isn't due stands whatever its link would have answered; nothing is done in a round in
@@ -52,6 +59,18 @@ pub fn each_visit_stands()
         → StandsFor c t entries rounds
         → AreLooks entries (last_front t.selection.first rounds) c visits
         → IsTrue (all_go_on (rounds_of visits)) → VisitsStand c t entries rounds visits }
+{
+    places_are_counts();
+}
+
+/// After a step on the look that it wanted, a delivery offers a buffer exactly where its START is due
+/// one in that round, and it is the same.
+pub fn a_step_offers_what_is_due()
+    ensures { (c : Course) (t : Terms) (entries : List Entry) (rounds : List Round) (g : Glimpse)
+        (now : ℕ)
+        → StandsFor c t entries rounds → last_front t.selection.first rounds ≤ g.front
+        → IsLook entries c (stepped g now None)
+        → Steps (with_step c g now) t entries rounds g.front now }
 {
     places_are_counts();
 }
@@ -137,3 +156,64 @@ pub fn looks_are_of_archive()
     ensures { (entries : List Entry) (want : Want) → IsArchive entries → length entries < 2 ^ 64
         → IsTrue (are_of_archive (as_said (glimpse entries want)).items) }
 {}
+
+/// What is owed comes. Where each visit finds the same front, and the buffer that is due in it is
+/// taken whole, a delivery hands over, one buffer a visit, those that are ready, and the last one
+/// once it is late (`still`). After enough of them a complete or offline START has handed over all
+/// that it is to hand over, end of data too where the stop is closed (`complete`), and a timely one
+/// has handed over or discarded it (`timely`). While the archive grows, or a complete or offline
+/// START's link stalls, each visit whose buffer is taken whole hands over the next of those that
+/// were ready before (`ready`); where each one's is, every visit does (`each`). Among visits that
+/// stall, those whose buffer is taken, if one is due, are enough (`some`): a stall costs its own
+/// visit and no more.
+pub fn what_is_owed_comes()
+    ensures still { (c : Course) (t : Terms) (entries : List Entry) (rounds : List Round)
+        (visits : List Visit) (front : ℕ)
+        → StandsFor c t entries rounds
+        → AreLooks entries (last_front t.selection.first rounds) c visits
+        → last_front t.selection.first rounds ≤ front → IsTrue (all_find front visits)
+        → AreTaken c visits → HandsStill t entries rounds visits front }
+    ensures complete { (c : Course) (t : Terms) (entries : List Entry) (rounds : List Round)
+        (visits : List Visit) (front : ℕ)
+        → StandsFor c t entries rounds
+        → AreLooks entries (last_front t.selection.first rounds) c visits
+        → last_front t.selection.first rounds ≤ front → IsTrue (all_find front visits)
+        → AreTaken c visits → IsFalse (is_timely t.mode)
+        → IsTrue (are_enough_at t entries front (after_rounds t entries rounds started)
+        (moments_of visits))
+        → handed_items (outcomes t entries (rounds ++ rounds_of visits) started)
+        ≡ to_hand_over t (take front entries) }
+    ensures timely { (c : Course) (t : Terms) (entries : List Entry) (rounds : List Round)
+        (visits : List Visit) (front : ℕ)
+        → StandsFor c t entries rounds
+        → AreLooks entries (last_front t.selection.first rounds) c visits
+        → last_front t.selection.first rounds ≤ front → IsTrue (all_find front visits)
+        → AreTaken c visits
+        → IsTrue (are_enough_at t entries front (after_rounds t entries rounds started)
+        (moments_of visits))
+        → without_backlog (settled_items (outcomes t entries (rounds ++ rounds_of visits) started))
+        ≡ to_hand_over t (take front entries) }
+    ensures ready { (c : Course) (t : Terms) (entries : List Entry) (rounds : List Round)
+        (visits : List Visit) (front : ℕ)
+        → StandsFor c t entries rounds → last_front t.selection.first rounds ≤ front
+        → AreLooks entries front c visits → IsTrue (all_keep t.mode (rounds_of visits))
+        → IsFalse (is_timely t.mode && is_to_tell (after_rounds t entries rounds started))
+        → HandsReady t entries rounds visits front (taken_rounds (rounds_of visits)) }
+    ensures each { (c : Course) (t : Terms) (entries : List Entry) (rounds : List Round)
+        (visits : List Visit) (front : ℕ)
+        → StandsFor c t entries rounds → last_front t.selection.first rounds ≤ front
+        → AreLooks entries front c visits → AreTaken c visits
+        → IsFalse (is_timely t.mode && is_to_tell (after_rounds t entries rounds started))
+        → HandsReady t entries rounds visits front (length visits) }
+    ensures some { (c : Course) (t : Terms) (entries : List Entry) (rounds : List Round)
+        (flags : List Bool) (visits : List Visit) (front : ℕ)
+        → StandsFor c t entries rounds → last_front t.selection.first rounds ≤ front
+        → AreLooks entries front c visits → AreTakenOrKept t.mode c flags visits
+        → IsFalse (is_timely t.mode && is_to_tell (after_rounds t entries rounds started))
+        → HandsReady t entries rounds visits front (flagged flags) }
+{
+    places_are_counts();
+    still_rounds();
+    all_is_handed_over();
+    ready_buffers_come();
+}
