@@ -13,12 +13,12 @@ ghost use Rattle.return_pdu.specs.TransferItem.{ItemFits};
 ghost use Rattle.return_pdu.specs.Seen.{item_of};
 
 use ber_core::{BerFault, Reader, Writer};
-use buffer_message::{BufferMessage, ReturnService};
+use buffer_message::BufferMessage;
 use cds_time::{Cds, Rest};
 use frame_select::Item;
 use isp1_tml::HEADER;
 use octet_core::{Memory, Octets};
-use return_pdu::{TransferBuffer, TransferItem, buffer_head, buffer_length};
+use return_pdu::{ReturnKind, TransferBuffer, TransferItem, buffer_head, buffer_length};
 use sle_numbers::FrameQuality;
 use std::alloc::Global;
 use std::{env, io};
@@ -132,7 +132,7 @@ fn write_items(item: &TransferItem, writer: &mut Writer)
 fn write_message(items: &[Item], writer: &mut Writer) -> usize
     requires { IsTrue (fits_message (items_of items.now)) }
 {
-    let message = BufferMessage::unsigned(ReturnService::Raf, items);
+    let message = BufferMessage::unsigned(ReturnKind::Raf, items);
     writer.clear();
     if writer.room() < message.length() {
         return 0;
@@ -206,7 +206,7 @@ fn start(alloc: Global, items: &[Item]) -> Option<(Writer, Writer)> {
     if !BufferMessage::fits(items) {
         return None;
     }
-    let message = BufferMessage::unsigned(ReturnService::Raf, items);
+    let message = BufferMessage::unsigned(ReturnKind::Raf, items);
     let written = message.written(alloc).ok()?;
     let spare = Writer::new(alloc, message.length()).ok()?;
     Some((written, spare))

@@ -27,8 +27,8 @@ use Rattle.sle_numbers.specs.declared.lock_status.LockStatus.TheVariants as lock
 use Rattle.archive_terms.specs.Archive.{frame, loss_of_sync, production}
 use Rattle.archive_terms.specs.Delivery.{archived, frame_octets}
 use Rattle.archive_terms.specs.Placed.{ToldItem}
-use Rattle.return_pdu.specs.declared.service.Service.{Service}
-use Rattle.return_pdu.specs.declared.service.Service.TheVariants.{Raf, Rcf}
+use Rattle.return_pdu.specs.declared.return_kind.ReturnKind.{ReturnKind}
+use Rattle.return_pdu.specs.declared.return_kind.ReturnKind.TheVariants.{Raf, Rcf}
 use Rattle.return_pdu.specs.Frames.{continuity, quality, raf_parts, rcf_parts}
 use Rattle.return_pdu.specs.Notification.{told_fields}
 use Rattle.return_pdu.specs.TransferItem.{ItemContent, item_shape, item_tree, ItemFits}
@@ -59,7 +59,7 @@ some_quality (suc (suc (suc n))) small = absurd (omega (arith, small))
 
 -- ---- an item of its service
 
-service_fits : (s : Service) (i : ItemContent) → (item_shape s).Fits i → ItemFits i
+service_fits : (s : ReturnKind) (i : ItemContent) → (item_shape s).Fits i → ItemFits i
 service_fits Raf (pdu.told t) fits = fits
 service_fits Rcf (pdu.told t) fits = fits
 service_fits Raf (pdu.frame f) fits =
@@ -69,7 +69,7 @@ service_fits Rcf (pdu.frame f) fits =
     subst (λ some. (item_shape (if some then Raf else Rcf)).Fits (pdu.frame f))
     (sym (ap is_some fits.no_quality)) fits
 
-same_tree : (s : Service) (i : ItemContent) → (item_shape s).Fits i
+same_tree : (s : ReturnKind) (i : ItemContent) → (item_shape s).Fits i
     → (item_shape s).tree i ≡ item_tree i
 same_tree Raf (pdu.told t) fits = refl
 same_tree Rcf (pdu.told t) fits = refl
@@ -118,7 +118,7 @@ IsNotice (pdu.told t) = Unit {0}
 IsNotice (pdu.frame f) = ⊥
 
 module _ (c : Option (List ℕ)) (signed : credentials.Fits c) where
-  pub shaped : (s : Service) (x : ToldItem) → TimeFits x → is_in_range x ≡ true
+  pub shaped : (s : ReturnKind) (x : ToldItem) → TimeFits x → is_in_range x ≡ true
       → (item_shape s).Fits (content_of s c x)
   shaped Raf (archived place (frame f), Some z) fields is =
       let p = parts (length f.antenna) f.quality (length f.octets) (is_continuity z) is in
@@ -164,7 +164,7 @@ module _ (c : Option (List ℕ)) (signed : credentials.Fits c) where
   shaped Raf _ fields is = (signed, tt)
   shaped Rcf _ fields is = (signed, tt)
 
-  pub item_fits : (s : Service) (x : ToldItem) → TimeFits x → is_in_range x ≡ true
+  pub item_fits : (s : ReturnKind) (x : ToldItem) → TimeFits x → is_in_range x ≡ true
       → ItemFits (content_of s c x)
   item_fits s x fields is = service_fits s (content_of s c x) (shaped s x fields is)
 
@@ -243,7 +243,7 @@ module _ (c : Option (List ℕ)) (signed : credentials.Fits c) where
         length-no_trees,
       )
 
-  few_notice : (s : Service) (i : ItemContent) → IsNotice i → (item_shape s).Fits i
+  few_notice : (s : ReturnKind) (i : ItemContent) → IsNotice i → (item_shape s).Fits i
       → length (canonical ((item_shape s).tree i)) ≤ 400
   few_notice Raf (pdu.told t) is fits =
       omega (arith, structured_few (0xa1 ∷ []) told_fields t fits)
@@ -251,7 +251,7 @@ module _ (c : Option (List ℕ)) (signed : credentials.Fits c) where
       omega (arith, structured_few (0xa1 ∷ []) told_fields t fits)
   few_notice s (pdu.frame f) is fits = absurd is
 
-  few_shaped : (s : Service) (x : ToldItem) → TimeFits x → is_in_range x ≡ true
+  few_shaped : (s : ReturnKind) (x : ToldItem) → TimeFits x → is_in_range x ≡ true
       → length (canonical ((item_shape s).tree (content_of s c x))) ≤ frame_octets x.0 + 400
   few_shaped Raf (archived place (frame f), Some z) fields is =
       let p = parts (length f.antenna) f.quality (length f.octets) (is_continuity z) is in
@@ -264,7 +264,7 @@ module _ (c : Option (List ℕ)) (signed : credentials.Fits c) where
   few_shaped s x fields is =
       omega (arith, few_notice s (content_of s c x) tt (shaped s x fields is))
 
-  pub few : (s : Service) (x : ToldItem) → TimeFits x → is_in_range x ≡ true
+  pub few : (s : ReturnKind) (x : ToldItem) → TimeFits x → is_in_range x ≡ true
       → length (canonical (item_tree (content_of s c x))) ≤ frame_octets x.0 + 400
   few s x fields is =
       subst (λ t. length (canonical t) ≤ frame_octets x.0 + 400)
@@ -292,7 +292,7 @@ swapped tag a b rest same =
     ∙ ap (λ n. length tag + length (shortest_length n) + n) all
     ∙ sym (length-constructed tag (tree_and (primitive (0x81 ∷ []) b) rest))
 
-swapped_shaped : (s : Service) (x : ToldItem) (a b : List ℕ) → length a ≡ length b
+swapped_shaped : (s : ReturnKind) (x : ToldItem) (a b : List ℕ) → length a ≡ length b
     → length (canonical ((item_shape s).tree (content_of s (Some a) x)))
     ≡ length (canonical ((item_shape s).tree (content_of s (Some b) x)))
 swapped_shaped Raf (archived place (frame f), Some z) a b same = swapped (0xa0 ∷ []) a b _ same
@@ -300,7 +300,7 @@ swapped_shaped Rcf (archived place (frame f), Some z) a b same = swapped (0xa0 �
 swapped_shaped Raf _ a b same = swapped (0xa1 ∷ []) a b _ same
 swapped_shaped Rcf _ a b same = swapped (0xa1 ∷ []) a b _ same
 
-pub same_length : (s : Service) (x : ToldItem) (a b : List ℕ) → length a ≡ length b
+pub same_length : (s : ReturnKind) (x : ToldItem) (a b : List ℕ) → length a ≡ length b
     → (item_shape s).Fits (content_of s (Some a) x) → (item_shape s).Fits (content_of s (Some b) x)
     → length (canonical (item_tree (content_of s (Some a) x)))
     ≡ length (canonical (item_tree (content_of s (Some b) x)))
@@ -325,7 +325,7 @@ credentials_fit (Some s) number = record {
 }
 
 -- what is measured with blank octets in their place is measured
-pub measured_with : (s : Service) (by : Signing) (number : ℕ) (x : ToldItem) (blank : List ℕ)
+pub measured_with : (s : ReturnKind) (by : Signing) (number : ℕ) (x : ToldItem) (blank : List ℕ)
     (i : ItemContent) (size : ℕ) → size ≡ length (canonical (item_tree i))
     → i ≡ content_of s (Some blank) x → TimeFits x → is_in_range x ≡ true
     → credentials.Fits (Some blank)

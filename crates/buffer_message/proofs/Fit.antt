@@ -20,7 +20,7 @@ use Rattle.archive_terms.specs.declared.limits.TheConstants.{LONGEST_FRAME}
 use Rattle.frame_select.specs.declared.item.Item.{Item as Held}
 use Rattle.frame_select.specs.Item.{item_of, said_of}
 use Rattle.frame_select.specs.Item as held
-use Rattle.return_pdu.specs.declared.service.Service.{Service}
+use Rattle.return_pdu.specs.declared.return_kind.ReturnKind.{ReturnKind}
 use Rattle.buffer_message.specs.declared.limits.TheConstants.{MOST_ITEMS}
 use Rattle.buffer_message.specs.Signing.{Signing, credentials_by}
 use Rattle.buffer_message.specs.Content.{content_of, contents}
@@ -128,7 +128,7 @@ stored_in_range = record {
   productions = λ place status is. (and_parts (nat_le status 2) true is).0;
 }
 
-content_said : (s : Service) (c : Option (List ℕ)) (x : ToldItem)
+content_said : (s : ReturnKind) (c : Option (List ℕ)) (x : ToldItem)
     → content_of s c (said_of x) ≡ content_of s c x
 content_said s c (archived place (frame f), Some z) = refl
 content_said s c _ = refl
@@ -141,7 +141,7 @@ octets_said : (x : ToldItem) → frame_octets (said_of x).0 ≡ frame_octets x.0
 octets_said (archived place (frame f), z) = refl
 octets_said _ = refl
 
-contents_said : (s : Service) (by : Option Signing) (number : ℕ) (items : List ToldItem)
+contents_said : (s : ReturnKind) (by : Option Signing) (number : ℕ) (items : List ToldItem)
     → contents s by number (map said_of items) ≡ contents s by number items
 contents_said s by number [] = refl
 contents_said s by number (x ∷ items) = cc (

@@ -8,7 +8,7 @@ use Rattle.ber_core.specs.Parts.{few-shortest_length}
 use Rattle.ber_core.specs.Spelling.{canonical, CanonicalSpells}
 use Rattle.isp1_auth.specs.Numbers.{next_number}
 use Rattle.archive_terms.specs.Placed.{ToldItem}
-use Rattle.return_pdu.specs.declared.service.Service.{Service}
+use Rattle.return_pdu.specs.declared.return_kind.ReturnKind.{ReturnKind}
 use Rattle.return_pdu.specs.Items.{buffer_tag, buffer_start}
 use Rattle.return_pdu.specs.TransferItem.{item_shape, buffer, BufferIsHeadAndEncoded}
 use Rattle.return_pdu.specs.TransferItem.{BuffersAreExact}
@@ -17,7 +17,7 @@ use Rattle.buffer_message.specs.Content.{contents}
 use Rattle.buffer_message.specs.Message.{buffer_tree, IsRead}
 use Rattle.buffer_message.proofs.Steps.{spelled}
 
-length-contents : (s : Service) (by : Option Signing) (number : ℕ) (items : List ToldItem)
+length-contents : (s : ReturnKind) (by : Option Signing) (number : ℕ) (items : List ToldItem)
     → length (contents s by number items) ≡ length items
 length-contents s by number [] = refl
 length-contents s by number (x ∷ items) =
@@ -31,7 +31,7 @@ length-buffer_start n = omega (
 )
 
 pub is_read : BufferIsHeadAndEncoded → BuffersAreExact → CanonicalSpells
-    → (s : Service) (by : Option Signing) (first : ℕ) (items : List ToldItem)
+    → (s : ReturnKind) (by : Option Signing) (first : ℕ) (items : List ToldItem)
     → AllByRecursion (item_shape s).Fits (contents s by first items)
     → length items ≤ 1000 → length (spelled s by first items) ≤ 1000000
     → IsRead s by first items
@@ -58,14 +58,14 @@ is_read encoded exact spells s by first items fits few small =
 
 -- the octets of a message, in the pieces in which it is written
 pub message_pieces : BufferIsHeadAndEncoded
-    → (s : Service) (by : Option Signing) (first : ℕ) (items : List ToldItem) (size : ℕ)
+    → (s : ReturnKind) (by : Option Signing) (first : ℕ) (items : List ToldItem) (size : ℕ)
     → IsRead s by first items → size ≡ length (spelled s by first items)
     → canonical (buffer_tree s by first items) ≡ buffer_start size ++ spelled s by first items
 message_pieces encoded s by first items size read is =
     rw is (encoded s (contents s by first items) read.fit)
 
 pub message_length : BufferIsHeadAndEncoded
-    → (s : Service) (by : Option Signing) (first : ℕ) (items : List ToldItem) (size : ℕ)
+    → (s : ReturnKind) (by : Option Signing) (first : ℕ) (items : List ToldItem) (size : ℕ)
     → IsRead s by first items → size ≡ length (spelled s by first items)
     → length (canonical (buffer_tree s by first items)) ≡ length (buffer_start size) + size
 message_length encoded s by first items size read is = omega (

@@ -18,7 +18,7 @@ use Rattle.archive_terms.specs.declared.limits.TheConstants.{FULL_BUFFER, LONGES
 use Rattle.frame_select.specs.declared.item.Item.{Item as Held}
 use Rattle.frame_select.specs.Item.{item_of}
 use Rattle.frame_select.specs.Item as select
-use Rattle.return_pdu.specs.declared.service.Service.{Service}
+use Rattle.return_pdu.specs.declared.return_kind.ReturnKind.{ReturnKind}
 use Rattle.return_pdu.specs.TransferItem.{item_shape, item_tree, spelled_items}
 use Rattle.buffer_message.specs.declared.limits.TheConstants.{BESIDE_FRAME, MOST_ITEMS}
 use Rattle.buffer_message.specs.Signing.{Signing, credentials_by, number_after}
@@ -36,10 +36,10 @@ pub none_left : (items : List Held) (i : ℕ) → length items ≤ i → select.
 none_left items i all = ap select.items_of (drop_all i items all)
 
 -- the octets of an item, and of items
-abbrev pub octets_of : Service → Option Signing → ℕ → ToldItem → List ℕ
+abbrev pub octets_of : ReturnKind → Option Signing → ℕ → ToldItem → List ℕ
 octets_of s by number x = canonical (item_tree (content_of s (credentials_by by number) x))
 
-abbrev pub spelled : Service → Option Signing → ℕ → List ToldItem → List ℕ
+abbrev pub spelled : ReturnKind → Option Signing → ℕ → List ToldItem → List ℕ
 spelled s by number items = spelled_items (contents s by number items)
 
 abbrev pub frames : List ToldItem → ℕ
@@ -51,7 +51,7 @@ in_range_here x rest all = (and_parts (is_in_range x) (list_all is_in_range rest
 
 -- ---- measuring: so many items are done, which have so many octets; the rest is left, its first
 -- item with this number
-pub record Measures (s : Service) (by : Option Signing) (first : ℕ) (items : List ToldItem)
+pub record Measures (s : ReturnKind) (by : Option Signing) (first : ℕ) (items : List ToldItem)
     (done number : ℕ) (rest : List ToldItem) (content : ℕ) : Type 0 where
   pub in_range : list_all is_in_range rest ≡ true
   pub number_small : number ≤ GREATEST_NUMBER
@@ -60,7 +60,7 @@ pub record Measures (s : Service) (by : Option Signing) (first : ℕ) (items : L
       → AllByRecursion (item_shape s).Fits (contents s by first items)
   pub small : content + frames rest ≤ frames items + BESIDE_FRAME * done
 
-pub measures_more : (s : Service) (by : Option Signing) (first : ℕ) (items : List ToldItem)
+pub measures_more : (s : ReturnKind) (by : Option Signing) (first : ℕ) (items : List ToldItem)
     (done number : ℕ) (x : ToldItem) (rest : List ToldItem) (content : ℕ)
     → Measures s by first items done number (x ∷ rest) content
     → (next size : ℕ) → next ≡ next_number number → next ≤ GREATEST_NUMBER
@@ -85,7 +85,7 @@ measures_more s by first items done number x rest content m next size is small s
       small = omega (arith, m.small, few, sum_by-cons frame_octets x.0 (items_of rest));
     }
 
-pub measures_fit : (s : Service) (by : Option Signing) (first : ℕ) (items : List ToldItem)
+pub measures_fit : (s : ReturnKind) (by : Option Signing) (first : ℕ) (items : List ToldItem)
     (done number : ℕ) (x : ToldItem) (rest : List ToldItem) (content : ℕ)
     → Measures s by first items done number (x ∷ rest) content
     → (size : ℕ) → size ≤ frame_octets x.0 + BESIDE_FRAME → done < MOST_ITEMS
@@ -120,7 +120,7 @@ first_drawn (x ∷ items) first before some is =
     ∙ ap (λ n. number_after n (select.items_of items)) is
 
 -- ---- writing
-pub record Puts (s : Service) (by : Option Signing) (first : ℕ) (items : List ToldItem)
+pub record Puts (s : ReturnKind) (by : Option Signing) (first : ℕ) (items : List ToldItem)
     (number : ℕ) (rest : List ToldItem) (start now : Written) : Type 0 where
   pub in_range : list_all is_in_range rest ≡ true
   pub number_small : number ≤ GREATEST_NUMBER
@@ -128,7 +128,7 @@ pub record Puts (s : Service) (by : Option Signing) (first : ℕ) (items : List 
   pub room : now.room + length (spelled s by first items)
       ≡ start.room + length (spelled s by number rest)
 
-pub puts_more : (s : Service) (by : Option Signing) (first : ℕ) (items : List ToldItem)
+pub puts_more : (s : ReturnKind) (by : Option Signing) (first : ℕ) (items : List ToldItem)
     (number : ℕ) (x : ToldItem) (rest : List ToldItem) (start now : Written)
     → Puts s by first items number (x ∷ rest) start now
     → (next : ℕ) (after : Written) → next ≡ next_number number → next ≤ GREATEST_NUMBER
@@ -149,7 +149,7 @@ puts_more s by first items number x rest start now p next after is small appends
       ));
     }
 
-pub room_here : (s : Service) (by : Option Signing) (first : ℕ) (items : List ToldItem)
+pub room_here : (s : ReturnKind) (by : Option Signing) (first : ℕ) (items : List ToldItem)
     (number : ℕ) (x : ToldItem) (rest : List ToldItem) (start now : Written)
     → Puts s by first items number (x ∷ rest) start now
     → length (spelled s by first items) ≤ start.room

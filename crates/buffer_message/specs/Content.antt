@@ -13,8 +13,8 @@ use Rattle.archive_terms.specs.Placed.{ToldItem}
 use Rattle.cds_time.specs.Octets.{FieldsFit}
 use Rattle.sle_common.specs.Antenna.{local}
 use Rattle.isp1_auth.specs.Numbers.{next_number}
-use Rattle.return_pdu.specs.declared.service.Service.{Service}
-use Rattle.return_pdu.specs.declared.service.Service.TheVariants.{Raf, Rcf}
+use Rattle.return_pdu.specs.declared.return_kind.ReturnKind.{ReturnKind}
+use Rattle.return_pdu.specs.declared.return_kind.ReturnKind.TheVariants.{Raf, Rcf}
 use Rattle.return_pdu.specs.declared.notification.Notification.{Notification}
 use Rattle.return_pdu.specs.declared.notification.Notification.TheVariants.{Loss, Production}
 use Rattle.return_pdu.specs.declared.notification.Notification.TheVariants.{Backlog, EndOfData}
@@ -23,7 +23,7 @@ use Rattle.return_pdu.specs.TransferItem as pdu
 use Rattle.buffer_message.specs.Signing.{Signing, credentials_by}
 
 -- the quality with a number; RCF doesn't tell it
-abbrev pub quality_in : Service → ℕ → Option FrameQuality
+abbrev pub quality_in : ReturnKind → ℕ → Option FrameQuality
 quality_in Raf number = of_number quality.number_of quality.all number
 quality_in Rcf number = None
 
@@ -32,7 +32,7 @@ abbrev pub lock_of : ℕ → LockStatus
 lock_of number = unwrap_or (of_number lock.number_of lock.all number) Unknown
 
 -- a frame with its fields as it was received, and its continuity
-abbrev pub frame_content : Service → Option (List ℕ) → Frame → ℤ → ItemContent
+abbrev pub frame_content : ReturnKind → Option (List ℕ) → Frame → ℤ → ItemContent
 frame_content service credentials f continuity = pdu.frame (record {
   credentials = credentials;
   ert = f.ert;
@@ -48,7 +48,7 @@ notice_content credentials notice = told (record { credentials = credentials; no
 
 -- an item as it is told, with its credentials. The last equation is that of the end of data; a seal
 -- and a frame without a continuity are in no buffer.
-abbrev pub content_of : Service → Option (List ℕ) → ToldItem → ItemContent
+abbrev pub content_of : ReturnKind → Option (List ℕ) → ToldItem → ItemContent
 content_of service credentials (archived place (frame f), Some continuity) =
     frame_content service credentials f continuity
 content_of service credentials (archived place (loss_of_sync l), _) =
@@ -67,7 +67,7 @@ TimeFits _ = Unit {0}
 
 -- what items say one after the other: the first item's credentials have this number, and each
 -- further one's the number that is drawn after its neighbour's
-abbrev pub contents : Service → Option Signing → ℕ → List ToldItem → List ItemContent
+abbrev pub contents : ReturnKind → Option Signing → ℕ → List ToldItem → List ItemContent
 contents service by number [] = []
 contents service by number (item ∷ items) =
     content_of service (credentials_by by number) item

@@ -7,7 +7,7 @@ use Rattle.archive_terms.specs.Delivery.{archived, IsBuffer}
 use Rattle.archive_terms.specs.Continuity.{continuity}
 use Rattle.archive_terms.specs.Placed.{ToldItem, items_of}
 use Rattle.frame_select.specs.Item.{said_of}
-use Rattle.return_pdu.specs.declared.service.Service.{Service}
+use Rattle.return_pdu.specs.declared.return_kind.ReturnKind.{ReturnKind}
 use Rattle.buffer_message.specs.declared.limits.TheConstants.{MOST_ITEMS}
 use Rattle.buffer_message.specs.Signing.{Signing}
 use Rattle.buffer_message.specs.Content.{contents}
@@ -31,6 +31,6 @@ pub record StoredInRange : Type 0 where
 
 -- What a look says of picked entries is told as the entries are.
 pub record SaidTheSame : Type 0 where
-  pub contents_same : (service : Service) (by : Option Signing) (number : ℕ) (items : List ToldItem)
+  pub contents_same : (service : ReturnKind) (by : Option Signing) (number : ℕ) (items : List ToldItem)
       → contents service by number (map said_of items) ≡ contents service by number items
   pub fit_same : (items : List ToldItem) → fits_message (map said_of items) ≡ fits_message items

@@ -1,4 +1,3 @@
-pub mod Service
 pub mod Signing
 pub mod Content
 pub mod Fitting

@@ -4,7 +4,7 @@ use Rattle.std.specs.List.{list_all}
 use Rattle.cds_time.specs.declared.cds.TheConstants.{MOMENT_END}
 use Rattle.isp1_auth.specs.declared.random_numbers.TheConstants.{GREATEST_NUMBER}
 use Rattle.archive_terms.specs.Placed.{ToldItem}
-use Rattle.return_pdu.specs.declared.service.Service.{Service}
+use Rattle.return_pdu.specs.declared.return_kind.ReturnKind.{ReturnKind}
 use Rattle.return_pdu.specs.TransferItem.{spelled_items}
 use Rattle.buffer_message.specs.Signing.{Signing}
 use Rattle.buffer_message.specs.Content.{contents}
@@ -17,7 +17,7 @@ HasMoment None = Unit {0}
 HasMoment (Some s) = s.moment < MOMENT_END
 
 -- the items have so many octets
-pub record IsMeasured (service : Service) (by : Option Signing) (first : ℕ) (items : List ToldItem)
+pub record IsMeasured (service : ReturnKind) (by : Option Signing) (first : ℕ) (items : List ToldItem)
     (content : ℕ) : Type 0 where
   pub in_range : list_all is_in_range items ≡ true
   pub moment : HasMoment by

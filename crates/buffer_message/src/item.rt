@@ -14,7 +14,6 @@ ghost use Rattle.isp1_auth.specs.declared.random_numbers.TheConstants.{GREATEST_
 ghost use Rattle.return_pdu.specs.TransferItem.{item_tree, ItemFits};
 ghost use Rattle.return_pdu.specs.Seen as seen;
 ghost use Rattle.frame_select.specs.Item.{item_of};
-ghost use Rattle.buffer_message.specs.Service.{service_of};
 ghost use Rattle.buffer_message.specs.Signing.{signing_of, secret_by, credentials_by};
 ghost use Rattle.buffer_message.specs.Content.{quality_in, content_of, notice_content, TimeFits};
 ghost use Rattle.buffer_message.specs.Fitting.{is_in_range};
@@ -22,13 +21,12 @@ ghost use Rattle.buffer_message.specs.Measured.{HasMoment};
 
 use crate::credentials::credentials_length;
 use crate::limits::BESIDE_FRAME;
-use crate::return_service::ReturnService;
 use crate::signature::Signature;
 use crate::signer::Signer;
 use ber_core::Writer;
 use cds_time::Cds;
 use frame_select::Item;
-use return_pdu::{Notification, TransferItem};
+use return_pdu::{Notification, ReturnKind, TransferItem};
 use sle_common::{AntennaId, Credentials};
 use sle_numbers::{FrameQuality, Numbered};
 
@@ -36,12 +34,12 @@ use sle_numbers::{FrameQuality, Numbered};
 const BLANK: [u8; 64] = [0; 64];
 
 #[tactic(auto, using(crate::proofs::Contents::quality_known))]
-fn quality_in(service: ReturnService, quality: FrameQuality) -> Option<FrameQuality>
-    ensures { result ≡ quality_in (service_of service) (number_of quality) }
+fn quality_in(service: ReturnKind, quality: FrameQuality) -> Option<FrameQuality>
+    ensures { result ≡ quality_in service (number_of quality) }
 {
     match service {
-        ReturnService::Raf => Some(quality),
-        ReturnService::Rcf => None,
+        ReturnKind::Raf => Some(quality),
+        ReturnKind::Rcf => None,
     }
 }
 
@@ -63,13 +61,9 @@ fn fields_fit(time: Cds)
 
 // An item as the transfer buffer has it.
 #[tactic(auto, using(crate::proofs::Contents::lock_known))]
-fn said<'a>(
-    service: ReturnService,
-    item: &'a Item,
-    credentials: Credentials<'a>,
-) -> TransferItem<'a>
+fn said<'a>(service: ReturnKind, item: &'a Item, credentials: Credentials<'a>) -> TransferItem<'a>
     requires { IsTrue (is_in_range (item_of item.now)) }
-    ensures content { seen.item_of result ≡ content_of (service_of service)
+    ensures content { seen.item_of result ≡ content_of service
         (credentials_of credentials.entry) (item_of item.now) }
     ensures time { TimeFits (item_of item.now) }
 {
@@ -119,13 +113,13 @@ fn said<'a>(
 
 // The same, with what there is to know of it.
 fn transfer_item<'a>(
-    service: ReturnService,
+    service: ReturnKind,
     item: &'a Item,
     credentials: Credentials<'a>,
 ) -> TransferItem<'a>
     requires in_range { IsTrue (is_in_range (item_of item.now)) }
     requires signed { common.credentials.Fits (credentials_of credentials) }
-    ensures content { seen.item_of result ≡ content_of (service_of service)
+    ensures content { seen.item_of result ≡ content_of service
         (credentials_of credentials.entry) (item_of item.now) }
     ensures fits { ItemFits (seen.item_of result) }
     ensures time { TimeFits (item_of item.now) }
@@ -135,9 +129,9 @@ fn transfer_item<'a>(
     said(service, item, credentials)
 }
 
-fn unsigned_length(service: ReturnService, item: &Item) -> usize
+fn unsigned_length(service: ReturnKind, item: &Item) -> usize
     requires { IsTrue (is_in_range (item_of item.now)) }
-    ensures exact { result ≡ length (canonical (item_tree (content_of (service_of service) None
+    ensures exact { result ≡ length (canonical (item_tree (content_of service None
         (item_of item.now)))) }
     ensures time { TimeFits (item_of item.now) }
     ensures small { result ≤ frame_octets (item_of item.now).0 + BESIDE_FRAME }
@@ -155,9 +149,9 @@ fn blank_octets(signer: &Signer<'_>, number: u32) -> &'static [u8]
     &BLANK[..credentials_length(signer, number)]
 }
 
-fn signed_length(service: ReturnService, signer: &Signer<'_>, number: u32, item: &Item) -> usize
+fn signed_length(service: ReturnKind, signer: &Signer<'_>, number: u32, item: &Item) -> usize
     requires { IsTrue (is_in_range (item_of item.now)) }
-    ensures exact { result ≡ length (canonical (item_tree (content_of (service_of service)
+    ensures exact { result ≡ length (canonical (item_tree (content_of service
         (credentials_by (Some (signing_of signer.now)) number) (item_of item.now)))) }
     ensures time { TimeFits (item_of item.now) }
     ensures small { result ≤ frame_octets (item_of item.now).0 + BESIDE_FRAME }
@@ -168,13 +162,13 @@ fn signed_length(service: ReturnService, signer: &Signer<'_>, number: u32, item:
 
 /// The number of octets of an item in its buffer.
 pub(crate) fn item_length(
-    service: ReturnService,
+    service: ReturnKind,
     signer: &Option<Signer<'_>>,
     number: u32,
     item: &Item,
 ) -> usize
     requires { IsTrue (is_in_range (item_of item.now)) }
-    ensures exact { result ≡ length (canonical (item_tree (content_of (service_of service)
+    ensures exact { result ≡ length (canonical (item_tree (content_of service
         (credentials_by (option_map signing_of signer.now) number) (item_of item.now)))) }
     ensures time { TimeFits (item_of item.now) }
     ensures small { result ≤ frame_octets (item_of item.now).0 + BESIDE_FRAME }
@@ -187,7 +181,7 @@ pub(crate) fn item_length(
 
 /// Appends an item.
 pub(crate) fn put_item(
-    service: ReturnService,
+    service: ReturnKind,
     signer: &Option<Signer<'_>>,
     number: u32,
     item: &Item,
@@ -196,9 +190,9 @@ pub(crate) fn put_item(
     requires in_range { IsTrue (is_in_range (item_of item.now)) }
     requires moment { HasMoment (option_map signing_of signer.now) }
     requires number { number ≤ GREATEST_NUMBER }
-    requires room { HasRoom writer.old (canonical (item_tree (content_of (service_of service)
+    requires room { HasRoom writer.old (canonical (item_tree (content_of service
         (credentials_by (option_map signing_of signer.now) number) (item_of item.now)))) }
-    ensures { Appends writer.old writer.new (canonical (item_tree (content_of (service_of service)
+    ensures { Appends writer.old writer.new (canonical (item_tree (content_of service
         (credentials_by (option_map signing_of signer.now) number) (item_of item.now)))) }
 {
     match signer {
@@ -208,7 +202,7 @@ pub(crate) fn put_item(
 }
 
 fn put_signed(
-    service: ReturnService,
+    service: ReturnKind,
     signer: &Signer<'_>,
     number: u32,
     item: &Item,
@@ -217,9 +211,9 @@ fn put_signed(
     requires in_range { IsTrue (is_in_range (item_of item.now)) }
     requires moment { signer.now.moment < MOMENT_END }
     requires number { number ≤ GREATEST_NUMBER }
-    requires room { HasRoom writer.old (canonical (item_tree (content_of (service_of service)
+    requires room { HasRoom writer.old (canonical (item_tree (content_of service
         (credentials_by (Some (signing_of signer.now)) number) (item_of item.now)))) }
-    ensures { Appends writer.old writer.new (canonical (item_tree (content_of (service_of service)
+    ensures { Appends writer.old writer.new (canonical (item_tree (content_of service
         (credentials_by (Some (signing_of signer.now)) number) (item_of item.now)))) }
 {
     let signature = Signature::of(signer, number);
@@ -227,12 +221,12 @@ fn put_signed(
     put_with(service, item, credentials, writer);
 }
 
-fn put_with(service: ReturnService, item: &Item, credentials: Credentials<'_>, writer: &mut Writer)
+fn put_with(service: ReturnKind, item: &Item, credentials: Credentials<'_>, writer: &mut Writer)
     requires in_range { IsTrue (is_in_range (item_of item.now)) }
     requires signed { common.credentials.Fits (credentials_of credentials) }
-    requires room { HasRoom writer.old (canonical (item_tree (content_of (service_of service)
+    requires room { HasRoom writer.old (canonical (item_tree (content_of service
         (credentials_of credentials) (item_of item.now)))) }
-    ensures { Appends writer.old writer.new (canonical (item_tree (content_of (service_of service)
+    ensures { Appends writer.old writer.new (canonical (item_tree (content_of service
         (credentials_of credentials.entry) (item_of item.now)))) }
 {
     transfer_item(service, item, credentials).encode(writer);

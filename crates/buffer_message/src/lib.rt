@@ -18,12 +18,10 @@ pub mod laws;
 mod limits;
 mod message;
 mod numbers;
-mod return_service;
 mod signature;
 mod signer;
 
 pub use limits::MOST_ITEMS;
 pub use message::BufferMessage;
 pub use octet_core::Memory;
-pub use return_service::ReturnService;
 pub use signer::Signer;

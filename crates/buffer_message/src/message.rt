@@ -12,7 +12,6 @@ ghost use Rattle.archive_terms.specs.Placed as placed;
 ghost use Rattle.archive_terms.specs.declared.limits.TheConstants.{FULL_BUFFER, LONGEST_FRAME};
 ghost use Rattle.return_pdu.specs.TransferItem.{item_shape, spelled_items};
 ghost use Rattle.frame_select.specs.Item.{items_of};
-ghost use Rattle.buffer_message.specs.Service.{service_of};
 ghost use Rattle.buffer_message.specs.Signing.{signing_of, number_after};
 ghost use Rattle.buffer_message.specs.Content.{contents};
 ghost use Rattle.buffer_message.specs.Fitting.{is_in_range, fits_message};
@@ -23,7 +22,6 @@ use crate::fitting;
 use crate::item::{item_length, put_item};
 use crate::limits::{BESIDE_FRAME, MOST_ITEMS};
 use crate::numbers::{draw, next_number};
-use crate::return_service::ReturnService;
 use crate::signer::Signer;
 use ber_core::Writer;
 use frame_select::Item;
@@ -31,7 +29,7 @@ use isp1_auth::RandomNumbers;
 use isp1_tml::{HEADER, LONGEST_PDU, head};
 use octet_core::Memory;
 use return_pdu::laws::{buffer_is_head_and_encoded, buffers_are_exact};
-use return_pdu::{buffer_head, buffer_length};
+use return_pdu::{ReturnKind, buffer_head, buffer_length};
 use std::alloc::Global;
 use std::marker::Model;
 
@@ -42,7 +40,7 @@ const PDU: u8 = 1;
 /// lends its items. Contracts see its octets.
 #[derive(Drop)]
 pub struct BufferMessage<'a> {
-    service: ReturnService,
+    service: ReturnKind,
     signer: Option<Signer<'a>>,
     // The number of the first item's credentials.
     first: u32,
@@ -54,17 +52,16 @@ pub struct BufferMessage<'a> {
 impl<'a> Model for BufferMessage<'a> {
     ghost use Rattle.std.specs.Prelude.{List, ℕ, option_map};
     ghost use Rattle.frame_select.specs.Item.{items_of};
-    ghost use Rattle.buffer_message.specs.Service.{service_of};
     ghost use Rattle.buffer_message.specs.Signing.{signing_of};
     ghost use Rattle.buffer_message.specs.Message.{message_octets};
     ghost use Rattle.buffer_message.specs.Measured.{IsMeasured};
 
     ghost Value = { List ℕ };
 
-    ghost view = { λ m. message_octets (service_of m.service) (option_map signing_of m.signer)
+    ghost view = { λ m. message_octets m.service (option_map signing_of m.signer)
         m.first (items_of m.items.now) };
 
-    ghost invariant = { λ m. IsMeasured (service_of m.service) (option_map signing_of m.signer)
+    ghost invariant = { λ m. IsMeasured m.service (option_map signing_of m.signer)
         m.first (items_of m.items.now) m.content };
 }
 
@@ -78,26 +75,26 @@ impl<'a> BufferMessage<'a> {
     }
 
     /// The message of items without credentials.
-    pub fn unsigned(service: ReturnService, items: &'a [Item]) -> BufferMessage<'a>
+    pub fn unsigned(service: ReturnKind, items: &'a [Item]) -> BufferMessage<'a>
         requires { IsTrue (fits_message (items_of items.now)) }
-        ensures octets { result ≡ message_octets (service_of service) None 0 (items_of items.now) }
-        ensures read { IsRead (service_of service) None 0 (items_of items.now) }
+        ensures octets { result ≡ message_octets service None 0 (items_of items.now) }
+        ensures read { IsRead service None 0 (items_of items.now) }
     {
         BufferMessage::measured(service, None, 0, items)
     }
 
     /// The message of items each of which is signed, with a number drawn for each in their order.
     pub fn signed(
-        service: ReturnService,
+        service: ReturnKind,
         items: &'a [Item],
         signer: Signer<'a>,
         numbers: &mut RandomNumbers,
     ) -> BufferMessage<'a>
         requires items { IsTrue (fits_message (items_of items.now)) }
         requires moment { signer.moment < MOMENT_END }
-        ensures octets { result ≡ message_octets (service_of service)
+        ensures octets { result ≡ message_octets service
             (Some (signing_of signer.entry)) (next_number numbers.old) (items_of items.now) }
-        ensures read { IsRead (service_of service) (Some (signing_of signer.entry))
+        ensures read { IsRead service (Some (signing_of signer.entry))
             (next_number numbers.old) (items_of items.now) }
         ensures numbers { numbers.new ≡ number_after numbers.old (items_of items.now) }
     {
@@ -106,7 +103,7 @@ impl<'a> BufferMessage<'a> {
     }
 
     fn measured(
-        service: ReturnService,
+        service: ReturnKind,
         signer: Option<Signer<'a>>,
         first: u32,
         items: &'a [Item],
@@ -114,9 +111,9 @@ impl<'a> BufferMessage<'a> {
         requires items { IsTrue (fits_message (items_of items.now)) }
         requires moment { HasMoment (option_map signing_of signer) }
         requires number { first ≤ GREATEST_NUMBER }
-        ensures octets { result ≡ message_octets (service_of service)
+        ensures octets { result ≡ message_octets service
             (option_map signing_of signer.entry) first (items_of items.now) }
-        ensures read { IsRead (service_of service) (option_map signing_of signer.entry) first
+        ensures read { IsRead service (option_map signing_of signer.entry) first
             (items_of items.now) }
     {
         buffers_are_exact();
@@ -165,16 +162,16 @@ impl<'a> BufferMessage<'a> {
 }
 
 // How many octets the items have.
-fn measure(service: ReturnService, signer: &Option<Signer<'_>>, first: u32, items: &[Item]) -> usize
+fn measure(service: ReturnKind, signer: &Option<Signer<'_>>, first: u32, items: &[Item]) -> usize
     requires in_range { IsTrue (list_all is_in_range (items_of items.now)) }
     requires few { length items.now ≤ MOST_ITEMS }
     requires short { sum_by frame_octets (placed.items_of (items_of items.now))
         < FULL_BUFFER + LONGEST_FRAME }
     requires number { first ≤ GREATEST_NUMBER }
-    ensures exact { result ≡ length (spelled_items (contents (service_of service)
+    ensures exact { result ≡ length (spelled_items (contents service
         (option_map signing_of signer.now) first (items_of items.now))) }
-    ensures fit { AllByRecursion (item_shape (service_of service)).Fits
-        (contents (service_of service) (option_map signing_of signer.now) first
+    ensures fit { AllByRecursion (item_shape service).Fits
+        (contents service (option_map signing_of signer.now) first
         (items_of items.now)) }
     ensures small { result ≤ sum_by frame_octets (placed.items_of (items_of items.now))
         + BESIDE_FRAME * length items.now }
@@ -190,7 +187,7 @@ fn measure(service: ReturnService, signer: &Option<Signer<'_>>, first: u32, item
 
 // Appends the items.
 fn put_items(
-    service: ReturnService,
+    service: ReturnKind,
     signer: &Option<Signer<'_>>,
     first: u32,
     items: &[Item],
@@ -199,9 +196,9 @@ fn put_items(
     requires in_range { IsTrue (list_all is_in_range (items_of items.now)) }
     requires moment { HasMoment (option_map signing_of signer.now) }
     requires number { first ≤ GREATEST_NUMBER }
-    requires room { HasRoom writer.old (spelled_items (contents (service_of service)
+    requires room { HasRoom writer.old (spelled_items (contents service
         (option_map signing_of signer.now) first (items_of items.now))) }
-    ensures { Appends writer.old writer.new (spelled_items (contents (service_of service)
+    ensures { Appends writer.old writer.new (spelled_items (contents service
         (option_map signing_of signer.now) first (items_of items.now))) }
 {
     let mut number = first;

@@ -3,7 +3,7 @@ ghost use Rattle.std.specs.Prelude.{◌≡◌, ◌≤◌, Option};
 ghost use Rattle.isp1_auth.specs.Numbers.{next_number};
 ghost use Rattle.isp1_auth.specs.declared.random_numbers.TheConstants.{GREATEST_NUMBER};
 ghost use Rattle.frame_select.specs.Item.{items_of};
-ghost use Rattle.return_pdu.specs.declared.service.Service.{Service};
+ghost use Rattle.return_pdu.specs.declared.return_kind.ReturnKind.{ReturnKind};
 ghost use Rattle.buffer_message.specs.Signing.{Signing, number_after};
 ghost use Rattle.buffer_message.specs.Content.{contents};
 
@@ -22,7 +22,7 @@ pub(crate) fn next_number(number: u32) -> u32
 /// Draws a number for each of the items, and answers the first item's.
 pub(crate) fn draw(items: &[Item], numbers: &mut RandomNumbers) -> u32
     ensures drawn { numbers.new ≡ number_after numbers.old (items_of items.now) }
-    ensures first { (service : Service) (by : Option Signing)
+    ensures first { (service : ReturnKind) (by : Option Signing)
         → contents service by result (items_of items.now)
         ≡ contents service by (next_number numbers.old) (items_of items.now) }
     ensures small { result ≤ GREATEST_NUMBER }

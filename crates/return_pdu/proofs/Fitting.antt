@@ -10,14 +10,14 @@ use Rattle.ber_core.specs.Parts.{spelled-constructed, spelled-tree_and, spelled-
 use Rattle.ber_shape.specs.List.{each_tree}
 use Rattle.ber_shape.specs.Exact.{whole, members_are, element_is, element_again, one_value}
 use Rattle.ber_shape.specs.Lent.{values, or_none}
-use Rattle.return_pdu.specs.declared.service.Service.{Service}
-use Rattle.return_pdu.specs.declared.service.Service.TheVariants.{Raf, Rcf}
+use Rattle.return_pdu.specs.declared.return_kind.ReturnKind.{ReturnKind}
+use Rattle.return_pdu.specs.declared.return_kind.ReturnKind.TheVariants.{Raf, Rcf}
 use Rattle.return_pdu.specs.Items.{buffer_tag}
 use Rattle.return_pdu.specs.TransferItem.{ItemContent, frame, told, item_shape, items, ItemFits}
 use Rattle.return_pdu.specs.TransferItem.{item_tree, spelled_items, BufferIsHeadAndEncoded}
 use Rattle.return_pdu.specs.TransferItem.{BuffersAreExact, buffer}
 
-service_fits : (s : Service) (i : ItemContent) → (item_shape s).Fits i → ItemFits i
+service_fits : (s : ReturnKind) (i : ItemContent) → (item_shape s).Fits i → ItemFits i
 service_fits Raf (told t) fits = fits
 service_fits Rcf (told t) fits = fits
 service_fits Raf (frame f) fits =
@@ -27,13 +27,13 @@ service_fits Rcf (frame f) fits =
     subst (λ some. (item_shape (if some then Raf else Rcf)).Fits (frame f))
     (sym (ap is_some fits.no_quality)) fits
 
-first_of : (s : Service) (i : ItemContent) (xs rest : List ItemContent)
+first_of : (s : ReturnKind) (i : ItemContent) (xs rest : List ItemContent)
     → AllByRecursion (item_shape s).Fits xs → xs ≡ i ∷ rest → ItemFits i
 first_of s i xs rest all same = service_fits s i
     (subst (AllByRecursion (item_shape s).Fits) same all).0
 
 -- the first item that octets hold
-pub first_fits : (s : Service) (octets : List ℕ) (i : ItemContent) (rest : List ItemContent)
+pub first_fits : (s : ReturnKind) (octets : List ℕ) (i : ItemContent) (rest : List ItemContent)
     → IsSlice octets → IsOk (whole (items s).read octets)
     → values (items s) octets ≡ i ∷ rest → ItemFits i
 first_fits s octets i rest slice are same = by_cases (whole (items s).read octets) refl are same
@@ -46,7 +46,7 @@ first_fits s octets i rest slice are same = by_cases (whole (items s).read octet
 
 -- ---- spelled
 
-same_tree : (s : Service) (i : ItemContent) → (item_shape s).Fits i
+same_tree : (s : ReturnKind) (i : ItemContent) → (item_shape s).Fits i
     → (item_shape s).tree i ≡ item_tree i
 same_tree Raf (told t) fits = refl
 same_tree Rcf (told t) fits = refl
@@ -55,7 +55,7 @@ same_tree Raf (frame f) fits = ap (λ some. (item_shape (if some then Raf else R
 same_tree Rcf (frame f) fits = ap (λ some. (item_shape (if some then Raf else Rcf)).tree (frame f))
     (sym (ap is_some fits.no_quality))
 
-spelled-each : (s : Service) (xs : List ItemContent) → AllByRecursion (item_shape s).Fits xs
+spelled-each : (s : ReturnKind) (xs : List ItemContent) → AllByRecursion (item_shape s).Fits xs
     → canonical_all (each_tree (item_shape s).tree xs) ≡ spelled_items xs
 spelled-each s [] fits = spelled-no_trees
 spelled-each s (i ∷ xs) fits =
@@ -73,7 +73,7 @@ buffer_spelled s xs fits =
 
 -- ---- read
 
-shallow : (s : Service) → nat_le (buffer s).levels 16 ≡ true
+shallow : (s : ReturnKind) → nat_le (buffer s).levels 16 ≡ true
 shallow Raf = refl
 shallow Rcf = refl
 

@@ -10,8 +10,8 @@ use Rattle.ber_shape.specs.Same.{element_as}
 use Rattle.ber_shape.specs.Choice.{either}
 use Rattle.ber_shape.specs.Exact.{whole, ReadWhereSpelled, OneValue}
 use Rattle.ber_shape.specs.List.{every}
-use Rattle.return_pdu.specs.declared.service.Service.{Service}
-use Rattle.return_pdu.specs.declared.service.Service.TheVariants.{Raf, Rcf}
+use Rattle.return_pdu.specs.declared.return_kind.ReturnKind.{ReturnKind}
+use Rattle.return_pdu.specs.declared.return_kind.ReturnKind.TheVariants.{Raf, Rcf}
 use Rattle.return_pdu.specs.Items.{buffer_start}
 use Rattle.return_pdu.specs.Frames.{FrameContent, raf_frame_fields, rcf_frame_fields}
 use Rattle.return_pdu.specs.Notification.{ToldContent, told_fields}
@@ -50,11 +50,11 @@ rcf_item = item_with rcf_frame_fields
 
 -- ---- an item of either service, which a frame's quality tells
 
-abbrev pub service_of : ItemContent → Service
+abbrev pub service_of : ItemContent → ReturnKind
 service_of (frame f) = if is_some f.quality then Raf else Rcf
 service_of (told t) = Raf
 
-abbrev pub item_shape : Service → Element ItemContent
+abbrev pub item_shape : ReturnKind → Element ItemContent
 item_shape Raf = raf_item
 item_shape Rcf = rcf_item
 
@@ -67,11 +67,11 @@ item_tree i = (item_shape (service_of i)).tree i
 
 -- ---- a buffer
 
-abbrev pub items : Service → Members (List ItemContent)
+abbrev pub items : ReturnKind → Members (List ItemContent)
 items service = every (item_shape service)
 
 -- [8] SEQUENCE OF the items
-abbrev pub buffer : Service → Element (List ItemContent)
+abbrev pub buffer : ReturnKind → Element (List ItemContent)
 buffer service = structured (0xa8 ∷ []) (items service) refl
 
 -- ---- spelled
@@ -82,7 +82,7 @@ spelled_items xs = flat_map (λ i. canonical (item_tree i)) xs
 
 -- A buffer whose items fit is its head and then the items, each as it is encoded.
 abbrev pub BufferIsHeadAndEncoded : Type 0
-BufferIsHeadAndEncoded = (s : Service) (xs : List ItemContent) → (buffer s).Fits xs
+BufferIsHeadAndEncoded = (s : ReturnKind) (xs : List ItemContent) → (buffer s).Fits xs
     → canonical ((buffer s).tree xs) ≡ buffer_start (length (spelled_items xs)) ++ spelled_items xs
 
 -- ---- read
@@ -90,8 +90,8 @@ BufferIsHeadAndEncoded = (s : Service) (xs : List ItemContent) → (buffer s).Fi
 -- Octets are read as a buffer exactly where they spell it and its items fit; octets that spell one
 -- are read as its items; they spell one at most.
 pub record BuffersAreExact : Type 0 where
-  pub read : (s : Service) → ReadWhereSpelled (buffer s)
-  pub again : (s : Service) (xs : List ItemContent) (octets : List ℕ) → (buffer s).Fits xs
+  pub read : (s : ReturnKind) → ReadWhereSpelled (buffer s)
+  pub again : (s : ReturnKind) (xs : List ItemContent) (octets : List ℕ) → (buffer s).Fits xs
       → Spells ((buffer s).tree xs) octets
       → whole (buffer s).read octets ≡ Ok xs
-  pub one : (s : Service) → OneValue (buffer s)
+  pub one : (s : ReturnKind) → OneValue (buffer s)

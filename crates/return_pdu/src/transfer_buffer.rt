@@ -3,14 +3,14 @@ ghost use Rattle.std.specs.Prelude.{IfSome, IsOk, Ok};
 ghost use Rattle.ber_core.specs.Reading.{Gives};
 ghost use Rattle.ber_core.specs.Written.{HasRoom, Appends};
 ghost use Rattle.ber_shape.specs.Exact.{whole, IsDecoded};
-ghost use Rattle.return_pdu.specs.declared.service.Service.TheVariants.{Raf, Rcf};
+ghost use Rattle.return_pdu.specs.declared.return_kind.ReturnKind.TheVariants.{Raf, Rcf};
 ghost use Rattle.return_pdu.specs.Items.{buffer_start};
 ghost use Rattle.return_pdu.specs.TransferItem.{items, buffer, ItemFits};
 ghost use Rattle.return_pdu.specs.Seen.{item_of};
 
 use crate::raf_item::RafItem;
 use crate::rcf_item::RcfItem;
-use crate::service::Service;
+use crate::return_kind::ReturnKind;
 use crate::transfer_item::TransferItem;
 use ber_core::{BerFault, Reader, Writer, element_length, laws};
 use ber_shape::{lend_list, split_first};
@@ -26,7 +26,7 @@ const BUFFER: [u8; 1] = [0xa8];
 #[derive(Drop)]
 pub struct TransferBuffer<'a> {
     octets: &'a [u8],
-    service: Service,
+    service: ReturnKind,
 }
 
 impl<'a> Model for TransferBuffer<'a> {
@@ -71,7 +71,7 @@ impl<'a> TransferBuffer<'a> {
         let octets = lend_list::<RafItem>(ALL, &mut reader)?;
         reader.leave()?;
         reader.leave()?;
-        Ok(TransferBuffer::found(octets, Service::Raf))
+        Ok(TransferBuffer::found(octets, ReturnKind::Raf))
     }
 
     fn read_rcf(octets: &'a [u8]) -> Result<TransferBuffer<'a>, BerFault>
@@ -82,11 +82,11 @@ impl<'a> TransferBuffer<'a> {
         let octets = lend_list::<RcfItem>(ALL, &mut reader)?;
         reader.leave()?;
         reader.leave()?;
-        Ok(TransferBuffer::found(octets, Service::Rcf))
+        Ok(TransferBuffer::found(octets, ReturnKind::Rcf))
     }
 
     // A buffer whose items were found in these octets.
-    fn found(octets: &'a [u8], service: Service) -> TransferBuffer<'a>
+    fn found(octets: &'a [u8], service: ReturnKind) -> TransferBuffer<'a>
         requires { IsOk (whole (items service).read octets.now) }
         ensures { whole (items service).read octets.now ≡ Ok result }
     {
@@ -103,8 +103,8 @@ impl<'a> TransferBuffer<'a> {
     {
         laws::slice(self.octets);
         let (item, rest) = match self.service {
-            Service::Raf => split_first::<RafItem>(ALL, self.octets)?,
-            Service::Rcf => split_first::<RcfItem>(ALL, self.octets)?,
+            ReturnKind::Raf => split_first::<RafItem>(ALL, self.octets)?,
+            ReturnKind::Rcf => split_first::<RcfItem>(ALL, self.octets)?,
         };
         self.octets = rest;
         Some(TransferItem::of_parts(&item))

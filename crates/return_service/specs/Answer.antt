@@ -1,9 +1,8 @@
--- What a user asks of a return service, and what that is answered.
+-- What a return service answers.
 use Rattle.std.specs.Prelude.{ℕ, Option, Some, None, Result, Ok, Err, pos}
 use Rattle.sle_common.specs.declared.diagnostic.Diagnostic.{Diagnostic}
 use Rattle.sle_common.specs.declared.diagnostic.Diagnostic.TheVariants.{Specific}
 use Rattle.sle_common.specs.declared.parameter.Parameter.{Parameter}
-use Rattle.sle_common.specs.declared.report_kind.ReportKind.{ReportKind}
 use Rattle.sle_common.specs.Parameter.{parameter}
 use Rattle.sle_common.specs.Answer.{confirmation}
 use Rattle.sle_numbers.specs.GetParameterDiagnostic as get_parameter
@@ -11,15 +10,6 @@ use Rattle.sle_numbers.specs.declared.get_parameter_diagnostic.GetParameterDiagn
 use Rattle.return_pdu.specs.Getting.{parameter_answer}
 use Rattle.return_pdu.specs.declared.return_answer.ReturnAnswer.{ReturnAnswer}
 use Rattle.return_pdu.specs.declared.return_answer.ReturnAnswer.TheVariants as answer
-
--- in a round: nothing; a START, whose content is the service's own; a STOP; a
--- SCHEDULE-STATUS-REPORT; a GET-PARAMETER of a name
-pub data Asked (S : Type 0) : Type 0 where
-  nothing : Asked S
-  start : S → Asked S
-  stop : Asked S
-  report : ReportKind → Asked S
-  get : ℕ → Asked S
 
 -- a reason of the operation's own, by its number
 abbrev pub specific : {D : Type 0} → (D → ℕ) → D → Diagnostic

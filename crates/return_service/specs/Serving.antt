@@ -1,11 +1,13 @@
--- An instance of a return service as contracts see it, and what becomes of it: what RAF and RCF
--- have alike (CCSDS 911.1-B and 911.2-B).
+-- An instance of a return service as contracts see it, and what becomes of it (CCSDS 911.1-B and
+-- 911.2-B).
 use Rattle.std.specs.Prelude.{◌≡◌, ℕ, ◌/◌, Bool, not, ◌==◌, if◌then◌else◌, pos}
 use Rattle.std.specs.Prelude.{Option, Some, None, option_map, List, []}
 use Rattle.sle_common.specs.declared.parameter.Parameter.{Parameter}
 use Rattle.sle_common.specs.declared.parameter.Parameter.TheVariants as parameter
 use Rattle.sle_common.specs.declared.report_kind.ReportKind.{ReportKind}
-use Rattle.archive_terms.specs.Selection.{Filter}
+use Rattle.archive_terms.specs.Selection as terms
+use Rattle.frame_select.specs.declared.filter.Filter.{Filter}
+use Rattle.frame_select.specs.Selection.{filter_of}
 use Rattle.archive_terms.specs.Delivery.{Mode, timely, complete, offline, is_online, Terms}
 use Rattle.archive_terms.specs.Delivery.{selection_of}
 use Rattle.archive_terms.specs.Placed.{ToldItem}
@@ -18,33 +20,40 @@ use Rattle.report_cycle.specs.declared.schedule.Schedule.{Schedule}
 use Rattle.report_cycle.specs.declared.schedule.TheConstants.{PICOS_A_SECOND}
 use Rattle.report_cycle.specs.Schedule.{no_reports, after_request, is_due, with_report}
 use Rattle.return_service.specs.declared.counts.Counts.{Counts}
+use Rattle.return_pdu.specs.declared.return_kind.ReturnKind.{ReturnKind}
 use Rattle.return_service.specs.declared.span.Span.{Span}
 use Rattle.return_service.specs.declared.parameter_names.TheConstants.{BUFFER_SIZE, DELIVERY_MODE}
 use Rattle.return_service.specs.declared.parameter_names.TheConstants.{LATENCY_LIMIT}
 use Rattle.return_service.specs.declared.parameter_names.TheConstants.{REPORTING_CYCLE}
 use Rattle.return_service.specs.declared.parameter_names.TheConstants.{RETURN_TIMEOUT}
 use Rattle.return_service.specs.Counts.{no_frames, with_frames_of}
+use Rattle.return_service.specs.Requested.{kept_name, kept_parameter, KeptFits}
 
--- its delivery, the return timeout in seconds, when its reports are due, and what they count
+-- which service it is one of, its delivery, the return timeout in seconds, when its reports are due,
+-- what they count, and what the last START asked for, if there was one
 pub record Serving : Type 0 where
+  pub kind : ReturnKind
   pub course : Course
   pub timeout : ℕ
   pub schedule : Schedule
   pub counts : Counts
+  pub kept : Option Filter
 
--- at the BIND no reports are due and nothing was counted
-abbrev pub bound : Course → ℕ → Serving
-bound course timeout = record {
+-- at the BIND no reports are due, nothing was counted, and nothing was asked for
+abbrev pub bound : ReturnKind → Course → ℕ → Serving
+bound kind course timeout = record {
+  kind = kind;
   course = course;
   timeout = timeout;
   schedule = no_reports;
   counts = no_frames;
+  kept = None;
 }
 
 -- ---- START and STOP
 
 -- what a START selects that asks for these frames of this span, in a round with this front
-abbrev pub terms_at : Course → Filter → Span → ℕ → Terms
+abbrev pub terms_at : Course → terms.Filter → Span → ℕ → Terms
 terms_at c filter span front =
     terms_of c (selection_of c.mode filter span.start span.stop front)
 
@@ -52,7 +61,8 @@ terms_at c filter span front =
 abbrev pub started : Filter → Span → ℕ → Serving → Serving
 started filter span front s = record s {
   course = with_start s.course
-      (selection_of s.course.mode filter span.start span.stop front);
+      (selection_of s.course.mode (filter_of filter) span.start span.stop front);
+  kept = Some filter;
 }
 
 abbrev pub stopped : Serving → Serving
@@ -117,10 +127,11 @@ mode_number offline = 2
 abbrev pub seconds_of : Option ℕ → Option ℕ
 seconds_of limit = option_map (λ picos. picos / PICOS_A_SECOND) limit
 
--- the parameter of a name, of those that all return services have
+-- the parameter of a name
 abbrev pub parameter_of : Serving → ℕ → Option Parameter
 parameter_of s name =
-    if name == BUFFER_SIZE then Some (parameter.BufferSize (pos s.course.size))
+    if name == kept_name s.kind then Some (kept_parameter s.kind s.kept)
+    else if name == BUFFER_SIZE then Some (parameter.BufferSize (pos s.course.size))
     else if name == DELIVERY_MODE then Some (parameter.Mode (pos (mode_number s.course.mode)))
     else if name == LATENCY_LIMIT then Some (parameter.Latency
     (option_map (λ n. pos n) (seconds_of (limit_of_course s.course))))
@@ -131,8 +142,10 @@ parameter_of s name =
 
 -- ---- what the code keeps
 
--- what is kept beside a delivery is the delivery's own
-pub record IsOf (c : Course) (m : Mode) (items : ℕ) (seconds : Option ℕ) : Type 0 where
+-- what is kept beside a delivery is the delivery's own, and a channel has its numbers in their ranges
+pub record IsOf (c : Course) (m : Mode) (items : ℕ) (seconds : Option ℕ) (kept : Option Filter)
+    : Type 0 where
   pub mode : c.mode ≡ m
   pub size : c.size ≡ items
   pub latency : seconds_of (limit_of_course c) ≡ seconds
+  pub fits : KeptFits kept

@@ -19,7 +19,7 @@ fn specific<D: Numbered>(why: D) -> Diagnostic
 }
 
 /// That an operation is done, or why not: a reason of its own.
-pub fn confirmed<D: Numbered>(outcome: Result<(), D>) -> Result<(), Diagnostic>
+pub(crate) fn confirmed<D: Numbered>(outcome: Result<(), D>) -> Result<(), Diagnostic>
     ensures exact { result ≡ answer.confirmed D.number_of outcome }
     ensures fits { confirmation.Fits result }
 {
@@ -30,7 +30,7 @@ pub fn confirmed<D: Numbered>(outcome: Result<(), D>) -> Result<(), Diagnostic>
 }
 
 /// A parameter, or that the service has none of this name.
-pub fn known(parameter: Option<Parameter>) -> Result<Parameter, Diagnostic>
+pub(crate) fn known(parameter: Option<Parameter>) -> Result<Parameter, Diagnostic>
     requires { ParameterFits parameter }
     ensures exact { result ≡ answer.known parameter }
     ensures fits { parameter_answer.Fits result }

@@ -1,8 +1,10 @@
-// What the return services have alike: RAF (CCSDS 911.1-B) and RCF (CCSDS 911.2-B).
+// A bound instance of a return service: RAF (CCSDS 911.1-B) or RCF (CCSDS 911.2-B).
 //
-// `ReturnService` is a bound instance: its delivery, the schedule of its status reports and what
-// they count, and the parameters that both services have. `Span` has the checks of a START's times.
-// A service adds what a START asks for, and the parameter that tells it.
+// A session asks `ReturnService::prepare` what to want of a round's look, and has the round's
+// invocation answered by `conclude`, with what the look gave and the channels that the site permits.
+// In each round it asks for the report that is due, has the delivery make its step, offers what is
+// held, and settles the link's answer. What a service has of its own is what a START asks for, the
+// parameter that tells it (`kept.rt`), and whether it may be asked for (`permission.rt`).
 //
 // No call takes memory. `settle` costs the items that were offered; each other call costs what the
 // delivery's does, or a constant time.
@@ -10,15 +12,15 @@
 
 mod answers;
 mod counts;
+mod invocation;
+mod kept;
 mod parameter_names;
+mod permission;
 mod service;
 mod span;
 
-pub use answers::{confirmed, known};
 pub use counts::Counts;
-pub use parameter_names::{
-    BUFFER_SIZE, DELIVERY_MODE, LATENCY_LIMIT, REPORTING_CYCLE, REQUESTED_CHANNEL,
-    REQUESTED_QUALITY, RETURN_TIMEOUT,
-};
+pub use invocation::{ReturnInvocation, ReturnStart};
+pub use octet_core::Offer;
 pub use service::ReturnService;
 pub use span::Span;

@@ -6,7 +6,7 @@ use Rattle.station_config.specs.declared.site.Site.{Site}
 use Rattle.station_book.specs.State as book
 use Rattle.station_book.specs.History.{after, moment_at}
 use Rattle.session_core.specs.declared.standing.Standing.{Standing}
-use Rattle.session_core.specs.Inquiry.{call_of, answer_of, Replied, reply_in}
+use Rattle.session_services.specs.Inquiry.{call_of, answer_of, Replied, reply_in}
 use Rattle.session_core.specs.ServiceSteps.{with_service, is_active}
 use Rattle.session_core.specs.Steps.{at_moment, inquiry_entered, acted, timed, unasked}
 use Rattle.session_core.specs.SessionState.{SessionState, asked, told_now, feeder_after, kept_after}

@@ -7,9 +7,9 @@ use Rattle.station_book.specs.State as book
 use Rattle.station_book.specs.History.{moment_at}
 use Rattle.session_core.specs.declared.bind_places.BindPlaces.{BindPlaces}
 use Rattle.session_core.specs.declared.standing.Standing.{Standing}
-use Rattle.session_core.specs.Inquiry.{Inquiry, answer_of, Replied, reply_in}
+use Rattle.session_services.specs.Inquiry.{Inquiry, answer_of, Replied, reply_in}
 use Rattle.session_core.specs.Message.{UserContent, judged}
-use Rattle.session_core.specs.Served.{Served}
+use Rattle.session_services.specs.Served.{Served}
 use Rattle.session_core.specs.Handling.{said_ask, invoked, after_judged}
 use Rattle.session_core.specs.Steps.{said_to, message_ask, with_message, stays_running, with_want}
 use Rattle.session_core.specs.Seen.{ask_by, places_of}

@@ -7,8 +7,8 @@ use Rattle.cltu_queue.specs.declared.notice.Notice.{Notice}
 use Rattle.station_book.specs.State as book
 use Rattle.station_book.specs.History.{moment_at}
 use Rattle.session_core.specs.declared.standing.Standing.{Standing}
-use Rattle.session_core.specs.Inquiry.{answer_of, Replied, reply_in}
-use Rattle.session_core.specs.Served.{Served, unserved, reported_by, told_by_service}
+use Rattle.session_services.specs.Inquiry.{answer_of, Replied, reply_in}
+use Rattle.session_services.specs.Served.{Served, unserved, reported_by, told_by_service}
 use Rattle.session_core.specs.ServiceSteps.{may_tell, told_more, reported, noticed, with_notice}
 use Rattle.session_core.specs.ServiceSteps.{is_active, with_service}
 use Rattle.session_core.specs.Steps.{Next, has_message, at_moment, is_idle, with_next, acted}

@@ -10,7 +10,7 @@ use Rattle.link_model.specs.Calls.{blocks_in}
 use Rattle.station_config.specs.declared.site.Site.{Site}
 use Rattle.session_core.specs.declared.standing.Standing.{Standing}
 use Rattle.session_core.specs.Course.{is_live, is_blocked}
-use Rattle.session_core.specs.Inquiry.{reply_in}
+use Rattle.session_services.specs.Inquiry.{reply_in}
 use Rattle.session_core.specs.Steps.{has_block}
 use Rattle.session_core.specs.Session.{State, Round, BookAnswer, at_first, listened, stepped}
 use Rattle.session_core.specs.Session.{Listens, next_of}

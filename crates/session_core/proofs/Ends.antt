@@ -11,7 +11,7 @@ use Rattle.session_core.specs.Session.{round_events, session_calls, AreRounds, s
 use Rattle.session_core.specs.Session.{BookAnswer, Listens, listened, listen_calls, stepped, next_of}
 use Rattle.session_core.specs.Session.{Speaks, speak_calls, spoken_state, before_step, before_speak}
 use Rattle.session_core.specs.Session.{Asks, step_events}
-use Rattle.session_core.specs.Inquiry.{reply_in}
+use Rattle.session_services.specs.Inquiry.{reply_in}
 use Rattle.session_core.specs.Steps.{has_block, course_at_end}
 use Rattle.session_core.specs.Laws.{EndsRepeat}
 use Rattle.session_core.proofs.Staying.{still_step}

@@ -11,7 +11,7 @@ use Rattle.session_core.specs.declared.course.Course.TheVariants.{Over, LinkFail
 use Rattle.session_core.specs.declared.ended.Ended.{Ended}
 use Rattle.session_core.specs.declared.standing.Standing.{Standing}
 use Rattle.session_core.specs.Course.{is_spent, is_blocked}
-use Rattle.session_core.specs.Inquiry.{Replied, reply_in}
+use Rattle.session_services.specs.Inquiry.{Replied, reply_in}
 use Rattle.session_core.specs.Message.{UserContent, judged}
 use Rattle.session_core.specs.Handling.{after_passing, invoked, after_judged}
 use Rattle.session_core.specs.Steps.{Next, at_moment, said_to, with_next, acted, after_step, timed}

@@ -4,9 +4,9 @@ use Rattle.station_config.specs.declared.site.Site.{Site}
 use Rattle.session_core.specs.declared.course.Course.{Course}
 use Rattle.session_core.specs.declared.standing.Standing.{Standing}
 use Rattle.session_core.specs.Course.{is_plain}
-use Rattle.session_core.specs.Inquiry.{Replied}
-use Rattle.session_core.specs.Service.{Invocation, invocation_kind}
-use Rattle.session_core.specs.Served.{concluded_by}
+use Rattle.session_services.specs.Inquiry.{Replied}
+use Rattle.session_services.specs.Service.{Invocation, invocation_kind}
+use Rattle.session_services.specs.Served.{concluded_by}
 use Rattle.session_core.specs.ServiceSteps.{permitted, with_invocation, Keeps}
 use Rattle.session_core.proofs.Staying.{stays_answered}
 

@@ -19,13 +19,13 @@ use Rattle.cltu_queue.specs.declared.notice.Notice.{Notice}
 use Rattle.session_core.specs.declared.course.Course.{Course}
 use Rattle.session_core.specs.declared.standing.Standing.{Standing}
 use Rattle.session_core.specs.Course.{is_going, is_live, has_closed, is_blocked}
-use Rattle.session_core.specs.Inquiry.{Replied, reply_in}
+use Rattle.session_services.specs.Inquiry.{Replied, reply_in}
 use Rattle.session_core.specs.Message.{UserContent, context, heartbeat as heartbeat_said, bind}
 use Rattle.session_core.specs.Message.{unbind, peer_abort, invocation, undecoded, out_of_place}
 use Rattle.session_core.specs.Message.{judged}
-use Rattle.session_core.specs.Served.{Message, concluded_by, Reported, reported_by, told_by_service}
-use Rattle.session_core.specs.Served.{dropped_by, fixed_by}
-use Rattle.session_core.specs.Service.{invocation_kind}
+use Rattle.session_services.specs.Served.{Message, concluded_by, Reported, reported_by, told_by_service}
+use Rattle.session_services.specs.Served.{dropped_by, fixed_by}
+use Rattle.session_services.specs.Service.{invocation_kind}
 use Rattle.session_core.specs.Returns.{bound_peer}
 use Rattle.session_core.specs.ServiceSteps.{permitted, answered_with, led_to, told_more, may_tell}
 use Rattle.session_core.specs.ServiceSteps.{reported, with_report}

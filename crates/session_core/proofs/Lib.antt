@@ -17,7 +17,6 @@ mod Sound
 mod Listed
 mod Serving
 mod Fits
-mod FcltuServed
 mod Asks
 mod Advance
 mod Bare

@@ -23,7 +23,7 @@ use Rattle.session_core.proofs.Streams.{WorkedOut, Gives}
 use Rattle.session_core.proofs.Rounds.{asks_by, stands_told, events_by, spoke_by, tells-tells}
 use Rattle.session_core.proofs.Sound.{sound_first, sound_rounds}
 use Rattle.session_core.proofs.Whole.{whole_calls}
-use Rattle.session_core.specs.Whole.{AreWhole}
+use Rattle.session_services.specs.Whole.{AreWhole}
 use Rattle.octet_core.specs.declared.offer.Offer.{Offer}
 use Rattle.link_model.specs.declared.call.Heard.{Heard}
 

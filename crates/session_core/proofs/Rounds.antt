@@ -18,7 +18,7 @@ use Rattle.station_config.specs.declared.site.Site.{Site}
 use Rattle.station_book.specs.State as book
 use Rattle.session_core.specs.declared.standing.Standing.{Standing}
 use Rattle.session_core.specs.Course.{is_going}
-use Rattle.session_core.specs.Inquiry.{reply_in}
+use Rattle.session_services.specs.Inquiry.{reply_in}
 use Rattle.session_core.specs.Steps.{Next, has_message, round_begun, waits, may_poll, handles}
 use Rattle.session_core.specs.Steps.{may_poll_by, after_wait, after_poll, after_offer, is_idle}
 use Rattle.session_core.specs.Steps.{inquiry_at, after_step, may_speak, round_ended}

@@ -17,8 +17,8 @@ use Rattle.session_core.specs.Outcome.{come_to, has_failed, FailsBy}
 use Rattle.session_core.specs.Lists.{Began, start_of, StandsAt, to_listen, none_made, readings_in}
 use Rattle.session_core.specs.Lists.{GoesRound, OnlyListens}
 use Rattle.session_core.specs.Serving.{Made, Serves, Breaks}
-use Rattle.session_core.specs.Whole.{AreWhole}
-use Rattle.session_core.proofs.Whole.{whole_none, whole_calls}
+use Rattle.session_services.specs.Whole.{AreWhole, whole_none}
+use Rattle.session_core.proofs.Whole.{whole_calls}
 use Rattle.session_core.specs.Laws.{EndsAsItStands}
 use Rattle.session_core.proofs.Listed.{has_heard}
 use Rattle.session_core.proofs.Longer.{going_on, whole}

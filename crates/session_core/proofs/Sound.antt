@@ -11,7 +11,7 @@ use Rattle.link_model.specs.declared.call.Heard.TheVariants.{Arrived}
 use Rattle.station_config.specs.declared.site.Site.{Site}
 use Rattle.session_core.specs.declared.standing.Standing.{Standing}
 use Rattle.session_core.specs.Course.{is_going, is_blocked}
-use Rattle.session_core.specs.Inquiry.{Replied, reply_in}
+use Rattle.session_services.specs.Inquiry.{Replied, reply_in}
 use Rattle.session_core.specs.ServiceSteps.{with_service, is_active}
 use Rattle.session_core.specs.Steps.{Next, at_moment, acted, timed, unasked, is_idle, with_next}
 use Rattle.session_core.specs.Session.{State, Round, BookAnswer, at_first, next_by, next_of}

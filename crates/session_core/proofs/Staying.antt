@@ -9,14 +9,14 @@ use Rattle.assoc_core.specs.Kind.{Kind}
 use Rattle.cltu_queue.specs.declared.notice.Notice.{Notice}
 use Rattle.session_core.specs.declared.standing.Standing.{Standing}
 use Rattle.session_core.specs.Course.{is_going, is_live, is_blocked}
-use Rattle.session_core.specs.Inquiry.{Replied}
-use Rattle.session_core.specs.Served.{Message, Reported, reported_by, told_by_service, Fixed}
-use Rattle.session_core.specs.Served.{fixed_by}
+use Rattle.session_services.specs.Inquiry.{Replied}
+use Rattle.session_services.specs.Served.{Message, Reported, reported_by, told_by_service, Fixed}
+use Rattle.session_services.specs.Served.{fixed_by}
 use Rattle.session_core.specs.Returns.{bound_peer}
 use Rattle.session_core.specs.ServiceSteps.{answered_with, told_more, may_tell, reported, with_report}
 use Rattle.session_core.specs.ServiceSteps.{noticed, with_notice, has_outgoing, with_fixed, fixed}
 use Rattle.session_core.specs.ServiceSteps.{stepped_by, may_serve, with_service, after_stall}
-use Rattle.session_core.specs.ServiceSteps.{is_active, has_room, Stays}
+use Rattle.session_core.specs.ServiceSteps.{is_active, Stays}
 use Rattle.session_core.specs.Steps.{Next, at_moment, is_idle, with_next, acted, timed}
 use Rattle.session_core.specs.Steps.{with_heartbeat, unasked, after_step, has_block, is_due}
 use Rattle.session_core.specs.Steps.{pulse_of}
@@ -172,6 +172,9 @@ blocked_idle s e = grind arith
 and_not : (a b c : Bool) → b ≡ true → (a && not b && c) ≡ false
 and_not a b c e = grind arith
 
+both_not : (a b : Bool) → b ≡ true → (a && not b) ≡ false
+both_not a b e = grind arith
+
 if_false : {A : Type 0} (b : Bool) (x y : A) → b ≡ false → (if b then x else y) ≡ y
 if_false b x y e = rw e refl
 
@@ -179,13 +182,13 @@ blocked_report : (site : Site) (s : Standing) (r : Replied) → is_blocked s.arr
     → with_report site s r ≡ s
 blocked_report site s r e =
     if_false (may_tell s) (reported site s (reported_by s.service r s.moment)) s
-    (and_not (is_going s.course) (is_blocked s.arrival) (has_room s.block) e)
+    (both_not (is_going s.course) (is_blocked s.arrival) e)
 
 blocked_notice : (site : Site) (s : Standing) (notice : Option Notice)
     → is_blocked s.arrival ≡ true → with_notice site s notice ≡ s
 blocked_notice site s notice e =
     if_false (may_tell s) (noticed site s notice) s
-    (and_not (is_going s.course) (is_blocked s.arrival) (has_room s.block) e)
+    (both_not (is_going s.course) (is_blocked s.arrival) e)
 
 serves_not : (a b c : Bool) → c ≡ true → (a && (b && not c)) ≡ false
 serves_not a b c e = grind arith

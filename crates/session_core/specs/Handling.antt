@@ -29,13 +29,13 @@ use Rattle.session_core.specs.declared.course.Course.TheVariants.{Closing, Over}
 use Rattle.session_core.specs.declared.ended.Ended.{Ended}
 use Rattle.session_core.specs.declared.ended.Ended.TheVariants as ended
 use Rattle.session_core.specs.declared.standing.Standing.{Standing}
-use Rattle.session_core.specs.Inquiry.{Inquiry, only_asks, Replied}
+use Rattle.session_services.specs.Inquiry.{Inquiry, only_asks, Replied}
 use Rattle.session_core.specs.Message.{UserContent, context, bind, unbind, peer_abort, invocation}
 use Rattle.session_core.specs.Message.{kind_of}
-use Rattle.session_core.specs.Served.{Served, unserved, prepared}
+use Rattle.session_services.specs.Served.{Served, unserved, prepared}
 use Rattle.session_core.specs.ServiceSteps.{service_bound, with_invocation}
-use Rattle.session_core.specs.Returns.{own_credentials, number_after, bind_return_message}
-use Rattle.session_core.specs.Returns.{unbind_return_message, with_return}
+use Rattle.session_services.specs.Returns.{own_credentials, number_after}
+use Rattle.session_core.specs.Returns.{bind_return_message, unbind_return_message, with_return}
 
 -- ---- ends
 

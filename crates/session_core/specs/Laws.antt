@@ -20,8 +20,8 @@ use Rattle.session_core.specs.declared.standing.Standing.{Standing}
 use Rattle.session_core.specs.Course.{is_live, is_over, is_blocked}
 use Rattle.session_core.specs.ServiceSteps.{has_outgoing, Stays, with_service}
 use Rattle.session_core.specs.Steps.{Next, has_block, handles, unasked}
-use Rattle.session_core.specs.Inquiry.{Replied}
-use Rattle.session_core.specs.Whole.{AreWhole}
+use Rattle.session_services.specs.Inquiry.{Replied}
+use Rattle.session_services.specs.Whole.{AreWhole}
 use Rattle.archive_terms.specs.Glimpse.{Glimpse}
 use Rattle.session_core.specs.Session.{State, Round, BookAnswer, at_first, next_of, before_step}
 use Rattle.session_core.specs.Session.{before_speak, IsRound, round_calls, round_events}

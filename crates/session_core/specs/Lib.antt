@@ -1,15 +1,6 @@
 pub mod Numbers
-pub mod Whole
 pub mod Course
-pub mod Inquiry
-pub mod Service
-pub mod Telling
 pub mod Returns
-pub mod ReturnServed
-pub mod RafServed
-pub mod RcfServed
-pub mod FcltuServed
-pub mod Served
 pub mod Message
 pub mod Seen
 pub mod ServiceSteps

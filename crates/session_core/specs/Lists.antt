@@ -10,7 +10,7 @@ use Rattle.station_config.specs.declared.site.Site.{Site}
 use Rattle.station_book.specs.State.{Event}
 use Rattle.station_book.specs.State as book
 use Rattle.station_book.specs.History.{IsLegal, replay, reading_of}
-use Rattle.session_core.specs.Whole.{AreWhole}
+use Rattle.session_services.specs.Whole.{AreWhole}
 use Rattle.session_core.specs.Session.{State, BookAnswer, at_first, Listens, listened, listen_calls}
 use Rattle.session_core.specs.Session.{Asks}
 use Rattle.session_core.specs.Session.{stepped, step_events, after_rounds, AreRounds, session_calls}

@@ -19,8 +19,8 @@ use Rattle.assoc_core.specs.Association.{step}
 use Rattle.assoc_core.specs.Kind.{Kind, Message}
 use Rattle.assoc_core.specs.Kind as kind
 use Rattle.assoc_core.specs.OuterTag.{outer_tag}
-use Rattle.session_core.specs.Service.{Invocation, invocation_in, invocation_kind}
-use Rattle.session_core.specs.Service.{invocation_credentials}
+use Rattle.session_services.specs.Service.{Invocation, invocation_in, invocation_kind}
+use Rattle.session_services.specs.Service.{invocation_credentials}
 
 -- a context with its interval and its dead factor; a heartbeat; a BIND, an UNBIND and a PEER-ABORT
 -- with their fields; what is said to the bound service; octets that don't decode; a PDU that isn't

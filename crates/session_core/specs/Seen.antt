@@ -14,10 +14,10 @@ use Rattle.session_core.specs.declared.user_message.UserMessage.{UserMessage}
 use Rattle.session_core.specs.declared.user_message.UserMessage.TheVariants as variant
 use Rattle.session_core.specs.Message.{UserContent, context, heartbeat, bind, unbind, peer_abort}
 use Rattle.session_core.specs.Message.{invocation, undecoded, out_of_place}
-use Rattle.session_core.specs.Service.{invocation_of}
-use Rattle.session_core.specs.Served.{Served, prepared}
+use Rattle.session_services.specs.Service.{invocation_of}
+use Rattle.session_services.specs.Served.{Served, prepared}
 use Rattle.session_core.specs.Handling.{bind_judged, bind_ask}
-use Rattle.session_core.specs.Inquiry.{Inquiry, only_asks}
+use Rattle.session_services.specs.Inquiry.{Inquiry, only_asks}
 
 abbrev pub said_of : UserMessage → UserContent
 said_of (variant.Context interval factor) = context interval factor

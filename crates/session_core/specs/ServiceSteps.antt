@@ -6,7 +6,7 @@ use Rattle.std.specs.Option.{option_map_or}
 use Rattle.octet_core.specs.declared.offer.Offer.{Offer}
 use Rattle.octet_core.specs.declared.offer.Offer.TheVariants.{Whole, Stalled, Failed as Refused}
 use Rattle.archive_terms.specs.Glimpse.{Glimpse}
-use Rattle.isp1_tml.specs.Message.{Content, spelling}
+use Rattle.isp1_tml.specs.Message.{spelling}
 use Rattle.sle_numbers.specs.declared.bind_diagnostic.BindDiagnostic.{BindDiagnostic}
 use Rattle.sle_common.specs.declared.gvcid.Gvcid.{Gvcid}
 use Rattle.station_config.specs.declared.service.Service.{Service}
@@ -23,13 +23,15 @@ use Rattle.cltu_queue.specs.declared.notice.Notice.{Notice}
 use Rattle.session_core.specs.declared.course.Course.TheVariants.{LinkFailing}
 use Rattle.session_core.specs.declared.standing.Standing.{Standing}
 use Rattle.session_core.specs.Course.{is_going, is_blocked, is_plain}
-use Rattle.session_core.specs.Inquiry.{Replied}
-use Rattle.session_core.specs.Service.{Invocation, invocation_kind}
-use Rattle.session_core.specs.RcfServed.{channels_of}
-use Rattle.session_core.specs.Served.{Served, unserved, Message, served_at, Concluded, concluded_by}
-use Rattle.session_core.specs.Served.{Reported, reported_by, told_by_service, served_step, Fixed}
-use Rattle.session_core.specs.Served.{fixed_by, dropped_by, served_settled}
-use Rattle.session_core.specs.Returns.{own_credentials, number_after, bound_peer, with_return}
+use Rattle.session_services.specs.Inquiry.{Replied}
+use Rattle.session_services.specs.Service.{Invocation, invocation_kind}
+use Rattle.session_services.specs.ReturnServed.{channels_of}
+pub use Rattle.session_services.specs.Telling.{spelled}
+use Rattle.session_services.specs.Served.{Served, unserved, Message, served_at, Concluded, concluded_by}
+use Rattle.session_services.specs.Served.{Reported, reported_by, told_by_service, served_step, Fixed}
+use Rattle.session_services.specs.Served.{fixed_by, dropped_by, served_settled}
+use Rattle.session_services.specs.Returns.{own_credentials, number_after}
+use Rattle.session_core.specs.Returns.{bound_peer, with_return}
 
 -- ---- a BIND
 
@@ -101,14 +103,9 @@ pub record Stays (s t : Standing) : Type 0 where
 
 -- ---- what is told unasked, behind the return
 
--- the block has room for a message more, whatever it is (this product's own)
-abbrev pub has_room : List ℕ → Bool
-has_room block = nat_le (length block) 3064
-
--- A session that goes on tells of its service, in a round that isn't blocked. The room is there in
--- each round behind a listen, since the block then holds what this round made alone.
+-- A session that goes on tells of its service, in a round that isn't blocked.
 abbrev pub may_tell : Standing → Bool
-may_tell s = is_going s.course && not (is_blocked s.arrival) && has_room s.block
+may_tell s = is_going s.course && not (is_blocked s.arrival)
 
 -- a message more in the block, signed as the return of a report is
 abbrev pub told_more : Site → Standing → Option Message → Standing
@@ -148,10 +145,6 @@ may_serve was s =
 
 abbrev pub has_outgoing : Standing → Bool
 has_outgoing s = not (length s.outgoing == 0)
-
-abbrev pub spelled : Option Content → List ℕ
-spelled None = []
-spelled (Some message) = spelling message
 
 abbrev pub with_fixed : Standing → Fixed → Standing
 with_fixed s f = record s { outgoing = spelled f.message; numbers = f.numbers }

@@ -8,7 +8,7 @@ use Rattle.station_book.specs.History.{IsLegal, replay}
 use Rattle.session_core.specs.declared.run.Start.{Start}
 use Rattle.session_core.specs.declared.spoken.Spoken.{Spoken}
 use Rattle.session_core.specs.declared.spoken.Spoken.TheVariants.{Going}
-use Rattle.session_core.specs.Whole.{AreWhole}
+use Rattle.session_services.specs.Whole.{AreWhole}
 use Rattle.session_core.specs.Session.{Round, AreRounds, session_calls, session_events, session_end}
 use Rattle.session_core.specs.Session.{spoken_of, is_fault}
 use Rattle.session_core.specs.Lists.{Began, start_of, state_after, readings_in, Part, IsPart}

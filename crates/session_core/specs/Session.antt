@@ -26,11 +26,11 @@ use Rattle.session_core.specs.declared.spoken.Spoken.TheVariants as spoken
 use Rattle.session_core.specs.declared.standing.Standing.{Standing}
 use Rattle.session_core.specs.Numbers.{longest_piece}
 use Rattle.session_core.specs.Course.{is_over}
-use Rattle.session_core.specs.Inquiry.{call_of, reply_in}
+use Rattle.session_services.specs.Inquiry.{call_of, reply_in}
 use Rattle.session_core.specs.Steps.{Next, round_begun, waits, after_wait, may_poll, after_poll}
 use Rattle.session_core.specs.Steps.{handles, inquiry_at, after_step, may_speak, after_offer}
 use Rattle.session_core.specs.Steps.{may_send, round_ended}
-use Rattle.session_core.specs.Served.{unserved}
+use Rattle.session_services.specs.Served.{unserved}
 use Rattle.session_core.specs.ServiceSteps.{after_send}
 
 -- all the octets that arrived, how many messages of them were handled, and how the session stands

@@ -15,9 +15,9 @@ use Rattle.station_book.specs.State as book
 use Rattle.station_book.specs.History.{moment_at, event_at, after}
 use Rattle.session_core.specs.declared.standing.Standing.{Standing}
 use Rattle.session_core.specs.Course.{is_going, is_over}
-use Rattle.session_core.specs.Inquiry.{Inquiry, call_of, answer_of, Replied, reply_in}
+use Rattle.session_services.specs.Inquiry.{Inquiry, call_of, answer_of, Replied, reply_in}
 use Rattle.session_core.specs.Numbers.{longest_piece}
-use Rattle.session_core.specs.Whole.{AreWhole}
+use Rattle.session_services.specs.Whole.{AreWhole}
 use Rattle.session_core.specs.Steps.{round_begun, waits, may_poll, is_idle, inquiry_at, after_step}
 use Rattle.session_core.specs.Steps.{may_speak, may_send}
 use Rattle.session_core.specs.Session.{State, BookAnswer, IsHeard, Listens, Speaks, offer_calls}

@@ -21,12 +21,12 @@ use Rattle.session_core.specs.declared.ended.Ended.TheVariants.{PeerClosed, Brok
 use Rattle.session_core.specs.declared.standing.Standing.{Standing}
 use Rattle.session_core.specs.Course.{is_going, is_live, is_blocked, has_arrived}
 use Rattle.session_core.specs.Course.{has_closed}
-use Rattle.session_core.specs.Inquiry.{Inquiry, only_asks, Replied}
+use Rattle.session_services.specs.Inquiry.{Inquiry, only_asks, Replied}
 use Rattle.session_core.specs.Message.{UserContent, heartbeat as heartbeat_said, invocation}
 use Rattle.session_core.specs.Message.{said_in, judged}
 use Rattle.session_core.specs.Handling.{ended_by, aborted, said_ask, after_message}
-use Rattle.session_core.specs.Service.{leaves_running}
-use Rattle.session_core.specs.Served.{want_served}
+use Rattle.session_services.specs.Service.{leaves_running}
+use Rattle.session_services.specs.Served.{want_served}
 use Rattle.session_core.specs.ServiceSteps.{service_of, with_report, with_notice, is_active, with_service}
 use Rattle.session_core.specs.ServiceSteps.{has_outgoing}
 use Rattle.archive_terms.specs.Glimpse.{Want, wants_nothing}

@@ -5,13 +5,14 @@ ghost use Rattle.bind_pdu.specs.Seen.{bind_of};
 ghost use Rattle.station_config.specs.Validity.{IsSite};
 ghost use Rattle.assoc_core.specs.declared.step.Step.TheVariants.{Pass};
 ghost use Rattle.assoc_core.specs.Kind.{kind_of};
-ghost use Rattle.session_core.specs.Returns.{own_credentials, number_after};
+ghost use Rattle.session_services.specs.Returns.{own_credentials, number_after};
 ghost use Rattle.session_core.specs.Returns.{peer_at, bound_place, bound_peer};
 ghost use Rattle.session_core.specs.Handling.{is_from, is_agreed, with_context, with_bind};
 ghost use Rattle.session_core.specs.Handling.{with_denial, with_unbind, after_passing};
 ghost use Rattle.session_core.specs.Handling.{invoked, after_judged};
-ghost use Rattle.session_core.specs.Inquiry.{inquiry_of, replied_of};
+ghost use Rattle.session_services.specs.Inquiry.{inquiry_of, replied_of};
 ghost use Rattle.session_core.specs.Message.{judged};
+ghost use Rattle.session_services.specs.Room.{HasOne};
 ghost use Rattle.session_core.specs.ServiceSteps.{service_of, service_made};
 ghost use Rattle.session_core.specs.Steps.{stays_running};
 ghost use Rattle.session_core.specs.Seen.{said_of, places_of_bind, places_of, ask_by};
@@ -19,16 +20,13 @@ ghost use Rattle.session_core.specs.Seen.{said_of, places_of_bind, places_of, as
 use crate::bind_places::BindPlaces;
 use crate::course::Course;
 use crate::ended::Ended;
-use crate::inquiry::Inquiry;
-use crate::replied::Replied;
 use crate::returns::{bind_outcome, bind_result, bind_return, place_bound, unbind_return};
-use crate::service_state::ServiceState;
-use crate::signature::Signature;
 use crate::standing::Standing;
 use crate::user_message::UserMessage;
 use assoc_core::{Outcome, PduKind, Step, is_asked};
 use bind_pdu::Bind;
 use octet_core::Memory;
+use session_services::{Inquiry, Replied, ServiceState, Signature};
 use sle_numbers::{BindDiagnostic, PeerAbortDiagnostic};
 use station_book::{Ask, BookReply};
 use station_config::{Peer, Service, Site};
@@ -195,7 +193,8 @@ impl Standing {
         requires moment { self.old.moment < MOMENT_END }
         requires places { places ≡ places_of_bind site.now (bind_of bind.now) }
         requires made { made ≡ service_made site.now places.instance }
-        ensures { self.new ≡ with_bind site.now self.old (bind_of bind.now) reply }
+        ensures led { self.new ≡ with_bind site.now self.old (bind_of bind.now) reply }
+        ensures few { HasOne self.new.block }
     {
         let kind = PduKind::Bind {
             initiator: bind.initiator,
@@ -214,7 +213,8 @@ impl Standing {
     // A BIND with failing credentials is answered without any.
     fn deny(&mut self, site: &Site)
         requires { IsSite site.now }
-        ensures { self.new ≡ with_denial site.now self.old }
+        ensures led { self.new ≡ with_denial site.now self.old }
+        ensures few { HasOne self.new.block }
     {
         self.course = Course::Closing(Ended::Denied);
         let denied = Err(BindDiagnostic::AccessDenied);
@@ -224,7 +224,8 @@ impl Standing {
     // An UNBIND that passed is answered.
     fn answer_unbind(&mut self, site: &Site)
         requires { self.old.moment < MOMENT_END }
-        ensures { self.new ≡ with_unbind site.now self.old }
+        ensures led { self.new ≡ with_unbind site.now self.old }
+        ensures few { HasOne self.new.block }
     {
         let signature = self.sign_bound(site, PduKind::Unbind);
         self.association.moved(Outcome::Unbound);
@@ -246,8 +247,9 @@ impl Standing {
         requires moment { self.old.moment < MOMENT_END }
         requires places { places ≡ places_of site.now (said_of message.now) Pass }
         requires made { made ≡ service_made site.now places.instance }
-        ensures { self.new ≡ after_passing site.now self.old (said_of message.now)
+        ensures led { self.new ≡ after_passing site.now self.old (said_of message.now)
             (replied_of answer.now) }
+        ensures few { HasOne self.old.block → HasOne self.new.block }
     {
         match message {
             UserMessage::Context { interval, factor } => {
@@ -278,8 +280,9 @@ impl Standing {
         requires moment { self.old.moment < MOMENT_END }
         requires places { places ≡ places_of site.now (said_of message.now) step }
         requires made { made ≡ service_made site.now places.instance }
-        ensures { self.new ≡ after_judged site.now self.old (said_of message.now) step
+        ensures led { self.new ≡ after_judged site.now self.old (said_of message.now) step
             (replied_of answer.now) }
+        ensures few { HasOne self.old.block → HasOne self.new.block }
     {
         if answer.reply == BookReply::Lost {
             self.abort(PeerAbortDiagnostic::OtherReason);

@@ -13,7 +13,6 @@ ghost use Rattle.session_core.specs.Session.{spoken_of, is_fault};
 ghost use Rattle.session_core.specs.Steps.{has_message};
 
 use crate::arrival::Arrival;
-use crate::block::Block;
 use crate::course::Course;
 use crate::session::Session;
 use crate::standing::Standing;
@@ -21,6 +20,7 @@ use ber_core::laws as octets;
 use isp1_tml::{Feeder, laws};
 use link_model::{Link, Poll};
 use octet_core::Offer;
+use session_services::Block;
 
 // Whether a whole message is held.
 pub(crate) fn holds_message(feeder: &Feeder) -> bool

@@ -9,9 +9,9 @@ ghost use Rattle.session_core.specs.Handling.{place_bound};
 ghost use Rattle.session_core.specs.Returns.{as_integers};
 
 use crate::bind_places::BindPlaces;
-use crate::signature::{Signature, signed_with};
 use assoc_core::Outcome;
 use bind_pdu::{Bind, BindReturn, UnbindReturn};
+use session_services::{Signature, signed_with};
 use sle_numbers::{BindDiagnostic, Numbered};
 use station_book::BookReply;
 use station_config::Site;

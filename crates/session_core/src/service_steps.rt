@@ -4,41 +4,35 @@
 // invocation, the status report that is due, how a notice is told, and its message behind the block.
 // Its returns are signed by `Standing::sign_bound`, become the block by `Block::put`, and are added
 // to it by `Block::add`.
-ghost use Rattle.std.specs.Prelude.{◌≡◌, ◌<◌, ◌≤◌, None, IsTrue, IsFalse, length, option_copied};
+ghost use Rattle.std.specs.Prelude.{◌≡◌, ◌+◌, ◌<◌, ◌≤◌, None, IsTrue, IsFalse, length};
 ghost use Rattle.cds_time.specs.declared.cds.TheConstants.{MOMENT_END};
 ghost use Rattle.frame_select.specs.Want.{want_of};
 ghost use Rattle.frame_select.specs.Glimpse.{glimpse_of};
 ghost use Rattle.return_core.specs.Item.{are_of_archive};
-ghost use Rattle.session_core.specs.Inquiry.{inquiry_of, replied_of};
-ghost use Rattle.session_core.specs.Service.{invocation_of};
+ghost use Rattle.session_services.specs.Inquiry.{inquiry_of, replied_of};
+ghost use Rattle.session_services.specs.Room.{HasOne, HasTwo};
+ghost use Rattle.session_services.specs.Service.{invocation_of};
 ghost use Rattle.session_core.specs.ServiceSteps.{with_invocation, led_to, may_tell};
 ghost use Rattle.session_core.specs.ServiceSteps.{with_report, reported, noticed, with_notice};
 ghost use Rattle.session_core.specs.ServiceSteps.{is_active, may_serve, has_outgoing, with_fixed};
-ghost use Rattle.session_core.specs.ServiceSteps.{fixed, with_service, spelled, after_stall};
+ghost use Rattle.session_core.specs.ServiceSteps.{fixed, with_service, after_stall};
 ghost use Rattle.session_core.specs.ServiceSteps.{after_send};
-ghost use Rattle.session_core.specs.Served.{reported_by, fixed_by, dropped_by, unserved};
+ghost use Rattle.session_services.specs.Served.{reported_by, fixed_by, dropped_by, unserved};
 ghost use Rattle.session_core.specs.Returns.{bound_peer};
 ghost use Rattle.session_core.specs.Steps.{running_want, with_want, may_send, unasked, is_idle};
 
 use crate::course::Course;
-use crate::fcltu_served::{fcltu_asked, view_due};
 use crate::handling::peer_at;
-use crate::inquiry::Inquiry;
-use crate::outgoing::Outgoing;
-use crate::raf_served::raf_asked;
-use crate::rcf_served::rcf_asked;
-use crate::replied::Replied;
-use crate::return_served::{put_buffer, signer_to};
-use crate::service::Invocation;
-use crate::service_state::ServiceState;
 use crate::standing::Standing;
 use assoc_core::{Outcome, State};
-use buffer_message::ReturnService;
 use cltu_queue::Notice;
 use frame_select::{Glimpse, Want};
-use isp1_auth::RandomNumbers;
 use octet_core::Offer;
-use station_config::{Peer, Site};
+use session_services::{
+    Inquiry, Invocation, Replied, ServiceState, fcltu_asked, fcltu_view_due, put_message,
+    return_asked,
+};
+use station_config::Site;
 
 // What it wants, and what it answers.
 impl Standing {
@@ -68,7 +62,7 @@ impl Standing {
     }
 
     // An invocation that passed leads to this, where the book replied so.
-    #[tactic(auto, unfolding(crate::specs::Served::concluded_by))]
+    #[tactic(auto, unfolding(session_services::specs::Served::concluded_by))]
     pub(crate) fn answer_invocation(
         &mut self,
         site: &Site,
@@ -76,19 +70,16 @@ impl Standing {
         answer: &Replied,
     )
         requires { self.old.moment < MOMENT_END }
-        ensures { self.new ≡ with_invocation site.now self.old (invocation_of invocation.now)
+        ensures led { self.new ≡ with_invocation site.now self.old (invocation_of invocation.now)
             (replied_of answer.now) }
+        ensures few { HasOne self.old.block → HasOne self.new.block }
     {
         let channels = self.permitted(site);
         match &mut self.service {
             ServiceState::Nothing => self.lead_to(Outcome::Kept),
-            ServiceState::Raf(raf) => {
-                let told = raf.conclude(&raf_asked(invocation), &answer.glimpse, self.moment);
-                self.put_answer(site, invocation, told);
-            }
-            ServiceState::Rcf(rcf) => {
-                let asked = rcf_asked(invocation);
-                let told = rcf.conclude(&asked, channels, &answer.glimpse, self.moment);
+            ServiceState::Return(service) => {
+                let asked = return_asked(invocation);
+                let told = service.conclude(&asked, channels, &answer.glimpse, self.moment);
                 self.put_answer(site, invocation, told);
             }
             ServiceState::Fcltu(fcltu) => {
@@ -112,40 +103,38 @@ impl Standing {
 
 // What is told unasked, behind the return.
 impl Standing {
-    // Whether it tells of its service in this round, and the block has room for it.
+    // Whether it tells of its service in this round.
     fn may_tell(&self) -> bool
         ensures { result ≡ may_tell self.now }
     {
-        self.is_going() && !self.is_blocked() && self.block.has_room()
+        self.is_going() && !self.is_blocked()
     }
 
     // The status report, if one is due.
-    #[tactic(auto, unfolding(crate::specs::Served::reported_by))]
+    #[tactic(auto, unfolding(session_services::specs::Served::reported_by))]
     fn report(&mut self, site: &Site, answer: &Replied)
         requires moment { self.old.moment < MOMENT_END }
         requires room { length self.old.block ≤ 3064 }
-        ensures { self.new ≡ reported site.now self.old
+        ensures told { self.new ≡ reported site.now self.old
             (reported_by self.old.service (replied_of answer.now) self.old.moment) }
+        ensures few { length self.new.block ≤ length self.old.block + 1032 }
     {
         match &mut self.service {
             ServiceState::Nothing => {}
-            ServiceState::Raf(raf) => {
-                let due = raf.report(&answer.glimpse, self.moment);
-                self.put_raf_report(site, due);
-            }
-            ServiceState::Rcf(rcf) => {
-                let due = rcf.report(&answer.glimpse, self.moment);
-                self.put_rcf_report(site, due);
+            ServiceState::Return(service) => {
+                let kind = service.kind();
+                let due = service.report(&answer.glimpse, self.moment);
+                self.put_return_report(site, kind, due);
             }
             ServiceState::Fcltu(fcltu) => {
-                let due = view_due(fcltu, &answer.view, self.moment);
+                let due = fcltu_view_due(fcltu, &answer.view, self.moment);
                 self.put_fcltu_report(site, due);
             }
         }
     }
 
     // A notice of the book.
-    #[tactic(auto, unfolding(crate::specs::Served::told_by_service))]
+    #[tactic(auto, unfolding(session_services::specs::Served::told_by_service))]
     fn tell(&mut self, site: &Site, notice: Option<Notice>)
         requires moment { self.old.moment < MOMENT_END }
         requires room { length self.old.block ≤ 3064 }
@@ -155,14 +144,17 @@ impl Standing {
             return;
         };
         match self.service {
-            ServiceState::Nothing | ServiceState::Raf(_) | ServiceState::Rcf(_) => {}
+            ServiceState::Nothing | ServiceState::Return(_) => {}
             ServiceState::Fcltu(_) => self.put_fcltu_notice(site, notice),
         }
     }
 
     fn put_report(&mut self, site: &Site, answer: &Replied)
-        requires { self.old.moment < MOMENT_END }
-        ensures { self.new ≡ with_report site.now self.old (replied_of answer.now) }
+        requires moment { self.old.moment < MOMENT_END }
+        requires room { IsTrue (may_tell self.old) → HasOne self.old.block }
+        ensures told { self.new ≡ with_report site.now self.old (replied_of answer.now) }
+        ensures room { IsTrue (may_tell self.old) → HasTwo self.new.block }
+        ensures goes_on { may_tell self.new ≡ may_tell self.old }
     {
         if self.may_tell() {
             self.report(site, answer);
@@ -170,7 +162,8 @@ impl Standing {
     }
 
     fn put_notice(&mut self, site: &Site, notice: Option<Notice>)
-        requires { self.old.moment < MOMENT_END }
+        requires moment { self.old.moment < MOMENT_END }
+        requires room { IsTrue (may_tell self.old) → HasTwo self.old.block }
         ensures { self.new ≡ with_notice site.now self.old notice }
     {
         if self.may_tell() {
@@ -180,7 +173,8 @@ impl Standing {
 
     // The report that is due, the book's notice, or else a heartbeat.
     pub(crate) fn put_unasked(&mut self, site: &Site, answer: &Replied)
-        requires { self.old.moment < MOMENT_END }
+        requires moment { self.old.moment < MOMENT_END }
+        requires room { IsTrue (may_tell self.old) → HasOne self.old.block }
         ensures { self.new ≡ unasked site.now (replied_of answer.now) self.old }
     {
         self.put_report(site, answer);
@@ -303,51 +297,6 @@ impl Standing {
                 self.service.settle(answer);
             }
             Offer::Failed => self.course = Course::LinkFailing,
-        }
-    }
-}
-
-// Makes the message of what a service holds for a peer at a moment, where it is due.
-#[tactic(auto, unfolding(crate::specs::Served::fixed_by))]
-fn put_message(
-    outgoing: &mut Outgoing,
-    numbers: &mut RandomNumbers,
-    service: &ServiceState,
-    site: &Site,
-    peer: Option<&Peer>,
-    now: u128,
-)
-    requires { now < MOMENT_END }
-    ensures outgoing { outgoing.new ≡ spelled (fixed_by service.now site.now
-        (option_copied peer.entry) numbers.old now).message }
-    ensures numbers { numbers.new ≡ (fixed_by service.now site.now (option_copied peer.entry)
-        numbers.old now).numbers }
-{
-    match service {
-        ServiceState::Nothing | ServiceState::Fcltu(_) => outgoing.clear(),
-        ServiceState::Raf(raf) => {
-            let signer = signer_to(site, peer, now);
-            let offers = raf.is_offering();
-            put_buffer(
-                outgoing,
-                numbers,
-                ReturnService::Raf,
-                offers,
-                raf.current(),
-                signer,
-            );
-        }
-        ServiceState::Rcf(rcf) => {
-            let signer = signer_to(site, peer, now);
-            let offers = rcf.is_offering();
-            put_buffer(
-                outgoing,
-                numbers,
-                ReturnService::Rcf,
-                offers,
-                rcf.current(),
-                signer,
-            );
         }
     }
 }

@@ -12,11 +12,11 @@ ghost use Rattle.session_core.specs.Session.{is_end};
 
 use crate::course::Course;
 use crate::listening::offer;
-use crate::outgoing::Outgoing;
 use crate::session::Session;
 use crate::spoken::Spoken;
 use link_model::Link;
 use octet_core::Offer;
+use session_services::Outgoing;
 
 // Offers a service's message.
 fn send<L: Link>(outgoing: &Outgoing, link: &mut L) -> Offer

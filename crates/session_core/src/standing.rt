@@ -5,24 +5,22 @@ ghost use Rattle.session_core.specs.Course.{has_closed, is_spent};
 ghost use Rattle.session_core.specs.declared.course.Course.TheVariants.{Spent};
 ghost use Rattle.session_core.specs.declared.ended.Ended.TheVariants.{PeerClosed};
 ghost use Rattle.session_core.specs.Handling.{ended_by, aborted};
-ghost use Rattle.session_core.specs.Served.{unserved};
+ghost use Rattle.session_services.specs.Served.{unserved};
 ghost use Rattle.session_core.specs.Session.{begun};
-ghost use Rattle.session_core.specs.Whole.{AreWhole};
+ghost use Rattle.session_services.specs.Whole.{AreWhole};
 ghost use Rattle.session_core.specs.Steps.{round_begun, has_block, waits, after_wait, may_speak};
 ghost use Rattle.session_core.specs.Steps.{after_offer, at_moment, is_idle, may_poll_by};
 ghost use Rattle.session_core.specs.Steps.{pulse_of, is_dead, is_due, timed, with_heartbeat};
 ghost use Rattle.session_core.specs.Steps.{course_at_end, round_ended};
 
 use crate::arrival::Arrival;
-use crate::block::Block;
 use crate::course::Course;
 use crate::ended::Ended;
-use crate::outgoing::Outgoing;
-use crate::service_state::ServiceState;
 use assoc_core::Association;
 use isp1_auth::RandomNumbers;
 use isp1_tml::Beat;
 use octet_core::{Memory, Offer};
+use session_services::{Block, Outgoing, ServiceState};
 use sle_numbers::PeerAbortDiagnostic;
 use std::alloc::Global;
 

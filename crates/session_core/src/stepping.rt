@@ -7,10 +7,11 @@ ghost use Rattle.return_core.specs.Item.{are_of_archive};
 ghost use Rattle.station_config.specs.Validity.{IsSite};
 ghost use Rattle.station_book.specs.History.{after, moment_at, replay};
 ghost use Rattle.cltu_queue.specs.declared.ask.Ask.TheVariants.{Nothing};
-ghost use Rattle.session_core.specs.Inquiry.{call_of, answer_of, reply_in, inquiry_of, replied_of};
-ghost use Rattle.session_core.specs.Inquiry.{only_asks};
-ghost use Rattle.session_core.specs.Served.{unserved};
-ghost use Rattle.session_core.specs.ServiceSteps.{is_active};
+ghost use Rattle.session_services.specs.Inquiry.{call_of, answer_of, reply_in, inquiry_of, replied_of};
+ghost use Rattle.session_services.specs.Inquiry.{only_asks};
+ghost use Rattle.session_services.specs.Served.{unserved};
+ghost use Rattle.session_services.specs.Room.{HasOne};
+ghost use Rattle.session_core.specs.ServiceSteps.{is_active, may_tell};
 ghost use Rattle.session_core.specs.SessionState.{feeder_after, asked, told_now, told_by};
 ghost use Rattle.session_core.specs.SessionState.{kept_after, own_events, Acts};
 ghost use Rattle.session_core.specs.Lists.{GoesStep};
@@ -22,9 +23,7 @@ ghost use Rattle.session_core.specs.Steps.{with_next, has_message, is_idle, with
 use crate::bind_places::places_of;
 use crate::ended::Ended;
 use crate::handling::{said_ask, service_made, stays_running};
-use crate::inquiry::Inquiry;
 use crate::listening::holds_message;
-use crate::replied::Replied;
 use crate::session::Session;
 use crate::standing::Standing;
 use crate::user_message::UserMessage;
@@ -32,6 +31,7 @@ use frame_select::Want;
 use isp1_tml::{Feeder, Message, laws};
 use octet_core::Memory;
 use return_core::laws::looks_are_of_archive;
+use session_services::{Inquiry, Replied};
 use station_book::{Ask, Book};
 use station_config::Site;
 use std::alloc::Global;
@@ -83,6 +83,7 @@ fn handle(
         standing.old.moment)
         (with_message asking.entry.site.now standing.old (content_of message.entry))
         (replied_of told)) }
+    ensures few { OnOk result (HasOne standing.old.block → HasOne standing.new.block) }
     ensures look { IfOk result (λ told. IsTrue (are_of_archive told.glimpse.items)) }
     ensures err { OnErr result (book.new ≡ book.old) }
 {
@@ -132,6 +133,7 @@ fn take_message(
         (next_ask asking.entry.site.now standing.old (next_held feeder.old) standing.old.moment)
         (with_next asking.entry.site.now standing.old (next_held feeder.old))
         (replied_of told)) }
+    ensures few { OnOk result (HasOne standing.old.block → HasOne standing.new.block) }
     ensures look { IfOk result (λ told. IsTrue (are_of_archive told.glimpse.items)) }
     ensures err { OnErr result (book.new ≡ book.old) }
 {
@@ -169,6 +171,8 @@ fn act(
         (inquiry_entered asking.entry.site.now standing.old (next_held feeder.old))
         (acted asking.entry.site.now standing.old (next_held feeder.old))
         (replied_of told)) }
+    ensures few { OnOk result ((IsFalse (is_idle standing.old) → HasOne standing.old.block)
+        → IsTrue (may_tell standing.new) → HasOne standing.new.block) }
     ensures look { IfOk result (λ told. IsTrue (are_of_archive told.glimpse.items)) }
     ensures err { OnErr result (book.new ≡ book.old) }
 {
@@ -251,6 +255,9 @@ impl Session {
             ≡ kept_after site.now self.old (Some (told_now site.now self.old book.old reading))) }
         ensures err { OnErr result (book.new ≡ book.old) }
     {
+        if !self.standing.is_idle() && self.standing.has_block() {
+            return Err(Memory);
+        }
         self.standing.enter(book.peek(reading));
         let asking = Asking {
             alloc: self.alloc,

@@ -13,11 +13,11 @@ ghost use Rattle.session_core.specs.Message.{kind_of, initiator_of, credentials_
 ghost use Rattle.assoc_core.specs.OuterTag.{outer_tag};
 ghost use Rattle.session_core.specs.Seen.{said_of};
 
-use crate::service::Invocation;
 use assoc_core::{OuterTag, PduKind, State};
 use ber_shape::Pdu;
 use bind_pdu::{Bind, PeerAbort, Unbind};
 use isp1_tml::Message;
+use session_services::Invocation;
 use sle_common::Credentials;
 use station_config::Service;
 

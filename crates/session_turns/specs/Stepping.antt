@@ -7,7 +7,7 @@ use Rattle.station_book.specs.State.{Opening, opened, Call, Event}
 use Rattle.station_book.specs.State as book
 use Rattle.station_book.specs.History.{event_at, replay}
 use Rattle.station_turns.specs.Turned.{called, Makes}
-use Rattle.session_core.specs.Inquiry.{call_of}
+use Rattle.session_services.specs.Inquiry.{call_of}
 use Rattle.session_core.specs.SessionState.{SessionState, asked}
 use Rattle.session_core.specs.Outcome.{has_failed}
 use Rattle.session_core.specs.Lists.{Began, StandsAt, to_step, to_speak}

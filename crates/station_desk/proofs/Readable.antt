@@ -18,7 +18,7 @@ use Rattle.isp1_tml.specs.Message.{IsMessage}
 use Rattle.return_pdu.specs.Items as pdu
 use Rattle.return_pdu.specs.Items.{frame_of, transfer_buffer, buffer_tag}
 use Rattle.return_pdu.specs.Fields.{IsFrame}
-use Rattle.return_pdu.specs.declared.service.Service.TheVariants.{Raf}
+use Rattle.return_pdu.specs.declared.return_kind.ReturnKind.TheVariants.{Raf}
 use Rattle.return_pdu.specs.TransferItem as said
 use Rattle.return_pdu.specs.TransferItem.{raf_item, BuffersAreExact}
 use Rattle.return_pdu.specs.Plain.{FramesArePlain, EndIsPlain, FramesAreShort}

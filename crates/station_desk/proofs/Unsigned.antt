@@ -20,7 +20,7 @@ use Rattle.isp1_auth.specs.Numbers.{next_number}
 use Rattle.archive_terms.specs.Archive.{frame}
 use Rattle.archive_terms.specs.Delivery.{archived, end_of_data, frame_octets}
 use Rattle.archive_terms.specs.Placed.{items_of}
-use Rattle.return_pdu.specs.declared.service.Service.TheVariants.{Raf}
+use Rattle.return_pdu.specs.declared.return_kind.ReturnKind.TheVariants.{Raf}
 use Rattle.return_pdu.specs.Items.{frame_of}
 use Rattle.return_pdu.specs.TransferItem.{raf_item}
 use Rattle.return_pdu.specs.Plain.{FramesArePlain, EndIsPlain}

@@ -4,7 +4,7 @@ use Rattle.std.specs.List.{AllByRecursion}
 use Rattle.ber_core.specs.Spelling.{Spells, canonical}
 use Rattle.ber_shape.specs.Exact.{whole}
 use Rattle.isp1_tml.specs.Message.{IsMessage}
-use Rattle.return_pdu.specs.declared.service.Service.TheVariants.{Raf}
+use Rattle.return_pdu.specs.declared.return_kind.ReturnKind.TheVariants.{Raf}
 use Rattle.return_pdu.specs.Fields.{IsFrame}
 use Rattle.return_pdu.specs.Items.{frame_of, transfer_buffer}
 use Rattle.return_pdu.specs.TransferItem.{ItemContent, buffer}

@@ -7,9 +7,10 @@ ghost use Rattle.station_desk.specs.Readable.{IsHanded};
 ghost use Rattle.station_desk.specs.ToldBuffer.{message_octets};
 
 use ber_core::Writer;
-use buffer_message::{BufferMessage, ReturnService};
+use buffer_message::BufferMessage;
 use frame_select::Item;
 use octet_core::Memory;
+use return_pdu::ReturnKind;
 use return_pdu::laws::{end_is_plain, frames_are_plain};
 use std::alloc::Global;
 
@@ -21,5 +22,5 @@ pub fn message(alloc: Global, items: &[Item]) -> Result<Writer, Memory>
 {
     end_is_plain();
     frames_are_plain();
-    BufferMessage::unsigned(ReturnService::Raf, items).written(alloc)
+    BufferMessage::unsigned(ReturnKind::Raf, items).written(alloc)
 }

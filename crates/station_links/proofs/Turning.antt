@@ -11,7 +11,7 @@ use Rattle.station_book.specs.State as book
 use Rattle.station_book.specs.History.{IsLegal, moment_at}
 use Rattle.session_core.specs.declared.standing.Standing.{Standing}
 use Rattle.session_core.specs.Course.{is_over}
-use Rattle.session_core.specs.Inquiry.{answer_of}
+use Rattle.session_services.specs.Inquiry.{answer_of}
 use Rattle.session_core.specs.Steps.{may_poll, may_speak, may_send, inquiry_at}
 use Rattle.session_core.specs.Session.{State, Round, BookAnswer, next_of, cleared, listened}
 use Rattle.session_core.specs.Session.{poll_space}

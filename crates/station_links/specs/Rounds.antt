@@ -12,7 +12,7 @@ use Rattle.station_book.specs.State as book
 use Rattle.station_book.specs.History.{moment_at, event_at, replay}
 use Rattle.drill_text.specs.declared.end_word.EndWord.{EndWord}
 use Rattle.session_core.specs.Course.{is_over}
-use Rattle.session_core.specs.Inquiry.{answer_of}
+use Rattle.session_services.specs.Inquiry.{answer_of}
 use Rattle.session_core.specs.Steps.{waits, may_poll, may_speak, may_send, inquiry_at}
 use Rattle.session_core.specs.Session.{State, BookAnswer, Round, next_of, poll_space, cleared}
 use Rattle.session_core.specs.Session.{listened, standing_spoke}

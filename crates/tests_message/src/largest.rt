@@ -2,11 +2,12 @@
 // put together by the program of the signed rows; here stand how many they are, and their SHA-256.
 use crate::told::{NOW, provider};
 use ber_core::Writer;
-use buffer_message::{BufferMessage, ReturnService, Signer};
+use buffer_message::{BufferMessage, Signer};
 use cds_time::{Cds, Rest};
 use frame_select::Item;
 use isp1_auth::{Hash, RandomNumbers};
 use octet_core::{Memory, Octets};
+use return_pdu::ReturnKind;
 use sha2::{Digest, Sha256};
 use sle_numbers::FrameQuality;
 use std::alloc::Global;
@@ -19,15 +20,15 @@ const ONE: [u8; 65_536] = [0xff; 65_536];
 const EACH: [u8; 589] = [0xff; 589];
 
 // A service, and how its peer signs.
-type Told = (ReturnService, Option<Hash>);
+type Told = (ReturnKind, Option<Hash>);
 
-const RAF: Told = (ReturnService::Raf, None);
+const RAF: Told = (ReturnKind::Raf, None);
 
-const RAF_SIGNED: Told = (ReturnService::Raf, Some(Hash::Sha1));
+const RAF_SIGNED: Told = (ReturnKind::Raf, Some(Hash::Sha1));
 
-const RCF: Told = (ReturnService::Rcf, None);
+const RCF: Told = (ReturnKind::Rcf, None);
 
-const RCF_SIGNED: Told = (ReturnService::Rcf, Some(Hash::Sha256));
+const RCF_SIGNED: Told = (ReturnKind::Rcf, Some(Hash::Sha256));
 
 // How many octets a message has, and their digest.
 type Row = (Told, usize, &'static str);

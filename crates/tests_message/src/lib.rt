@@ -7,6 +7,8 @@ mod items;
 #[cfg(test)]
 mod largest;
 #[cfg(test)]
+mod limits;
+#[cfg(test)]
 mod rows;
 #[cfg(test)]
 mod signed;

@@ -1,16 +1,16 @@
 // Rows of octets (CCSDS 911.1-B and 911.2-B, annex A; CCSDS 913.1-B; X.690), without credentials.
 use crate::items::{frame, loss};
 use crate::told::unsigned;
-use buffer_message::ReturnService;
 use frame_select::Item;
+use return_pdu::ReturnKind;
 use sle_numbers::ReturnProductionStatus;
 use std::alloc::Global;
 use std::process::Abort;
 use std::test::Fail;
 
-const RAF: ReturnService = ReturnService::Raf;
+const RAF: ReturnKind = ReturnKind::Raf;
 
-const RCF: ReturnService = ReturnService::Rcf;
+const RCF: ReturnKind = ReturnKind::Rcf;
 
 const TWO_FRAMES: &str = "010000000000003ea83ca01c800080084e20000003e800008101410201ff0201008000\
     04030010a1a01c800080084e20000007d00000810141020100020100800004030010a2";
@@ -19,7 +19,7 @@ const TWO_FRAMES: &str = "010000000000003ea83ca01c800080084e20000003e80000810141
 fn check(
     rt: &impl Abort,
     alloc: Global,
-    service: ReturnService,
+    service: ReturnKind,
     items: &[Item],
     octets: &str,
 ) -> Result<(), Fail> {

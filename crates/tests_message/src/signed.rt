@@ -2,9 +2,10 @@
 // SHA-1 and SHA-256, from CCSDS 911.1-B and 913.1-B, X.690 and the rule for the numbers.
 use crate::items::frame;
 use crate::told::{NOW, provider, signed};
-use buffer_message::{BufferMessage, ReturnService, Signer};
+use buffer_message::{BufferMessage, Signer};
 use frame_select::Item;
 use isp1_auth::{Hash, RandomNumbers};
+use return_pdu::ReturnKind;
 use std::test::Fail;
 
 // Two frames and a backlog, by SHA-1: the numbers are 59559187, 1495354192 and 671064393.
@@ -27,10 +28,10 @@ fn each_item_has_credentials_of_its_own(rt: HostRuntime) -> Result<(), Fail> {
         frame(alloc, 2_000, 0, &[0, 0x10, 0xa2])?,
         Item::Backlog,
     ];
-    let told = signed(&rt, alloc, ReturnService::Raf, Hash::Sha1, &items)?;
+    let told = signed(&rt, alloc, ReturnKind::Raf, Hash::Sha1, &items)?;
     assert_eq!(rt; told.as_str(), BY_SHA_1);
     let items = [frame(alloc, 1_000, -1, &[0x40, 0x7f, 0xa1])?];
-    let told = signed(&rt, alloc, ReturnService::Rcf, Hash::Sha256, &items)?;
+    let told = signed(&rt, alloc, ReturnKind::Rcf, Hash::Sha256, &items)?;
     assert_eq!(rt; told.as_str(), BY_SHA_256);
     Ok(())
 }
@@ -45,9 +46,9 @@ fn numbers_go_on_behind_a_buffer(rt: HostRuntime) -> Result<(), Fail> {
     };
     let items = [Item::Backlog, Item::EndOfData];
     assert!(rt; BufferMessage::fits(&items));
-    BufferMessage::signed(ReturnService::Raf, &items, signer, &mut numbers);
+    BufferMessage::signed(ReturnKind::Raf, &items, signer, &mut numbers);
     assert!(rt; BufferMessage::fits(&[]));
-    BufferMessage::signed(ReturnService::Raf, &[], signer, &mut numbers);
+    BufferMessage::signed(ReturnKind::Raf, &[], signer, &mut numbers);
     assert_eq!(rt; numbers.next_number(), 671_064_393);
     Ok(())
 }

@@ -1,7 +1,8 @@
 // The messages of buffers, in hexadecimal digits.
-use buffer_message::{BufferMessage, ReturnService, Signer};
+use buffer_message::{BufferMessage, Signer};
 use frame_select::Item;
 use isp1_auth::{Hash, RandomNumbers, Secret};
+use return_pdu::ReturnKind;
 use std::alloc::Global;
 use std::process::Abort;
 use std::test::Fail;
@@ -23,7 +24,7 @@ pub const NOW: u128 = (20_000 * 86_400_000 + 5_000) * 1_000_000_000;
 pub fn unsigned(
     rt: &impl Abort,
     alloc: Global,
-    service: ReturnService,
+    service: ReturnKind,
     items: &[Item],
 ) -> Result<String, Fail> {
     assert!(rt; BufferMessage::fits(items));
@@ -37,7 +38,7 @@ pub fn unsigned(
 pub fn signed(
     rt: &impl Abort,
     alloc: Global,
-    service: ReturnService,
+    service: ReturnKind,
     hash: Hash,
     items: &[Item],
 ) -> Result<String, Fail> {

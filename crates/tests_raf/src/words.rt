@@ -1,6 +1,7 @@
 // What a user asks, by its words, and an answer as words.
 ghost use Rattle.sle_common.specs.Gvcid.{gvcid};
-ghost use Rattle.rcf_service.specs.Rcf.{asked_of, AskedFits};
+ghost use Rattle.rcf_service.specs.Rcf.{asked_of};
+ghost use Rattle.return_service.specs.Requested.{AskedFits};
 
 use cds_time::{Cds, Rest};
 use raf_service::RafInvocation;

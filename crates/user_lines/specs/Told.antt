@@ -15,7 +15,7 @@ use Rattle.sle_common.specs.declared.parameter.Parameter.TheVariants as value
 use Rattle.bind_pdu.specs.Aborting.{peer_abort}
 use Rattle.bind_pdu.specs.Binding.{BindReturnContent, bind, bind_return}
 use Rattle.bind_pdu.specs.Unbinding.{unbind, unbind_return}
-use Rattle.return_pdu.specs.declared.service.Service.TheVariants.{Raf, Rcf}
+use Rattle.return_pdu.specs.declared.return_kind.ReturnKind.TheVariants.{Raf, Rcf}
 use Rattle.return_pdu.specs.Starting.{StartReturnContent, raf_start, rcf_start, start_return}
 use Rattle.return_pdu.specs.Stopping.{StopReturnContent, stop, stop_return}
 use Rattle.return_pdu.specs.Scheduling.{ScheduleReturnContent, schedule, schedule_return}

@@ -5,7 +5,7 @@ ghost use Rattle.ber_shape.specs.Members.{structured};
 ghost use Rattle.bind_pdu.specs.Aborting.{peer_abort};
 ghost use Rattle.bind_pdu.specs.Binding.{bind_return};
 ghost use Rattle.bind_pdu.specs.Unbinding.{unbind_return};
-ghost use Rattle.return_pdu.specs.declared.service.Service.TheVariants.{Raf, Rcf};
+ghost use Rattle.return_pdu.specs.declared.return_kind.ReturnKind.TheVariants.{Raf, Rcf};
 ghost use Rattle.return_pdu.specs.Starting.{start_return};
 ghost use Rattle.return_pdu.specs.Stopping.{stop_return};
 ghost use Rattle.return_pdu.specs.Scheduling.{schedule_return};

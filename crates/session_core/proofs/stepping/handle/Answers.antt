@@ -1,7 +1,7 @@
 use Rattle.std.proofs.Common.{◌≡◌, ap, ◌∙◌}
 use Rattle.isp1_tml.specs.Given.{content_of}
 use Rattle.station_book.specs.History.{after}
-use Rattle.session_core.specs.Inquiry.{Inquiry, call_of, inquiry_of, replied_of}
+use Rattle.session_services.specs.Inquiry.{Inquiry, call_of, inquiry_of, replied_of}
 use Rattle.session_core.specs.Steps.{said_to}
 use Rattle.session_core.specs.Seen.{said_of}
 use Rattle.session_core.proofs.Asks.{asked_by_message, led_by_message, told_by_message}
@@ -32,7 +32,7 @@ returns-clause-acts c =
           (inquiry_of c.with_want-ask.result) (replied_of c.in_ok-reply.reply) c.args.asking.door
           c.args.asking.reading c.args.book.now said_so c.judge-step.ensures.step asked
           c.requires.now c.in_ok-reply.ensures.reply
-          (rw c.judge-step.ensures.after at c.conclude.ensures);
+          (rw c.judge-step.ensures.after at c.conclude.ensures.led);
       told_is =
           told_by_message site s content (inquiry_of c.with_want-ask.result)
           (replied_of c.in_ok-reply.reply) c.args.asking.door c.args.asking.reading

@@ -1,6 +1,6 @@
 use Rattle.std.proofs.Common.{refl}
 use Rattle.ber_shape.specs.Exact.{decoded}
-use Rattle.return_pdu.specs.declared.service.Service.TheVariants.{Raf}
+use Rattle.return_pdu.specs.declared.return_kind.ReturnKind.TheVariants.{Raf}
 use Rattle.return_pdu.specs.TransferItem.{buffer}
 use Rattle.return_pdu.proofs.transfer_buffer.TransferBuffer.decode_raf.Goals as goal
 

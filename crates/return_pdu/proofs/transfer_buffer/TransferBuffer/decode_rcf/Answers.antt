@@ -1,6 +1,6 @@
 use Rattle.std.proofs.Common.{refl}
 use Rattle.ber_shape.specs.Exact.{decoded}
-use Rattle.return_pdu.specs.declared.service.Service.TheVariants.{Rcf}
+use Rattle.return_pdu.specs.declared.return_kind.ReturnKind.TheVariants.{Rcf}
 use Rattle.return_pdu.specs.TransferItem.{buffer}
 use Rattle.return_pdu.proofs.transfer_buffer.TransferBuffer.decode_rcf.Goals as goal
 

@@ -1,4 +1,4 @@
-use Rattle.session_core.specs.Inquiry.{replied_of}
+use Rattle.session_services.specs.Inquiry.{replied_of}
 use Rattle.session_core.proofs.Advance.{asked_at, advanced_by, moment_at_put, moment_at_serve}
 use Rattle.session_core.proofs.session.Session.advance.Goals as goal
 
@@ -18,8 +18,8 @@ returns-clause-kept c =
     c.in_ok-told.ensures.acts.standing c.in_ok-told.ensures.acts.told_is c.look_at_timer.ensures
     c.put_unasked.ensures c.serve.ensures
 
-pub put_unasked-requires : goal.put_unasked-requires
-put_unasked-requires c =
+pub put_unasked-requires-clause-moment : goal.put_unasked-requires-clause-moment
+put_unasked-requires-clause-moment c =
     moment_at_put c.args.site.now c.args.self.now _ _ c.self.inside.standing c.enter.new.self
     c.args.book.now c.args.reading c.peek.result c.self.view_is c.peek.ensures.exact
     c.enter.ensures c.act.new.standing c.look_at_timer.new.self

@@ -1,6 +1,6 @@
 use Rattle.std.proofs.Common.{subst}
 use Rattle.session_core.specs.SessionState.{SessionState}
-use Rattle.session_core.specs.Whole.{AreWhole}
+use Rattle.session_services.specs.Whole.{AreWhole}
 use Rattle.session_core.proofs.Rounds.{listened_by}
 use Rattle.session_core.proofs.Listed.{goes_listen}
 use Rattle.session_core.proofs.Fates.{rests_listened}

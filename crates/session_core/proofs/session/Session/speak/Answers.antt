@@ -1,5 +1,5 @@
 use Rattle.std.proofs.Common.{ap, subst, ◌∙◌}
-use Rattle.session_core.specs.Whole.{AreWhole}
+use Rattle.session_services.specs.Whole.{AreWhole}
 use Rattle.session_core.specs.Steps.{round_ended}
 use Rattle.session_core.specs.SessionState.{SessionState}
 use Rattle.session_core.proofs.Rounds.{keeping}

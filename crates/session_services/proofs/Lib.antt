@@ -1,0 +1,4 @@
+mod Fits
+mod Whole
+mod FcltuServed
+mod Starts

@@ -1,0 +1,11 @@
+pub mod Whole
+pub mod Room
+pub mod Telling
+pub mod Inquiry
+pub mod Starting
+pub mod Service
+pub mod Returns
+pub mod ReturnServed
+pub mod FcltuServed
+pub mod Served
+pub mod Laws
