@@ -5,7 +5,6 @@ use Rattle.std.proofs.Common.{length, slice_get, refl, sym, ap, subst, ◌∙◌
 use Rattle.archive_terms.specs.Delivery.{Terms}
 use Rattle.archive_terms.specs.Rounds.{Round as DeliveryRound}
 use Rattle.return_core.specs.Visits.{rounds_of}
-use Rattle.return_pdu.specs.declared.service.Service.{Service as ReturnService}
 use Rattle.station_config.specs.declared.site.Site.{Site}
 use Rattle.session_core.specs.Lists.{Began}
 use Rattle.session_core.specs.Session.{State, Round, after_round, after_rounds}
@@ -232,17 +231,18 @@ serves_last site s [] serves = serves
 serves_last site s (r ∷ rounds) serves = serves_last site (after_round site s r) rounds serves.1
 
 -- its START is its own later too, with the rounds that it had where it serves no more
-pub it_stays : (service : ReturnService) (b : Began) (a : SessionStart) (s : Start)
-    (all : List Start) (place : ℕ) → IsIt service b a s → (on : StaysAt s all place)
+pub it_stays : (b : Began) (a : SessionStart) (s : Start) (all : List Start) (place : ℕ)
+    → IsIt b a s → (on : StaysAt s all place)
     → (ServesThese b a → on.start.rounds ≡ s.rounds)
-    → IsIt service b a on.start
-it_stays service b a s all place is on same = record {
+    → IsIt b a on.start
+it_stays b a s all place is on same = record {
+  kind = is.kind;
   door = on.door ∙ is.door;
   told = is.told;
   asked = is.asked;
-  asks = subst (λ (t : Terms). Asks service b.site (found_by b a) a.own
+  asks = subst (λ (t : Terms). Asks b.site (found_by b a) a.own
       is.told.answer.glimpse.front t) (sym on.terms) is.asks;
-  shape = is.shape ∙ ap (λ (t : Terms). Some (shape_of_terms t)) (sym on.terms);
+  shape = is.shape ∙ ap (λ (t : Terms). Some (shape_of_terms is.kind t)) (sym on.terms);
   rounds = begins_both (rounds_of (visits_of b.site (begun_by b a) a.serving)) s.rounds
       on.start.rounds is.rounds on.begins;
   all = λ these. same these ∙ is.all these;

@@ -2,12 +2,11 @@
 use Rattle.std.proofs.Common.{◌≡◌, ℕ, ◌<◌, ◌==◌, Bool, true, false, nat_lt, if◌then◌else◌, Option}
 use Rattle.std.proofs.Common.{Some, None, List, length, refl, ap, ◌∙◌, arith}
 use Rattle.std.proofs.lemmas.Bool.Decides.{nat_tests}
-use Rattle.std.specs.Option.{option_map, option_or}
+use Rattle.std.specs.Option.{option_map}
 use Rattle.octet_core.specs.declared.offer.Offer.{Offer}
 use Rattle.archive_terms.specs.Archive.{Entry}
 use Rattle.archive_terms.specs.Rounds.{Round as DeliveryRound}
 use Rattle.return_core.specs.Visits.{round_of}
-use Rattle.return_pdu.specs.declared.service.Service.TheVariants as buffer
 use Rattle.station_config.specs.declared.site.Site.{Site}
 use Rattle.session_core.specs.Session.{State, Round, BookAnswer, before_step, after_round}
 use Rattle.session_core.specs.Course.{is_blocked}
@@ -17,7 +16,7 @@ use Rattle.session_laws.specs.Starts.{Wanted}
 use Rattle.station_world.specs.Life.{Start, Asked}
 use Rattle.line_events.specs.Progress.{Progress, none_runs, taken_now, goes_by, ended_now, progressed}
 use Rattle.line_events.specs.Progress.{IsFit, MayProgress, IsUsers}
-use Rattle.session_events.specs.Asked.{asked_of, asked_so, asked_by, asked_where, asked_in, wanted_at}
+use Rattle.session_events.specs.Asked.{asked_of, asked_so, asked_where, asked_in, wanted_at}
 use Rattle.session_events.specs.Rounds.{front_in, SawFront, made_in, taken_by, made_by, progress_by}
 use Rattle.session_events.specs.Rounds.{progress_of, RoundsMayCome}
 
@@ -43,11 +42,6 @@ one_right door (Some shape) None = tt
 one_right door (Some shape) (Some wanted) =
     room_right door (asked_so door shape wanted) refl (nat_lt 0 shape.size) refl
 
-either_right : (door : ℕ) (a b : Option Asked) → IsRight door a → IsRight door b
-    → IsRight door (option_or a b)
-either_right door None b first second = second
-either_right door (Some a) b first second = first
-
 told_right : (door : ℕ) (told : Option BookAnswer) (asked : Option Asked) → IsRight door asked
     → IsRight door (asked_where told asked)
 told_right door None asked right = tt
@@ -55,12 +49,8 @@ told_right door (Some told) asked right = right
 
 asked_right : (door : ℕ) (site : Site) (s : State) (r : Round) → IsRight door (asked_in door site s r)
 asked_right door site s r =
-    let raf = asked_by buffer.Raf door site s r in
-    let rcf = asked_by buffer.Rcf door site s r in
-    told_right door r.told (option_or raf rcf)
-    (either_right door raf rcf
-    (one_right door (shape_at site s.standing buffer.Raf) (wanted_at buffer.Raf site s r))
-    (one_right door (shape_at site s.standing buffer.Rcf) (wanted_at buffer.Rcf site s r)))
+    told_right door r.told (asked_of door (shape_at site s.standing) (wanted_at site s r))
+    (one_right door (shape_at site s.standing) (wanted_at site s r))
 
 -- ---- a delivery's round
 
@@ -140,7 +130,7 @@ same_so : (door front : ℕ) (site : Site) (s : State) (r : Round) (all : List S
     ≡ progressed door front (progress_of door site s r) all
 same_so door front site s r all saw =
     by_told door front r.told (is_serving s.standing) (is_serving (after_round site s r).standing)
-    (option_or (asked_by buffer.Raf door site s r) (asked_by buffer.Rcf door site s r)) (made_in s r)
+    (asked_of door (shape_at site s.standing) (wanted_at site s r)) (made_in s r)
     all saw
 
 -- ---- what may come

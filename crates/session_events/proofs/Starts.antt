@@ -7,13 +7,13 @@ use Rattle.std.specs.Prelude.{is_some}
 use Rattle.std.specs.Option.{option_map, option_to_list}
 use Rattle.archive_terms.specs.Delivery.{Terms}
 use Rattle.archive_terms.specs.Rounds.{Round as DeliveryRound}
-use Rattle.return_core.specs.Course.{Course}
 use Rattle.return_core.specs.Visits.{Visit, round_of, rounds_of}
+use Rattle.return_service.specs.Serving.{Serving}
 use Rattle.station_config.specs.declared.site.Site.{Site}
 use Rattle.session_core.specs.Course.{is_going as goes_on}
 use Rattle.session_core.specs.Lists.{start_of}
 use Rattle.session_core.specs.Session.{State, Round, AreRounds, after_round, after_rounds}
-use Rattle.session_laws.specs.Deliveries.{delivery_of, is_serving, ServesOn, visit_in, visits_of}
+use Rattle.session_laws.specs.Deliveries.{return_of, is_serving, ServesOn, visit_in, visits_of}
 use Rattle.session_laws.specs.Handing.{found_by, begun_by}
 use Rattle.session_laws.specs.Instances.{Shape, shape_of, shape_of_terms, shape_at, SessionsAreKept}
 use Rattle.session_laws.specs.Starts.{StartsBegin, Asks}
@@ -138,34 +138,34 @@ rounds_behind site [] more s are = are
 rounds_behind site (r ∷ rounds) more s are =
     rounds_behind site rounds more (after_round site s r) are.1
 
-some_of : (o : Option Course) → is_some o ≡ true → (c : Course) × (o ≡ Some c)
+some_of : (o : Option Serving) → is_some o ≡ true → (own : Serving) × (o ≡ Some own)
 some_of None is = absurd (cc is)
-some_of (Some c) is = (c, refl)
+some_of (Some own) is = (own, refl)
 
 itself : (door : ℕ) → (door == door) ≡ true
 itself door = grind arith
 
 pub starts_are_there : Rests → StartsAreThere
-starts_are_there laws b rounds before valid are = λ service a is.
+starts_are_there laws b rounds before valid are = λ a is.
     let site = b.site in
     let door = b.door in
     let s = found_by b a in
     let t = begun_by b a in
     let kept = laws.keeps b a.earlier in
-    let had = some_of (delivery_of service s.standing.service) is.bound in
-    let c = had.0 in
+    let had = some_of (return_of s.standing.service) is.bound in
+    let own = had.0 in
     let others = a.serving ++ a.later in
     let here =
     rounds_behind site a.earlier (a.own ∷ others) (start_of b)
     (subst (AreRounds site (start_of b)) is.stands are) in
     let serves : is_serving t.standing ≡ true = serves_first door site t a.serving is.serves in
-    let begins = laws.begins service site s a.own c here.0 is.still (kept.still is.still) had.1 serves in
-    let shape : Shape = shape_of c in
-    let has = kept.own service shape (ap (option_map shape_of) had.1) in
+    let begins = laws.begins site s a.own own here.0 is.still (kept.still is.still) had.1 serves in
+    let shape : Shape = shape_of own in
+    let has = kept.own shape (ap (option_map shape_of) had.1) in
     let front : ℕ = begins.told.answer.glimpse.front in
     let asked : Asked = asked_so door shape begins.asks.wanted in
     let asks : asked_in door site s a.own ≡ Some asked =
-    asks_so door site s a.own service shape begins.asks.wanted begins.asks.message begins.told valid
+    asks_so door site s a.own shape begins.asks.wanted begins.asks.message begins.told valid
     has begins.asked begins.asks.handled begins.asks.says in
     let still : is_serving s.standing ≡ false =
     ap (λ (x : Bool). goes_on s.standing.course && x) is.still ∙ none_and (goes_on s.standing.course)
@@ -200,29 +200,30 @@ starts_are_there laws b rounds before valid are = λ service a is.
     let same : (these : ServesThese b a) → (ended these).start ≡ left.start =
     λ these. one_at (slice_get now (length first)) (ended these).start left.start (ended these).there
     left.there in
-    let has : HasIt service b a now =
+    let has : HasIt b a now =
     record {
       place = length first;
       start = left.start;
       there = left.there;
       is = record {
+        kind = own.kind;
         door = left.door;
         told = begins.told;
         asked = begins.asked;
-        asks = subst (λ (x : Terms). Asks service site s a.own front x) (sym left.terms) (record {
+        asks = subst (λ (x : Terms). Asks site s a.own front x) (sym left.terms) (record {
           message = begins.asks.message;
           handled = begins.asks.handled;
           wanted = begins.asks.wanted;
           says = begins.asks.says;
           selects = refl;
         });
-        shape = subst (λ (x : Terms). shape_at site s.standing service ≡ Some (shape_of_terms x))
+        shape = subst (λ (x : Terms). shape_at site s.standing ≡ Some (shape_of_terms own.kind x))
             (sym left.terms) has;
         rounds = left.begins;
         all = λ these. ap (λ (x : Start). x.rounds) (sym (same these)) ∙ (ended these).rounds;
       };
     } in
-    subst (LeavesIt service b a) (sym whole) (record {
+    subst (LeavesIt b a) (sym whole) (record {
       has = has;
       over = λ these. subst (λ (x : Start). (a.later ≡ []) ⊎ (x.ended ≡ true)) (same these)
           (ended these).over;

@@ -1,11 +1,8 @@
 -- What the START of a session's round asks for, of the instance that is bound. This product's own.
 use Rattle.std.specs.Prelude.{ℕ, nat_lt, if◌then◌else◌, Option, Some, None, option_and_then, List}
 use Rattle.std.specs.Prelude.{[], ◌∷◌}
-use Rattle.std.specs.Option.{option_or}
 use Rattle.cds_time.specs.Moment.{moment_of}
 use Rattle.isp1_tml.specs.Message.{Content}
-use Rattle.return_pdu.specs.declared.service.Service.{Service as ReturnService}
-use Rattle.return_pdu.specs.declared.service.Service.TheVariants as buffer
 use Rattle.station_config.specs.declared.site.Site.{Site}
 use Rattle.session_core.specs.Laws.{round_messages}
 use Rattle.session_core.specs.Session.{State, Round, BookAnswer, before_step}
@@ -14,13 +11,13 @@ use Rattle.session_laws.specs.Instances.{Shape, shape_at}
 use Rattle.session_laws.specs.Starts.{Wanted, wanted_in}
 use Rattle.station_world.specs.Life.{Asked}
 
--- what a START among these messages, of which a round handles one at most, asks of a service
-abbrev pub wanted_of : ReturnService → Site → State → List Content → Option Wanted
-wanted_of service site s [] = None
-wanted_of service site s (message ∷ others) = wanted_in service (said_to site s.standing message)
+-- what a START among these messages, of which a round handles one at most, asks for
+abbrev pub wanted_of : Site → State → List Content → Option Wanted
+wanted_of site s [] = None
+wanted_of site s (message ∷ others) = wanted_in (said_to site s.standing message)
 
-abbrev pub wanted_at : ReturnService → Site → State → Round → Option Wanted
-wanted_at service site s r = wanted_of service site (before_step s r) (round_messages s r)
+abbrev pub wanted_at : Site → State → Round → Option Wanted
+wanted_at site s r = wanted_of site (before_step s r) (round_messages s r)
 
 -- a START at a door, of an instance of this shape
 abbrev pub asked_so : ℕ → Shape → Wanted → Asked
@@ -43,17 +40,11 @@ asked_of door None wanted = None
 asked_of door (Some shape) None = None
 asked_of door (Some shape) (Some wanted) = with_room (asked_so door shape wanted)
 
--- what a round's START asks of the instance that is bound, if it is one of this service
-abbrev pub asked_by : ReturnService → ℕ → Site → State → Round → Option Asked
-asked_by service door site s r =
-    asked_of door (shape_at site s.standing service) (wanted_at service site s r)
-
--- of either service, in a round that asked the book
+-- what a round's START asks of the instance that is bound, in a round that asked the book
 abbrev pub asked_where : Option BookAnswer → Option Asked → Option Asked
 asked_where None asked = None
 asked_where (Some told) asked = asked
 
 abbrev pub asked_in : ℕ → Site → State → Round → Option Asked
 asked_in door site s r =
-    asked_where r.told (option_or (asked_by buffer.Raf door site s r)
-    (asked_by buffer.Rcf door site s r))
+    asked_where r.told (asked_of door (shape_at site s.standing) (wanted_at site s r))

@@ -1,7 +1,7 @@
 -- Each START of a session is one of its station's world. This product's own.
 use Rattle.std.specs.Prelude.{◌≡◌, ◌⊎◌, ℕ, true, false, Some, List, [], ◌∷◌, slice_get}
 use Rattle.return_core.specs.Visits.{rounds_of}
-use Rattle.return_pdu.specs.declared.service.Service.{Service as ReturnService}
+use Rattle.return_pdu.specs.declared.return_kind.ReturnKind.{ReturnKind}
 use Rattle.station_config.specs.Validity.{IsSite}
 use Rattle.station_config.specs.declared.site.Site.{Site}
 use Rattle.session_core.specs.Lists.{Began, start_of}
@@ -36,28 +36,27 @@ ServesThese b a = ServesNoMore b.site (after_rounds b.site (begun_by b a) a.serv
 -- message asks for, of the instance that is bound, at the front that the round's look saw; and its
 -- rounds begin with the delivery's in the rounds that the START serves, and are no others where it
 -- serves no more.
-pub record IsIt (service : ReturnService) (b : Began) (a : SessionStart) (s : Start) : Type 0 where
+pub record IsIt (b : Began) (a : SessionStart) (s : Start) : Type 0 where
+  pub kind : ReturnKind
   pub door : s.door ≡ b.door
   pub told : BookAnswer
   pub asked : a.own.told ≡ Some told
-  pub asks : Asks service b.site (found_by b a) a.own told.answer.glimpse.front s.terms
-  pub shape : shape_at b.site (found_by b a).standing service ≡ Some (shape_of_terms s.terms)
+  pub asks : Asks b.site (found_by b a) a.own told.answer.glimpse.front s.terms
+  pub shape : shape_at b.site (found_by b a).standing ≡ Some (shape_of_terms kind s.terms)
   pub rounds : Begins (rounds_of (visits_of b.site (begun_by b a) a.serving)) s.rounds
   pub all : ServesThese b a → s.rounds ≡ rounds_of (visits_of b.site (begun_by b a) a.serving)
 
 -- so is one of these
-pub record HasIt (service : ReturnService) (b : Began) (a : SessionStart) (all : List Start)
-    : Type 0 where
+pub record HasIt (b : Began) (a : SessionStart) (all : List Start) : Type 0 where
   pub place : ℕ
   pub start : Start
   pub there : slice_get all place ≡ Some start
-  pub is : IsIt service b a start
+  pub is : IsIt b a start
 
 -- Behind all rounds of its session. Where it serves no more it ended, if a round followed; and what
 -- ends the START that goes on at the door leaves it as it is, and ended.
-pub record LeavesIt (service : ReturnService) (b : Began) (a : SessionStart) (all : List Start)
-    : Type 0 where
-  pub has : HasIt service b a all
+pub record LeavesIt (b : Began) (a : SessionStart) (all : List Start) : Type 0 where
+  pub has : HasIt b a all
   pub over : ServesThese b a → (a.later ≡ []) ⊎ (has.start.ended ≡ true)
   pub ends : ServesThese b a
       → slice_get (progressed b.door 0 ended_now all) has.place ≡ Some (with_end has.start)
@@ -67,6 +66,5 @@ pub record LeavesIt (service : ReturnService) (b : Began) (a : SessionStart) (al
 abbrev pub StartsAreThere : Type 0
 StartsAreThere =
     (b : Began) (rounds : List Round) (before : List Start) → IsSite b.site
-    → AreRounds b.site (start_of b) rounds → (service : ReturnService) (a : SessionStart)
-    → IsStart service b rounds a
-    → LeavesIt service b a (starts_over b.door b.site (start_of b) rounds before)
+    → AreRounds b.site (start_of b) rounds → (a : SessionStart) → IsStart b rounds a
+    → LeavesIt b a (starts_over b.door b.site (start_of b) rounds before)

@@ -31,10 +31,9 @@ use Rattle.return_core.specs.Visits.{done_where, front_of, IsLook, AreLooks, rou
 use Rattle.return_core.specs.Visits.{VisitsStand}
 use Rattle.return_core.specs.Standing.{goes_on, all_go_on, StandsFor}
 use Rattle.report_cycle.specs.Schedule.{is_due as is_report_due, with_report as schedule_reported}
+use Rattle.return_pdu.specs.declared.return_kind.ReturnKind.{ReturnKind}
 use Rattle.return_service.specs.Serving.{Serving, reported as report_made}
 use Rattle.isp1_auth.specs.Numbers.{next_number}
-use Rattle.return_pdu.specs.declared.service.Service.{Service as ReturnService}
-use Rattle.return_pdu.specs.declared.service.Service.TheVariants as buffer
 use Rattle.sle_common.specs.declared.gvcid.Gvcid.{Gvcid}
 use Rattle.buffer_message.specs.Signing.{Signing}
 use Rattle.buffer_message.specs.Fitting.{fits_message}
@@ -53,21 +52,21 @@ use Rattle.assoc_core.specs.declared.step.Step.{Step}
 use Rattle.assoc_core.specs.declared.step.Step.TheVariants.{Pass, Denied, Abort}
 use Rattle.cltu_queue.specs.declared.ask.Ask.TheVariants as ask
 use Rattle.cltu_queue.specs.declared.notice.Notice.{Notice}
-use Rattle.session_core.specs.declared.service_state.ServiceState.TheVariants as serves
+use Rattle.session_services.specs.declared.service_state.ServiceState.TheVariants as serves
 use Rattle.session_core.specs.declared.standing.Standing.{Standing}
 use Rattle.session_core.specs.declared.course.Course.{Course as Going}
 use Rattle.session_core.specs.declared.ended.Ended.TheVariants.{PeerClosed}
 use Rattle.session_core.specs.Course.{is_going, is_live, is_over, is_blocked, has_closed}
-use Rattle.session_core.specs.Inquiry.{Inquiry, only_asks, Replied, reply_in}
+use Rattle.session_services.specs.Inquiry.{Inquiry, only_asks, Replied, reply_in}
 use Rattle.session_core.specs.Message.{UserContent, context, heartbeat, bind, unbind, peer_abort}
 use Rattle.session_core.specs.Message.{invocation, undecoded, out_of_place, judged}
-use Rattle.session_core.specs.Service.{Invocation, raf_starts, rcf_starts, cltu_starts, transfers}
-use Rattle.session_core.specs.Service.{throws, stops, schedules, gets}
-use Rattle.session_core.specs.Service.{undecoded as no_invocation, invocation_kind, leaves_running}
-use Rattle.session_core.specs.Served.{Served, Message, Fixed, concluded_by, want_served}
-use Rattle.session_core.specs.Served.{served_step, served_settled, dropped_by, fixed_by, reported_by}
-use Rattle.session_core.specs.Served.{told_by_service}
-use Rattle.session_core.specs.ReturnServed.{buffer_due, buffer_fixed, item_signing}
+use Rattle.session_services.specs.Service.{Invocation, return_starts, cltu_starts, transfers}
+use Rattle.session_services.specs.Service.{throws, stops, schedules, gets}
+use Rattle.session_services.specs.Service.{undecoded as no_invocation, invocation_kind, leaves_running}
+use Rattle.session_services.specs.Served.{Served, Message, Fixed, concluded_by, want_served}
+use Rattle.session_services.specs.Served.{served_step, served_settled, dropped_by, fixed_by, reported_by}
+use Rattle.session_services.specs.Served.{told_by_service}
+use Rattle.session_services.specs.ReturnServed.{buffer_due, buffer_fixed, item_signing}
 use Rattle.session_core.specs.ServiceSteps.{answered_with, after_stall, is_active, has_outgoing}
 use Rattle.session_core.specs.ServiceSteps.{spelled, told_more, reported, noticed, with_report}
 use Rattle.session_core.specs.ServiceSteps.{with_notice, may_tell, may_serve, fixed}
@@ -85,61 +84,105 @@ use Rattle.session_core.specs.Session.{standing_heard, standing_spoke, standing_
 use Rattle.session_core.specs.Session.{before_step, after_round, after_rounds, AreRounds}
 use Rattle.session_core.specs.Session.{send_calls, listened}
 use Rattle.session_core.specs.Laws.{ServiceLeaves}
-use Rattle.session_laws.specs.Deliveries.{delivery_of, is_serving, ServesOn, IsMessageOf}
+use Rattle.session_laws.specs.Deliveries.{return_of, is_serving, ServesOn, IsMessageOf}
 use Rattle.session_laws.specs.Deliveries.{AreMessagesOf, Delivers, visit_by, visits_of, sent_of}
 use Rattle.session_laws.specs.Deliveries.{dropped_of, IsLookAt, front_behind, SeeEntries}
-use Rattle.session_laws.specs.Deliveries.{AreDelivered, AreVisits, StartsDeliver, DueIsOffered}
-use Rattle.session_laws.specs.Deliveries.{is_due_to_offer}
+use Rattle.session_laws.specs.Deliveries.{AreVisits, StartsDeliver}
 
 -- ---- what each service makes of its delivery
 
-pub some_is : (own c : Course) → Some own ≡ Some c → own ≡ c
-some_is own c e = cc
+-- which kind of service the bound instance is one of, with its delivery
+abbrev pub kept_so : Serving → ReturnKind × Course
+kept_so r = (r.kind, r.course)
 
-wants : (service : ReturnService) (served : Served) (c : Course)
-    → delivery_of service served ≡ Some c
+abbrev pub kept_of : Served → Option (ReturnKind × Course)
+kept_of served = option_map kept_so (return_of served)
+
+kept_both : (o : Option Serving) (service : ReturnKind) (c : Course)
+    → option_map (λ r. r.kind) o ≡ Some service → option_map (λ r. r.course) o ≡ Some c
+    → option_map kept_so o ≡ Some (service, c)
+kept_both None service c is e = absurd (cc)
+kept_both (Some r) service c is e =
+    ap (option_map (λ (k : ReturnKind). (k, r.course))) is
+    ∙ ap (option_map (λ (x : Course). (service, x))) e
+
+pub kept_kind : (o : Option Serving) (service : ReturnKind) (c : Course)
+    → option_map kept_so o ≡ Some (service, c) → option_map (λ r. r.kind) o ≡ Some service
+kept_kind None service c e = absurd (cc)
+kept_kind (Some r) service c e = ap (option_map (λ (x : ReturnKind × Course). x.0)) e
+
+pub kept_course : (o : Option Serving) (service : ReturnKind) (c : Course)
+    → option_map kept_so o ≡ Some (service, c) → option_map (λ r. r.course) o ≡ Some c
+kept_course None service c e = absurd (cc)
+kept_course (Some r) service c e = ap (option_map (λ (x : ReturnKind × Course). x.1)) e
+
+-- a session delivers, as an instance of this kind
+pub record DeliversAs (service : ReturnKind) (s : Standing) (c : Course) : Type 0 where
+  pub delivery : kept_of s.service ≡ Some (service, c)
+  pub offers : has_outgoing s ≡ true → IsTrue (is_offering c)
+  pub message : has_outgoing s ≡ true → IsMessageOf service s.outgoing (held_of c)
+
+pub delivers_as : (s : Standing) (c : Course) (d : Delivers s c) → DeliversAs d.kind s c
+delivers_as s c d = record {
+  delivery = kept_both (return_of s.service) d.kind c d.is_kind d.delivery;
+  offers = d.offers;
+  message = d.message;
+}
+
+abbrev pub so_delivers : (service : ReturnKind) (s : Standing) (c : Course) → DeliversAs service s c
+    → Delivers s c
+so_delivers service s c d = record {
+  kind = service;
+  is_kind = kept_kind (return_of s.service) service c d.delivery;
+  delivery = kept_course (return_of s.service) service c d.delivery;
+  offers = d.offers;
+  message = d.message;
+}
+
+-- what a service's instance makes of its delivery
+pub its_course : (service : ReturnKind) (own : Serving) (c : Course)
+    → Some (kept_so own) ≡ Some (service, c) → own.course ≡ c
+its_course service own c e = cc (ap (option_map (λ (x : ReturnKind × Course). x.1)) e)
+
+pub its_kind : (service : ReturnKind) (own : Serving) (c : Course)
+    → Some (kept_so own) ≡ Some (service, c) → own.kind ≡ service
+its_kind service own c e = cc (ap (option_map (λ (x : ReturnKind × Course). x.0)) e)
+
+its_after : (f : Course → Course) (service : ReturnKind) (own : Serving) (c : Course)
+    → Some (kept_so own) ≡ Some (service, c)
+    → Some (kept_so (record own { course = f own.course })) ≡ Some (service, f c)
+its_after f service own c e = ap (option_map (λ (x : ReturnKind × Course). (x.0, f x.1))) e
+
+wants : (service : ReturnKind) (served : Served) (c : Course)
+    → kept_of served ≡ Some (service, c)
     → want_served served ≡ want_of_course c
-unfolding delivery_of want_served
-wants buffer.Raf (serves.Raf r) c e = ap want_of_course (some_is r.serving.course c e)
-wants buffer.Rcf (serves.Rcf r) c e = ap want_of_course (some_is r.serving.course c e)
-wants _ _ c e = absurd (cc)
+unfolding return_of want_served
+wants service (serves.Return r) c e = ap want_of_course (its_course service r c e)
+wants service _ c e = absurd (cc)
 
-steps_so : (own c : Course) (g : Glimpse) (now : ℕ) → Some own ≡ Some c
-    → Some (with_step own g now) ≡ Some (with_step c g now)
-steps_so own c g now e = ap (λ (x : Course). Some (with_step x g now)) (some_is own c e)
+steps : (service : ReturnKind) (served : Served) (c : Course) (g : Glimpse) (now : ℕ)
+    → kept_of served ≡ Some (service, c)
+    → kept_of (served_step g now served) ≡ Some (service, with_step c g now)
+unfolding return_of served_step
+steps service (serves.Return r) c g now e =
+    its_after (λ (x : Course). with_step x g now) service r c e
+steps service _ c g now e = absurd (cc)
 
-steps : (service : ReturnService) (served : Served) (c : Course) (g : Glimpse) (now : ℕ)
-    → delivery_of service served ≡ Some c
-    → delivery_of service (served_step g now served) ≡ Some (with_step c g now)
-unfolding delivery_of served_step
-steps buffer.Raf (serves.Raf r) c g now e = steps_so r.serving.course c g now e
-steps buffer.Rcf (serves.Rcf r) c g now e = steps_so r.serving.course c g now e
-steps _ _ c g now e = absurd (cc)
+settles : (service : ReturnKind) (served : Served) (c : Course) (said : Offer)
+    → kept_of served ≡ Some (service, c)
+    → kept_of (served_settled said served) ≡ Some (service, with_answer c (answer_of said))
+unfolding return_of served_settled
+settles service (serves.Return r) c said e =
+    its_after (λ (x : Course). with_answer x (answer_of said)) service r c e
+settles service _ c said e = absurd (cc)
 
-settles_so : (own c : Course) (said : Offer) → Some own ≡ Some c
-    → Some (with_answer own (answer_of said)) ≡ Some (with_answer c (answer_of said))
-settles_so own c said e =
-    ap (λ (x : Course). Some (with_answer x (answer_of said))) (some_is own c e)
-
-settles : (service : ReturnService) (served : Served) (c : Course) (said : Offer)
-    → delivery_of service served ≡ Some c
-    → delivery_of service (served_settled said served) ≡ Some (with_answer c (answer_of said))
-unfolding delivery_of served_settled
-settles buffer.Raf (serves.Raf r) c said e = settles_so r.serving.course c said e
-settles buffer.Rcf (serves.Rcf r) c said e = settles_so r.serving.course c said e
-settles _ _ c said e = absurd (cc)
-
-drops_so : (own c : Course) → Some own ≡ Some c
-    → discard_told (fate_by own stall) ≡ discard_told (fate_by c stall)
-drops_so own c e = ap (λ (x : Course). discard_told (fate_by x stall)) (some_is own c e)
-
-drops : (service : ReturnService) (served : Served) (c : Course)
-    → delivery_of service served ≡ Some c
+drops : (service : ReturnKind) (served : Served) (c : Course)
+    → kept_of served ≡ Some (service, c)
     → dropped_by served ≡ discard_told (fate_by c stall)
-unfolding delivery_of dropped_by
-drops buffer.Raf (serves.Raf r) c e = drops_so r.serving.course c e
-drops buffer.Rcf (serves.Rcf r) c e = drops_so r.serving.course c e
-drops _ _ c e = absurd (cc)
+unfolding return_of dropped_by
+drops service (serves.Return r) c e =
+    ap (λ (x : Course). discard_told (fate_by x stall)) (its_course service r c e)
+drops service _ c e = absurd (cc)
 
 pub report_leaves : (now : ℕ) (s : Serving) → (report_made now s).course ≡ s.course
 report_leaves now s = by (is_report_due s.schedule now)
@@ -150,23 +193,28 @@ report_leaves now s = by (is_report_due s.schedule now)
     by true = refl
     by false = refl
 
-reports_so : (now : ℕ) (s : Serving) (c : Course) → Some s.course ≡ Some c
-    → Some (report_made now s).course ≡ Some c
-reports_so now s c e = ap (λ (x : Course). Some x) (report_leaves now s) ∙ e
+-- a report leaves which service it is, and its delivery
+pub report_kind : (now : ℕ) (s : Serving) → (report_made now s).kind ≡ s.kind
+report_kind now s = by (is_report_due s.schedule now)
+  where
+    by : (due : Bool)
+        → (if due then record s { schedule = schedule_reported now s.schedule } else s).kind
+        ≡ s.kind
+    by true = refl
+    by false = refl
 
-reports : (service : ReturnService) (served : Served) (c : Course) (r : Replied) (now : ℕ)
-    → delivery_of service served ≡ Some c
-    → delivery_of service (reported_by served r now).served ≡ Some c
-unfolding delivery_of reported_by
-reports buffer.Raf (serves.Raf raf) c r now e = reports_so now raf.serving c e
-reports buffer.Rcf (serves.Rcf rcf) c r now e = reports_so now rcf.serving c e
-reports _ _ c r now e = absurd (cc)
+reports : (service : ReturnKind) (served : Served) (c : Course) (r : Replied) (now : ℕ)
+    → kept_of served ≡ Some (service, c)
+    → kept_of (reported_by served r now).served ≡ Some (service, c)
+unfolding return_of reported_by
+reports service (serves.Return s) c r now e = rw (report_kind now s, report_leaves now s) e
+reports service _ c r now e = absurd (cc)
 
 -- the message that is due is that of the buffer that is to be offered
 abbrev is_spelled : Fixed → Bool
 is_spelled f = not (length (spelled f.message) == 0)
 
-record Fixes (service : ReturnService) (c : Course) (f : Fixed) : Type 0 where
+record Fixes (service : ReturnKind) (c : Course) (f : Fixed) : Type 0 where
   offers : is_spelled f ≡ true → IsTrue (is_offering c)
   message : is_spelled f ≡ true → IsMessageOf service (spelled f.message) (held_of c)
   due : is_spelled f ≡ (is_offering c && fits_message (held_of c))
@@ -180,7 +228,7 @@ and_first a b e = grind arith
 and_second : (a b : Bool) → (a && b) ≡ true → b ≡ true
 and_second a b e = grind arith
 
-due_fixes : (service : ReturnService) (c : Course) (due : Bool) (by : Option Signing) (numbers : ℕ)
+due_fixes : (service : ReturnKind) (c : Course) (due : Bool) (by : Option Signing) (numbers : ℕ)
     → (is_offering c && fits_message (held_of c)) ≡ due
     → Fixes service c
     (if due then buffer_fixed service by numbers (held_of c)
@@ -210,66 +258,54 @@ due_fixes service c true (Some by) numbers e = record {
 due_fixes service c false by numbers e =
     record { offers = λ h. absurd (cc); message = λ h. absurd (cc); due = sym e }
 
-fixes_so : (service : ReturnService) (own c : Course) (site : Site) (peer : Option Peer)
-    (numbers now : ℕ) → Some own ≡ Some c
-    → Fixes service c (buffer_due service own site peer numbers now)
+fixes_so : (service : ReturnKind) (own c : Course) (site : Site) (peer : Option Peer)
+    (numbers now : ℕ) → own ≡ c → Fixes service c (buffer_due service own site peer numbers now)
 fixes_so service own c site peer numbers now e =
-    subst (λ (x : Course). Fixes service x (buffer_due service own site peer numbers now))
-    (some_is own c e)
+    subst (λ (x : Course). Fixes service x (buffer_due service own site peer numbers now)) e
     (due_fixes service own (is_offering own && fits_message (held_of own))
     (item_signing site peer now) numbers refl)
 
-fixes : (service : ReturnService) (served : Served) (c : Course) (site : Site) (peer : Option Peer)
+fixes : (service : ReturnKind) (served : Served) (c : Course) (site : Site) (peer : Option Peer)
     (numbers now : ℕ)
-    → delivery_of service served ≡ Some c → Fixes service c (fixed_by served site peer numbers now)
-unfolding delivery_of fixed_by
-fixes buffer.Raf (serves.Raf r) c site peer numbers now e =
-    fixes_so buffer.Raf r.serving.course c site peer numbers now e
-fixes buffer.Rcf (serves.Rcf r) c site peer numbers now e =
-    fixes_so buffer.Rcf r.serving.course c site peer numbers now e
-fixes _ _ c site peer numbers now e = absurd (cc)
+    → kept_of served ≡ Some (service, c) → Fixes service c (fixed_by served site peer numbers now)
+unfolding return_of fixed_by
+fixes service (serves.Return r) c site peer numbers now e =
+    subst (λ (x : ReturnKind). Fixes service c (buffer_due x r.course site peer numbers now))
+    (sym (its_kind service r c e))
+    (fixes_so service r.course c site peer numbers now (its_course service r c e))
+fixes service _ c site peer numbers now e = absurd (cc)
 
 -- an invocation that leaves a session serving leaves its delivery
-record Invokes (service : ReturnService) (served : Served) (channels : List Gvcid) (i : Invocation)
+record Invokes (service : ReturnKind) (served : Served) (channels : List Gvcid) (i : Invocation)
     (r : Replied) (now : ℕ)
     (c : Course) : Type 0 where
   runs : leaves_running i ≡ true
-  delivery : delivery_of service (concluded_by served channels i r now).served ≡ Some c
+  delivery : kept_of (concluded_by served channels i r now).served ≡ Some (service, c)
 
 pub invoked_same : (a : Association) (i : Invocation)
     → after_judgement a (invocation_kind i) Pass ≡ a
 invoked_same a i = grind arith
 
-invokes : (service : ReturnService) (served : Served) (c : Course) (channels : List Gvcid)
+invokes : (service : ReturnKind) (served : Served) (c : Course) (channels : List Gvcid)
     (site : Site) (b : Binding)
-    (i : Invocation) (r : Replied) (at now : ℕ) → delivery_of service served ≡ Some c
+    (i : Invocation) (r : Replied) (at now : ℕ) → kept_of served ≡ Some (service, c)
     → judged site (state.Active b) (invocation i) at ≡ Pass
     → is_active (moved (state.Active b) (concluded_by served channels i r now).outcome) ≡ true
     → Invokes service served channels i r now c
-unfolding delivery_of concluded_by
-invokes service served c channels site b (raf_starts s) r at now e pass still = absurd (cc)
-invokes service served c channels site b (rcf_starts s) r at now e pass still = absurd (cc)
+unfolding return_of concluded_by
+invokes service served c channels site b (return_starts s) r at now e pass still = absurd (cc)
 invokes service served c channels site b (cltu_starts s) r at now e pass still = absurd (cc)
 invokes service served c channels site b no_invocation r at now e pass still = absurd (cc)
-invokes buffer.Raf (serves.Raf raf) c channels site b (stops s) r at now e pass still = absurd (cc)
-invokes buffer.Rcf (serves.Rcf rcf) c channels site b (stops s) r at now e pass still = absurd (cc)
-invokes buffer.Raf (serves.Raf raf) c channels site b (transfers t) r at now e pass still =
+invokes service (serves.Return s) c channels site b (stops i) r at now e pass still = absurd (cc)
+invokes service (serves.Return s) c channels site b (transfers i) r at now e pass still =
     record { runs = refl; delivery = e }
-invokes buffer.Rcf (serves.Rcf rcf) c channels site b (transfers t) r at now e pass still =
+invokes service (serves.Return s) c channels site b (throws i) r at now e pass still =
     record { runs = refl; delivery = e }
-invokes buffer.Raf (serves.Raf raf) c channels site b (throws t) r at now e pass still =
+invokes service (serves.Return s) c channels site b (schedules i) r at now e pass still =
     record { runs = refl; delivery = e }
-invokes buffer.Rcf (serves.Rcf rcf) c channels site b (throws t) r at now e pass still =
+invokes service (serves.Return s) c channels site b (gets i) r at now e pass still =
     record { runs = refl; delivery = e }
-invokes buffer.Raf (serves.Raf raf) c channels site b (schedules s) r at now e pass still =
-    record { runs = refl; delivery = e }
-invokes buffer.Rcf (serves.Rcf rcf) c channels site b (schedules s) r at now e pass still =
-    record { runs = refl; delivery = e }
-invokes buffer.Raf (serves.Raf raf) c channels site b (gets g) r at now e pass still =
-    record { runs = refl; delivery = e }
-invokes buffer.Rcf (serves.Rcf rcf) c channels site b (gets g) r at now e pass still =
-    record { runs = refl; delivery = e }
-invokes _ _ c channels site b i r at now e pass still = absurd (cc)
+invokes service _ c channels site b i r at now e pass still = absurd (cc)
 
 -- ---- a delivery at the steps of a round
 
@@ -379,10 +415,10 @@ same_listened s waited heard =
     (same_waited t waited))
     (same_heard u heard)
 
-pub delivers_same : (service : ReturnService) (s t : Standing) (c : Course) → Same s t
-    → Delivers service s c → Delivers service t c
+pub delivers_same : (service : ReturnKind) (s t : Standing) (c : Course) → Same s t
+    → DeliversAs service s c → DeliversAs service t c
 delivers_same service s t c h d = record {
-  delivery = ap (delivery_of service) h.service ∙ d.delivery;
+  delivery = ap kept_of h.service ∙ d.delivery;
   offers = λ has. d.offers (has_same s t h.outgoing has);
   message = λ has.
       subst (λ (x : List ℕ). IsMessageOf service x (held_of c)) (sym h.outgoing)
@@ -393,8 +429,8 @@ delivers_same service s t c h d = record {
 
 -- A message, or none, leaves what a session that serves behind it makes of its delivery; and the
 -- round wanted what the delivery wants, unless the dead timer ran out.
-record Goes (service : ReturnService) (u v : Standing) (c : Course) (want : Want) : Type 0 where
-  delivery : delivery_of service v.service ≡ Some c
+record Goes (service : ReturnKind) (u v : Standing) (c : Course) (want : Want) : Type 0 where
+  delivery : kept_of v.service ≡ Some (service, c)
   outgoing : v.outgoing ≡ u.outgoing
   pulse : pulse_of v ≡ pulse_of u
   moment : v.moment ≡ u.moment
@@ -411,9 +447,9 @@ serving_active s e = and_second (is_going s.course) (is_active s.association) e
 pub not_serving : (v : Standing) → is_going v.course ≡ false → is_serving v ≡ true → ⊥
 not_serving v still e = absurd (cc (serving_going v e, still))
 
-stay_goes : (service : ReturnService) (u v : Standing) (c : Course) (stays : Bool) (i : Inquiry)
+stay_goes : (service : ReturnKind) (u v : Standing) (c : Course) (stays : Bool) (i : Inquiry)
     → stays ≡ true
-    → delivery_of service v.service ≡ Some c → v.outgoing ≡ u.outgoing → pulse_of v ≡ pulse_of u
+    → kept_of v.service ≡ Some (service, c) → v.outgoing ≡ u.outgoing → pulse_of v ≡ pulse_of u
     → v.moment ≡ u.moment → v.arrival ≡ u.arrival
     → Goes service u v c (with_want stays u u.moment i).want
 stay_goes service u v c false i e delivery outgoing pulse moment arrival = absurd (cc)
@@ -491,9 +527,9 @@ if_active : (b : Bool) (xs ys : List ℕ) → b ≡ true → (if b then xs else 
 if_active true xs ys e = refl
 if_active false xs ys e = absurd (cc)
 
-module _ (service : ReturnService) (site : Site) (u : Standing) (c : Course) (b : Binding)
+module _ (service : ReturnKind) (site : Site) (u : Standing) (c : Course) (b : Binding)
     (active : u.association ≡ state.Active b)
-    (delivery : delivery_of service u.service ≡ Some c) where
+    (delivery : kept_of u.service ≡ Some (service, c)) where
   abbrev judged_so : UserContent → Step → Type 0
   judged_so said st = judged site u.association said u.moment ≡ st
 
@@ -636,8 +672,8 @@ untimed v serving = by (is_live v.course && is_dead (pulse_of v) v.moment) refl 
 
 -- ---- what is told unasked
 
-pub record Tells (service : ReturnService) (s t : Standing) (c : Course) : Type 0 where
-  pub delivery : delivery_of service t.service ≡ Some c
+pub record Tells (service : ReturnKind) (s t : Standing) (c : Course) : Type 0 where
+  pub delivery : kept_of t.service ≡ Some (service, c)
   pub outgoing : t.outgoing ≡ s.outgoing
 
 more_service : (site : Site) (s : Standing) (message : Option Message)
@@ -650,50 +686,50 @@ more_outgoing : (site : Site) (s : Standing) (message : Option Message)
 more_outgoing site s None = refl
 more_outgoing site s (Some message) = refl
 
-if_tells : (service : ReturnService) (b : Bool) (s t : Standing) (c : Course)
-    → delivery_of service s.service ≡ Some c → Tells service s t c
+if_tells : (service : ReturnKind) (b : Bool) (s t : Standing) (c : Course)
+    → kept_of s.service ≡ Some (service, c) → Tells service s t c
     → Tells service s (if b then t else s) c
 if_tells service true s t c d h = h
 if_tells service false s t c d h = record { delivery = d; outgoing = refl }
 
-report_tells : (service : ReturnService) (site : Site) (s : Standing) (r : Replied) (c : Course)
-    → delivery_of service s.service ≡ Some c → Tells service s (with_report site s r) c
+report_tells : (service : ReturnKind) (site : Site) (s : Standing) (r : Replied) (c : Course)
+    → kept_of s.service ≡ Some (service, c) → Tells service s (with_report site s r) c
 report_tells service site s r c d =
     let told = reported_by s.service r s.moment in
     let t : Standing = record s { service = told.served } in
     if_tells service (may_tell s) s (reported site s told) c d (record {
       delivery =
-          ap (delivery_of service) (more_service site t told.report)
+          ap kept_of (more_service site t told.report)
           ∙ reports service s.service c r s.moment d;
       outgoing = more_outgoing site t told.report;
     })
 
-noticed_tells : (service : ReturnService) (site : Site) (s : Standing) (notice : Option Notice)
+noticed_tells : (service : ReturnKind) (site : Site) (s : Standing) (notice : Option Notice)
     (c : Course)
-    → delivery_of service s.service ≡ Some c → Tells service s (noticed site s notice) c
+    → kept_of s.service ≡ Some (service, c) → Tells service s (noticed site s notice) c
 noticed_tells service site s None c d = record { delivery = d; outgoing = refl }
 noticed_tells service site s (Some notice) c d = record {
-  delivery = ap (delivery_of service) (more_service site s (told_by_service s.service notice)) ∙ d;
+  delivery = ap kept_of (more_service site s (told_by_service s.service notice)) ∙ d;
   outgoing = more_outgoing site s (told_by_service s.service notice);
 }
 
-notice_tells : (service : ReturnService) (site : Site) (s : Standing) (notice : Option Notice)
+notice_tells : (service : ReturnKind) (site : Site) (s : Standing) (notice : Option Notice)
     (c : Course)
-    → delivery_of service s.service ≡ Some c → Tells service s (with_notice site s notice) c
+    → kept_of s.service ≡ Some (service, c) → Tells service s (with_notice site s notice) c
 notice_tells service site s notice c d =
     if_tells service (may_tell s) s (noticed site s notice) c d
     (noticed_tells service site s notice c d)
 
-beat_tells : (service : ReturnService) (s : Standing) (c : Course)
-    → delivery_of service s.service ≡ Some c
+beat_tells : (service : ReturnKind) (s : Standing) (c : Course)
+    → kept_of s.service ≡ Some (service, c)
     → Tells service s (with_heartbeat s) c
 beat_tells service s c d =
     if_tells service (is_live s.course && not (has_block s) && is_due (pulse_of s) s.moment) s
     (record s { block = spelling beat }) c d (record { delivery = d; outgoing = refl })
 
-pub unasked_tells : (service : ReturnService) (site : Site) (r : Replied) (s : Standing)
+pub unasked_tells : (service : ReturnKind) (site : Site) (r : Replied) (s : Standing)
     (c : Course)
-    → delivery_of service s.service ≡ Some c → Tells service s (unasked site r s) c
+    → kept_of s.service ≡ Some (service, c) → Tells service s (unasked site r s) c
 unasked_tells service site r s c d =
     let one = report_tells service site s r c d in
     let t = with_report site s r in
@@ -706,25 +742,25 @@ unasked_tells service site r s c d =
 
 -- ---- the service's own step
 
-fixed_delivers : (service : ReturnService) (site : Site) (s : Standing) (c : Course)
-    → Delivers service s c
-    → Delivers service (fixed site s) c
+fixed_delivers : (service : ReturnKind) (site : Site) (s : Standing) (c : Course)
+    → DeliversAs service s c
+    → DeliversAs service (fixed site s) c
 fixed_delivers service site s c d =
     by (has_outgoing s) (fixed_by s.service site (bound_peer site s) s.numbers s.moment)
     (fixes service s.service c site (bound_peer site s) s.numbers s.moment d.delivery)
   where
     by : (has : Bool) (f : Fixed) → Fixes service c f
-        → Delivers service (if has then s else with_fixed s f) c
+        → DeliversAs service (if has then s else with_fixed s f) c
     by true f h = d
     by false f h =
         record { delivery = d.delivery; offers = h.offers; message = h.message }
 
-stepped_delivers : (service : ReturnService) (site : Site) (g : Glimpse) (now : ℕ) (s : Standing)
+stepped_delivers : (service : ReturnKind) (site : Site) (g : Glimpse) (now : ℕ) (s : Standing)
     (c : Course)
-    → s.moment ≡ now → Delivers service s c → Delivers service (stepped_by g s) (with_step c g now)
+    → s.moment ≡ now → DeliversAs service s c → DeliversAs service (stepped_by g s) (with_step c g now)
 stepped_delivers service site g now s c at d = record {
   delivery =
-      steps service s.service c g s.moment d.delivery ∙ ap (λ (n : ℕ). Some (with_step c g n)) at;
+      steps service s.service c g s.moment d.delivery ∙ ap (λ (n : ℕ). Some (service, with_step c g n)) at;
   offers = λ has.
       subst (λ (x : Course). IsTrue (is_offering x)) (sym (stays_fixed c g now (d.offers has)))
       (d.offers has);
@@ -737,8 +773,8 @@ stepped_delivers service site g now s c at d = record {
 both_true : (a b : Bool) → a ≡ true → b ≡ true → true ≡ (a && b)
 both_true a b e f = grind arith
 
-fixed_due : (service : ReturnService) (site : Site) (s : Standing) (c : Course)
-    → Delivers service s c
+fixed_due : (service : ReturnKind) (site : Site) (s : Standing) (c : Course)
+    → DeliversAs service s c
     → has_outgoing (fixed site s) ≡ (is_offering c && fits_message (held_of c))
 fixed_due service site s c d =
     by (has_outgoing s) refl (fixed_by s.service site (bound_peer site s) s.numbers s.moment)
@@ -769,17 +805,17 @@ if_no true s t e = absurd (cc)
 if_no false s t e = refl
 
 -- the step of a round, by whether a block of an earlier round waits
-record StepDelivers (service : ReturnService) (blocked : Bool) (site : Site) (s : Standing)
+pub record StepDelivers (service : ReturnKind) (blocked : Bool) (site : Site) (s : Standing)
     (next : Next) (now : ℕ) (r : Replied)
     (c : Course) : Type 0 where
-  waits : blocked ≡ true → Delivers service (after_step site s next now r) c
-  free : blocked ≡ false
-      → Delivers service (after_step site s next now r) (with_step c r.glimpse now)
-  due : blocked ≡ false
+  pub waits : blocked ≡ true → DeliversAs service (after_step site s next now r) c
+  pub free : blocked ≡ false
+      → DeliversAs service (after_step site s next now r) (with_step c r.glimpse now)
+  pub due : blocked ≡ false
       → has_outgoing (after_step site s next now r)
       ≡ (is_offering (with_step c r.glimpse now) && fits_message (held_of (with_step c r.glimpse now)))
-  wanted : blocked ≡ false → (inquiry_at site s next now).want ≡ want_of_course c
-  arrival : (after_step site s next now r).arrival ≡ s.arrival
+  pub wanted : blocked ≡ false → (inquiry_at site s next now).want ≡ want_of_course c
+  pub arrival : (after_step site s next now r).arrival ≡ s.arrival
 
 pub both_serving : (s t : Standing) → t.course ≡ s.course → t.association ≡ s.association
     → is_serving t ≡ true → is_serving s ≡ true
@@ -794,9 +830,9 @@ alive_want : (u : Standing) (dead : Bool) (w : Want) → dead ≡ false
 alive_want u true w e = absurd (cc)
 alive_want u false w e = refl
 
-step_delivers : (service : ReturnService) → ServiceLeaves → (site : Site) (s : Standing)
+pub step_delivers : (service : ReturnKind) → ServiceLeaves → (site : Site) (s : Standing)
     (next : Next) (now : ℕ) (r : Replied)
-    (c : Course) → is_serving s ≡ true → Delivers service s c
+    (c : Course) → is_serving s ≡ true → DeliversAs service s c
     → is_serving (after_step site s next now r) ≡ true
     → StepDelivers service (is_blocked s.arrival) site s next now r c
 step_delivers service leaves site s next now r c before d serving =
@@ -814,7 +850,7 @@ step_delivers service leaves site s next now r c before d serving =
     let goes = acted_goes service site u c bound.binding bound.so d.delivery next r before serving_v in
     let tells =
     unasked_tells service site r w c
-    (ap (λ (y : Standing). delivery_of service y.service) alive.0 ∙ goes.delivery)
+    (ap (λ (y : Standing). kept_of y.service) alive.0 ∙ goes.delivery)
     in
     let outgoing : x.outgoing ≡ s.outgoing =
     tells.outgoing ∙ ap (λ (y : Standing). y.outgoing) alive.0 ∙ goes.outgoing in
@@ -822,7 +858,7 @@ step_delivers service leaves site s next now r c before d serving =
     told.moment ∙ ap (λ (y : Standing). y.moment) alive.0 ∙ goes.moment in
     let arrival : x.arrival ≡ s.arrival =
     told.arrival ∙ ap (λ (y : Standing). y.arrival) alive.0 ∙ goes.arrival in
-    let dx : Delivers service x c =
+    let dx : DeliversAs service x c =
     record {
       delivery = tells.delivery;
       offers = λ has. d.offers (has_same s x outgoing has);
@@ -836,13 +872,13 @@ step_delivers service leaves site s next now r c before d serving =
     let dz = stepped_delivers service site r.glimpse now x c moment dx in
     record {
       waits = λ blocked.
-          subst (λ (y : Standing). Delivers service y c)
+          subst (λ (y : Standing). DeliversAs service y c)
           (sym
           (if_no (may_serve was x) (fixed site (stepped_by r.glimpse x)) x
           (serves_blocked was (is_active x.association) (is_going x.course) (is_blocked x.arrival)
           (ap is_blocked arrival ∙ blocked)))) dx;
       free = λ clear.
-          subst (λ (y : Standing). Delivers service y (with_step c r.glimpse now))
+          subst (λ (y : Standing). DeliversAs service y (with_step c r.glimpse now))
           (sym
           (if_yes (may_serve was x) (fixed site (stepped_by r.glimpse x)) x
           (serves_free was (is_active x.association) (is_going x.course) (is_blocked x.arrival)
@@ -869,9 +905,9 @@ step_delivers service leaves site s next now r c before d serving =
 
 -- ---- the offer of its message
 
-record Sends (service : ReturnService) (s : Standing) (c : Course) (sent : Option Offer)
+record Sends (service : ReturnKind) (s : Standing) (c : Course) (sent : Option Offer)
     (t : Standing) : Type 0 where
-  now : Delivers service t (answered_by (option_map answer_of sent) c)
+  now : DeliversAs service t (answered_by (option_map answer_of sent) c)
   handed : AreMessagesOf service (blocks_in (send_calls s sent))
       (handed_where (option_map answer_of sent) c)
   dropped : t.dropped ≡ discard_told (done_where (option_map answer_of sent) c)
@@ -886,22 +922,22 @@ none_discarded c = by c.run
     by None = refl
     by (Some r) = whole_discards r
 
-whole_handed : (service : ReturnService) (offers : Bool) (octets : List ℕ) (items : List ToldItem)
+whole_handed : (service : ReturnKind) (offers : Bool) (octets : List ℕ) (items : List ToldItem)
     → offers ≡ true
     → IsMessageOf service octets items
     → AreMessagesOf service (octets ∷ []) (if offers then items ∷ [] else [])
 whole_handed service true octets items e message = (message, tt)
 whole_handed service false octets items e message = absurd (cc)
 
-none_handed : (service : ReturnService) (offers : Bool)
+none_handed : (service : ReturnKind) (offers : Bool)
     → AreMessagesOf service [] (if offers then [] else [])
 none_handed service true = tt
 none_handed service false = tt
 
-stall_sends : (service : ReturnService) (s : Standing) (c : Course) (items : Option ℕ)
+stall_sends : (service : ReturnKind) (s : Standing) (c : Course) (items : Option ℕ)
     → items ≡ discard_told (fate_by c stall)
-    → has_outgoing s ≡ true → Delivers service s c
-    → Delivers service (settled Stalled (after_stall s items)) (with_answer c stall)
+    → has_outgoing s ≡ true → DeliversAs service s c
+    → DeliversAs service (settled Stalled (after_stall s items)) (with_answer c stall)
 stall_sends service s c None is has d =
     let same : with_answer c stall ≡ c = stays_kept c (d.offers has) (sym is) in
     record {
@@ -922,8 +958,8 @@ stall_dropped : (s : Standing) (items : Option ℕ)
 stall_dropped s None = refl
 stall_dropped s (Some items) = refl
 
-sends_by : (service : ReturnService) (s : Standing) (c : Course) (sent : Option Offer)
-    → Delivers service s c
+sends_by : (service : ReturnKind) (s : Standing) (c : Course) (sent : Option Offer)
+    → DeliversAs service s c
     → (is_some sent ≡ true → has_outgoing s ≡ true) → is_serving (standing_sent s sent) ≡ true
     → Sends service s c sent (standing_sent s sent)
 sends_by service s c None d has serving = record {
@@ -1016,24 +1052,24 @@ spoke_arrival s (Some Whole) = refl
 spoke_arrival s (Some Stalled) = refl
 spoke_arrival s (Some Refused) = refl
 
-pub ended_delivers : (service : ReturnService) (s : Standing) (c : Course) → Delivers service s c
-    → Delivers service (round_ended s) c
+pub ended_delivers : (service : ReturnKind) (s : Standing) (c : Course) → DeliversAs service s c
+    → DeliversAs service (round_ended s) c
 ended_delivers service s c d =
     record { delivery = d.delivery; offers = d.offers; message = d.message }
 
 -- what a round did with a delivery, behind a listen that left it so: a visit
-record Visits (service : ReturnService) (entries : List Entry) (from : ℕ) (site : Site) (t : State)
+pub record Visits (service : ReturnKind) (entries : List Entry) (from : ℕ) (site : Site) (t : State)
     (told : BookAnswer)
     (spoke sent : Option Offer) (c : Course) (visit : Visit) : Type 0 where
-  look : IsLook entries c visit
-  goes : goes_on (round_of visit).link ≡ true
-  front : told.answer.glimpse.front ≡ front_of visit
-  now : Delivers service (spoken_state (stepped site t (Some told)) spoke sent).standing
+  pub look : IsLook entries c visit
+  pub goes : goes_on (round_of visit).link ≡ true
+  pub front : told.answer.glimpse.front ≡ front_of visit
+  pub now : DeliversAs service (spoken_state (stepped site t (Some told)) spoke sent).standing
       (visited visit c)
-  handed : AreMessagesOf service
+  pub handed : AreMessagesOf service
       (blocks_in (send_calls (standing_spoke (stepped site t (Some told)).standing spoke) sent))
       (handed_in visit c)
-  dropped : (spoken_state (stepped site t (Some told)) spoke sent).standing.dropped
+  pub dropped : (spoken_state (stepped site t (Some told)) spoke sent).standing.dropped
       ≡ discard_told (done_in visit c)
 
 -- a session that goes on behind a step went on before it
@@ -1044,7 +1080,7 @@ busy_going s t e = grind arith
 timed_going : (s : Standing) → is_going (timed s).course ≡ true → is_going s.course ≡ true
 timed_going s e = grind arith
 
-listened_serving : (s t : Standing) → Same s t → is_going t.course ≡ true → is_serving s ≡ true
+pub listened_serving : (s t : Standing) → Same s t → is_going t.course ≡ true → is_serving s ≡ true
     → is_serving t ≡ true
 listened_serving s t h going e =
     both (is_going t.course) (is_active t.association) going
@@ -1053,7 +1089,7 @@ listened_serving s t h going e =
     both : (a b : Bool) → a ≡ true → b ≡ true → (a && b) ≡ true
     both a b e f = grind arith
 
-module _ (service : ReturnService) (leaves : ServiceLeaves) (entries : List Entry) (site : Site)
+module _ (service : ReturnKind) (leaves : ServiceLeaves) (entries : List Entry) (site : Site)
   where
     step_going : (s : Standing) (next : Next) (now : ℕ) (r : Replied)
         → is_going (after_step site s next now r).course ≡ true → is_going s.course ≡ true
@@ -1082,7 +1118,7 @@ module _ (service : ReturnService) (leaves : ServiceLeaves) (entries : List Entr
         (sent_serving z r.sent (ended_serving (standing_sent z r.sent) serving))))
 
     module _ (from : ℕ) (t : State) (told : BookAnswer) (spoke sent : Option Offer) (c : Course)
-        (before : is_serving t.standing ≡ true) (d : Delivers service t.standing c)
+        (before : is_serving t.standing ≡ true) (d : DeliversAs service t.standing c)
         (look : IsLookAt entries from site t (Some told))
         (sends : is_some sent
         ≡ may_send (standing_spoke (stepped site t (Some told)).standing spoke))
@@ -1112,7 +1148,7 @@ module _ (service : ReturnService) (leaves : ServiceLeaves) (entries : List Entr
             step_delivers service leaves site t.standing (next_of t) told.moment (reply_in told.answer) c before d
             serving_after
 
-        sent_by : (k : Course) → Delivers service (stepped site t (Some told)).standing k
+        sent_by : (k : Course) → DeliversAs service (stepped site t (Some told)).standing k
             → Sends service (standing_spoke (stepped site t (Some told)).standing spoke) k sent
             (standing_sent (standing_spoke (stepped site t (Some told)).standing spoke) sent)
         sent_by k dk =
@@ -1164,7 +1200,7 @@ module _ (service : ReturnService) (leaves : ServiceLeaves) (entries : List Entr
               front = refl;
               now =
                   ended_delivers service (standing_sent z sent) c
-                  (subst (λ (o : Option Offer). Delivers service (standing_sent z sent) (answered_by (option_map answer_of o) c))
+                  (subst (λ (o : Option Offer). DeliversAs service (standing_sent z sent) (answered_by (option_map answer_of o) c))
                   none done.now);
               handed =
                   subst
@@ -1176,7 +1212,7 @@ module _ (service : ReturnService) (leaves : ServiceLeaves) (entries : List Entr
                   ∙ ap (λ (o : Option Offer). discard_told (done_where (option_map answer_of o) c)) none;
             }
 
-        visits : (blocked : Bool) → is_blocked t.standing.arrival ≡ blocked
+        pub visits : (blocked : Bool) → is_blocked t.standing.arrival ≡ blocked
             → Visits service entries from site t told spoke sent c (visit_by blocked told sent)
         visits true e = blocked_visits e (none_sent e)
         visits false e = free_visits e
@@ -1204,16 +1240,27 @@ module _ (service : ReturnService) (leaves : ServiceLeaves) (entries : List Entr
         ∙ ap (λ (zs : List ℕ). option_to_list p ++ zs) f
         ∙ conses p ys
 
-    serves_now : (s : State) (rounds : List Round) → ServesOn site s rounds
+    pub serves_now : (s : State) (rounds : List Round) → ServesOn site s rounds
         → is_serving s.standing ≡ true
     serves_now s [] h = h
     serves_now s (r ∷ rounds) h = h.0
 
+    -- what rounds do, with the kind of the instance
+    pub record DeliveredAs (s : State) (c : Course) (from : ℕ) (rounds : List Round) : Type 0 where
+      pub looks : AreLooks entries from c (visits_of site s rounds)
+      pub goes_on : IsTrue (all_go_on (rounds_of (visits_of site s rounds)))
+      pub now : DeliversAs service (after_rounds site s rounds).standing
+          (after_visits (visits_of site s rounds) c)
+      pub handed : AreMessagesOf service (sent_of site s rounds)
+          (visits_handed (visits_of site s rounds) c)
+      pub dropped : dropped_of site s rounds
+          ≡ discards_told (visits_done (visits_of site s rounds) c)
+
     abbrev Delivered : List Round → Type 0
     Delivered rounds =
-        (s : State) (c : Course) (from : ℕ) → Delivers service s.standing c → ServesOn site s rounds
+        (s : State) (c : Course) (from : ℕ) → DeliversAs service s.standing c → ServesOn site s rounds
         → AreRounds site s rounds → SeeEntries entries from site s rounds
-        → AreDelivered service site s c entries from rounds
+        → DeliveredAs s c from rounds
 
     -- a round and those behind it, by the state behind its listen
     record Part (t : State) (told : Option BookAnswer) (spoke sent : Option Offer) (c : Course)
@@ -1228,7 +1275,7 @@ module _ (service : ReturnService) (leaves : ServiceLeaves) (entries : List Entr
           (option_map (λ x. visit_by (is_blocked t.standing.arrival) x sent) told)
           ++ visits_of site (spoken_state (stepped site t told) spoke sent) rounds))
           ≡ true
-      now : Delivers service
+      now : DeliversAs service
           (after_rounds site (spoken_state (stepped site t told) spoke sent) rounds).standing
           (after_visits
           (option_to_list
@@ -1251,7 +1298,7 @@ module _ (service : ReturnService) (leaves : ServiceLeaves) (entries : List Entr
 
     part : (rounds : List Round) → Delivered rounds → (t : State) (told : Option BookAnswer)
         (spoke sent : Option Offer) (c : Course) (from : ℕ) → is_serving t.standing ≡ true
-        → Delivers service t.standing c → is_some told ≡ true → IsLookAt entries from site t told
+        → DeliversAs service t.standing c → is_some told ≡ true → IsLookAt entries from site t told
         → is_some sent ≡ may_send (standing_spoke (stepped site t told).standing spoke)
         → ServesOn site (spoken_state (stepped site t told) spoke sent) rounds
         → AreRounds site (spoken_state (stepped site t told) spoke sent) rounds
@@ -1309,8 +1356,21 @@ module _ (service : ReturnService) (leaves : ServiceLeaves) (entries : List Entr
         }
 
 pub a_sessions_rounds : ServiceLeaves → AreVisits
-a_sessions_rounds leaves service entries site rounds s c from d serves are sees =
-    delivered service leaves entries site rounds s c from d serves are sees
+a_sessions_rounds leaves entries site rounds s c from d serves are sees =
+    let all =
+    delivered d.kind leaves entries site rounds s c from (delivers_as s.standing c d) serves are sees
+    in
+    record {
+      kind = d.kind;
+      is_kind = d.is_kind;
+      looks = all.looks;
+      goes_on = all.goes_on;
+      now =
+          so_delivers d.kind (after_rounds site s rounds).standing
+          (after_visits (visits_of site s rounds) c) all.now;
+      handed = all.handed;
+      dropped = all.dropped;
+    }
 
 -- ---- a buffer that is due
 
@@ -1323,44 +1383,31 @@ sent_due : (s : Standing) → is_going s.course ≡ true → is_blocked s.arriva
 sent_due s e f =
     due_sent (is_going s.course) (has_block s) (is_blocked s.arrival) (has_outgoing s) e f
 
-told_due : (service : ReturnService) → ServiceLeaves → (site : Site) (t : State)
-    (asks : Option BookAnswer) (told : BookAnswer)
-    (spoke sent : Option Offer) (c : Course) → asks ≡ Some told → is_serving t.standing ≡ true
-    → Delivers service t.standing c
-    → is_some sent ≡ may_send (standing_spoke (stepped site t asks).standing spoke)
-    → is_serving (spoken_state (stepped site t asks) spoke sent).standing ≡ true
-    → is_blocked t.standing.arrival ≡ false
-    → is_some sent
-    ≡ (not (has_block (standing_spoke (stepped site t asks).standing spoke))
-    && is_due_to_offer (with_step c told.answer.glimpse told.moment))
-told_due service leaves site t None told spoke sent c is before d sends serving clear = absurd (cc)
-told_due service leaves site t (Some x) told spoke sent c is before d sends serving clear =
-    let y = (stepped site t (Some x)).standing in
+-- offered where a buffer is to be offered that goes into one message
+pub told_due : (service : ReturnKind) → ServiceLeaves → (site : Site) (t : State)
+    (told : BookAnswer)
+    (spoke sent : Option Offer) (c : Course) → is_serving t.standing ≡ true
+    → DeliversAs service t.standing c
+    → is_some sent ≡ may_send (standing_spoke (stepped site t (Some told)).standing spoke)
+    → is_serving (spoken_state (stepped site t (Some told)) spoke sent).standing ≡ true
+    → is_blocked t.standing.arrival ≡ false → let d = with_step c told.answer.glimpse told.moment in
+    is_some sent
+    ≡ (not (has_block (standing_spoke (stepped site t (Some told)).standing spoke))
+    && (is_offering d && fits_message (held_of d)))
+told_due service leaves site t told spoke sent c before d sends serving clear =
+    let y = (stepped site t (Some told)).standing in
     let z = standing_spoke y spoke in
     let serving_z = sent_serving z sent (ended_serving (standing_sent z sent) serving) in
     let serving_y = same_serving y z (same_spoke y spoke) serving_z in
     let step =
-    step_delivers service leaves site t.standing (next_of t) x.moment (reply_in x.answer) c before d
+    step_delivers service leaves site t.standing (next_of t) told.moment (reply_in told.answer) c before d
     serving_y in
     let free : is_blocked z.arrival ≡ false =
     ap is_blocked (spoke_arrival y spoke ∙ step.arrival) ∙ clear in
-    let same : x ≡ told = cc is in
     sends
     ∙ sent_due z (serving_going z serving_z) free
     ∙ ap (λ (o : List ℕ). not (has_block z) && not (length o == 0)) (same_spoke y spoke).outgoing
     ∙ ap (λ (b : Bool). not (has_block z) && b) (step.due clear)
-    ∙ ap
-    (λ (w : BookAnswer).
-    not (has_block z) && is_due_to_offer (with_step c w.answer.glimpse w.moment)) same
-
-pub due_buffers : ServiceLeaves → DueIsOffered
-due_buffers leaves service site s r c told is d before serving asked clear =
-    let t = before_step s r in
-    let same = same_listened s r.waited r.heard in
-    let going = going_back service leaves [] site t r serving in
-    told_due service leaves site t r.told told r.spoke r.sent c asked
-    (listened_serving s.standing t.standing same going before)
-    (delivers_same service s.standing t.standing c same d) is.speaks.sends serving clear
 
 -- ---- a START
 
@@ -1372,22 +1419,21 @@ VisitStands =
     → IsTrue (all_go_on (rounds_of visits)) → VisitsStand c t entries rounds visits
 
 pub starts_deliver : ServiceLeaves → VisitStands → StartsDeliver
-starts_deliver leaves stands service entries site rounds s c t earlier stood d serves are sees =
+starts_deliver leaves stands entries site rounds s c t earlier stood d serves are sees =
     let all =
-    delivered service leaves entries site rounds s c (last_front t.selection.first earlier) d serves
-    are sees in
+    a_sessions_rounds leaves entries site rounds s c (last_front t.selection.first earlier) d serves are
+    sees in
     record {
       delivered = all;
       stand = stands c t entries earlier (visits_of site s rounds) stood all.looks all.goes_on;
     }
 
 -- what its delivery stands for then
-pub start_stands : ServiceLeaves → VisitStands → (service : ReturnService) (entries : List Entry)
-    (site : Site)
+pub start_stands : ServiceLeaves → VisitStands → (entries : List Entry) (site : Site)
     (rounds : List Round) (s : State) (c : Course) (t : Terms) → StandsFor c t entries []
-    → Delivers service s.standing c → ServesOn site s rounds → AreRounds site s rounds
+    → Delivers s.standing c → ServesOn site s rounds → AreRounds site s rounds
     → SeeEntries entries t.selection.first site s rounds
     → StandsFor (after_visits (visits_of site s rounds) c) t entries
     (rounds_of (visits_of site s rounds))
-start_stands leaves stands service entries site rounds s c t stood d serves are sees =
-    (starts_deliver leaves stands service entries site rounds s c t [] stood d serves are sees).stand.stands
+start_stands leaves stands entries site rounds s c t stood d serves are sees =
+    (starts_deliver leaves stands entries site rounds s c t [] stood d serves are sees).stand.stands

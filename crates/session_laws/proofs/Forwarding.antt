@@ -42,17 +42,17 @@ use Rattle.station_book.specs.State.{State as Book}
 use Rattle.station_book.specs.History.{is_of, is_forward, has_forward, start_reply}
 use Rattle.station_book.specs.History.{transfer_reply, is_lost as is_lost_ask, reply_of}
 use Rattle.station_book.specs.History.{doors_asked, with_ask}
-use Rattle.session_core.specs.declared.service_state.ServiceState.TheVariants as serves
+use Rattle.session_services.specs.declared.service_state.ServiceState.TheVariants as serves
 use Rattle.session_core.specs.declared.standing.Standing.{Standing}
 use Rattle.session_core.specs.Course.{is_live}
-use Rattle.session_core.specs.Inquiry.{Replied}
+use Rattle.session_services.specs.Inquiry.{Replied}
 use Rattle.session_core.specs.Message.{invocation, judged}
-use Rattle.session_core.specs.Service.{Invocation, raf_starts, rcf_starts, cltu_starts, transfers}
-use Rattle.session_core.specs.Service.{throws, stops, schedules, gets, undecoded}
-use Rattle.session_core.specs.FcltuServed.{fcltu_asked, fcltu_outcome}
-use Rattle.session_core.specs.Served.{Served, Message, unserved, served_at, prepared}
-use Rattle.session_core.specs.Served.{concluded_by, reported_by, told_by_service, served_step}
-use Rattle.session_core.specs.Served.{fixed_by, served_settled}
+use Rattle.session_services.specs.Service.{Invocation, return_starts, cltu_starts, transfers}
+use Rattle.session_services.specs.Service.{throws, stops, schedules, gets, undecoded}
+use Rattle.session_services.specs.FcltuServed.{fcltu_asked, fcltu_outcome}
+use Rattle.session_services.specs.Served.{Served, Message, unserved, served_at, prepared}
+use Rattle.session_services.specs.Served.{concluded_by, reported_by, told_by_service, served_step}
+use Rattle.session_services.specs.Served.{fixed_by, served_settled}
 use Rattle.session_core.specs.Returns.{bound_peer}
 use Rattle.session_core.specs.ServiceSteps.{is_active, told_more, reported, noticed, with_report}
 use Rattle.session_core.specs.ServiceSteps.{with_notice, may_tell, may_serve, with_service, fixed}
@@ -71,24 +71,21 @@ reported_kind : (served : Served) (r : Replied) (now : ℕ)
     → is_cltu (reported_by served r now).served ≡ is_cltu served
 unfolding reported_by
 reported_kind serves.Nothing r now = refl
-reported_kind (serves.Raf raf) r now = refl
-reported_kind (serves.Rcf rcf) r now = refl
+reported_kind (serves.Return s) r now = refl
 reported_kind (serves.Fcltu f) r now = refl
 
 stepped_kind : (g : Glimpse) (now : ℕ) (served : Served)
     → is_cltu (served_step g now served) ≡ is_cltu served
 unfolding served_step
 stepped_kind g now serves.Nothing = refl
-stepped_kind g now (serves.Raf raf) = refl
-stepped_kind g now (serves.Rcf rcf) = refl
+stepped_kind g now (serves.Return s) = refl
 stepped_kind g now (serves.Fcltu f) = refl
 
 pub settled_kind : (answer : Offer) (served : Served)
     → is_cltu (served_settled answer served) ≡ is_cltu served
 unfolding served_settled
 settled_kind answer serves.Nothing = refl
-settled_kind answer (serves.Raf raf) = refl
-settled_kind answer (serves.Rcf rcf) = refl
+settled_kind answer (serves.Return s) = refl
 settled_kind answer (serves.Fcltu f) = refl
 
 -- ---- what a step makes of it besides a message
@@ -321,8 +318,7 @@ module _ (book : Book) (door now at : ℕ) (f : Fcltu) (r : BookReply) where
   forwards site a (throws t) pass h is = none_serves a _ h refl
   forwards site a (schedules s) pass h is = none_serves a _ h refl
   forwards site a (gets g) pass h is = none_serves a _ h refl
-  forwards site a (raf_starts s) pass h is = none_serves a _ h refl
-  forwards site a (rcf_starts s) pass h is = none_serves a _ h refl
+  forwards site a (return_starts s) pass h is = none_serves a _ h refl
   forwards site a undecoded pass h is = none_serves a _ h refl
 
 -- whatever service is bound
@@ -336,9 +332,7 @@ pub serves_by : (site : Site) (book : Book) (door now at : ℕ) (a : Association
 unfolding prepared concluded_by
 serves_by site book door now at a serves.Nothing channels i r pass h is =
     record { fits = refl; answers = refl; held = refl; runs = λ e. absurd (cc) }
-serves_by site book door now at a (serves.Raf raf) channels i r pass h is =
-    record { fits = refl; answers = refl; held = refl; runs = λ e. absurd (cc) }
-serves_by site book door now at a (serves.Rcf rcf) channels i r pass h is =
+serves_by site book door now at a (serves.Return s) channels i r pass h is =
     record { fits = refl; answers = refl; held = refl; runs = λ e. absurd (cc) }
 serves_by site book door now at a (serves.Fcltu f) channels i r pass h is =
     let done = forwards book door now at f r.reply site a i pass (h refl) is in

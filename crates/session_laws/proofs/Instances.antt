@@ -15,16 +15,13 @@ use Rattle.sle_common.specs.declared.gvcid.Gvcid.{Gvcid}
 use Rattle.sle_numbers.specs.declared.bind_diagnostic.BindDiagnostic.{BindDiagnostic}
 use Rattle.sle_numbers.specs.declared.peer_abort_diagnostic.PeerAbortDiagnostic.TheVariants as why
 use Rattle.sle_numbers.specs.declared.return_start_diagnostic.ReturnStartDiagnostic.{ReturnStartDiagnostic}
-use Rattle.return_core.specs.Course.{Course}
-use Rattle.return_pdu.specs.Starting.{RafStartContent, RcfStartContent}
-use Rattle.return_pdu.specs.declared.service.Service.{Service as ReturnService}
-use Rattle.return_pdu.specs.declared.service.Service.TheVariants as buffer
-use Rattle.return_service.specs.Answer.{nothing, start, stop, report, get}
 use Rattle.return_service.specs.declared.span.Span.{Span}
-use Rattle.raf_service.specs.Raf.{Raf, RafAsked, concluded as raf_concluded}
-use Rattle.raf_service.specs.Raf.{with_start as raf_with, moments_at as raf_moments}
-use Rattle.rcf_service.specs.Rcf.{Rcf, RcfAsked, concluded as rcf_concluded}
-use Rattle.rcf_service.specs.Rcf.{with_start as rcf_with, moments_at as rcf_moments}
+use Rattle.return_service.specs.declared.invocation.ReturnStart.{ReturnStart}
+use Rattle.return_service.specs.declared.invocation.ReturnInvocation.{ReturnInvocation}
+use Rattle.return_service.specs.declared.invocation.ReturnInvocation.TheVariants as asked
+use Rattle.return_service.specs.Serving.{Serving}
+use Rattle.return_service.specs.Instance.{concluded as return_concluded, with_start as begun}
+use Rattle.return_service.specs.Instance.{moments_at}
 use Rattle.station_config.specs.declared.instance.Instance.{Instance}
 use Rattle.station_config.specs.declared.service.Service.{Service}
 use Rattle.station_config.specs.declared.service.Service.TheVariants as service_of_site
@@ -45,22 +42,21 @@ use Rattle.cltu_queue.specs.declared.book_reply.BookReply.{BookReply}
 use Rattle.cltu_queue.specs.declared.book_reply.BookReply.TheVariants.{Bound}
 use Rattle.cltu_queue.specs.declared.notice.Notice.{Notice}
 use Rattle.session_core.specs.declared.ended.Ended.TheVariants.{PeerClosed, Range}
-use Rattle.session_core.specs.declared.service_state.ServiceState.TheVariants as serves
+use Rattle.session_services.specs.declared.service_state.ServiceState.TheVariants as serves
 use Rattle.session_core.specs.declared.standing.Standing.{Standing}
 use Rattle.session_core.specs.Course.{is_going, is_live, is_blocked, has_closed}
 use Rattle.session_core.specs.Handling.{aborted, after_passing, bind_judged, concluded, ended_by}
 use Rattle.session_core.specs.Handling.{invoked, is_agreed, is_lost, place_bound}
-use Rattle.session_core.specs.Inquiry.{Replied, reply_in}
+use Rattle.session_services.specs.Inquiry.{Replied, reply_in}
 use Rattle.session_core.specs.Lists.{start_of}
 use Rattle.session_core.specs.Message.{UserContent, context, heartbeat, bind, unbind, peer_abort}
 use Rattle.session_core.specs.Message.{invocation, undecoded, out_of_place, judged, kind_of}
 use Rattle.session_core.specs.Message.{message_of}
-use Rattle.session_core.specs.RafServed.{raf_asked}
-use Rattle.session_core.specs.RcfServed.{rcf_asked}
-use Rattle.session_core.specs.Service.{Invocation, invocation_kind}
-use Rattle.session_core.specs.Served.{Served, Message, Fixed, concluded_by, dropped_by, fixed_by}
-use Rattle.session_core.specs.Served.{reported_by, served_at, served_settled, served_step}
-use Rattle.session_core.specs.Served.{told_by_service, unserved}
+use Rattle.session_services.specs.ReturnServed.{return_asked}
+use Rattle.session_services.specs.Service.{Invocation, invocation_kind}
+use Rattle.session_services.specs.Served.{Served, Message, Fixed, concluded_by, dropped_by, fixed_by}
+use Rattle.session_services.specs.Served.{reported_by, served_at, served_settled, served_step}
+use Rattle.session_services.specs.Served.{told_by_service, unserved}
 use Rattle.session_core.specs.ServiceSteps.{after_stall, answered_with, fixed, has_outgoing}
 use Rattle.session_core.specs.ServiceSteps.{is_active, may_serve, may_tell, noticed}
 use Rattle.session_core.specs.ServiceSteps.{permitted, reported, service_bound, settled, stepped_by}
@@ -73,117 +69,92 @@ use Rattle.session_core.specs.Session.{standing_sent, standing_spoke, standing_w
 use Rattle.session_core.specs.Steps.{Next, acted, after_step, at_moment, has_block, is_dead, is_due}
 use Rattle.session_core.specs.Steps.{is_idle, pulse_of, round_begun, said_to, timed}
 use Rattle.session_core.specs.Steps.{unasked, with_heartbeat, with_next}
-use Rattle.session_laws.specs.Deliveries.{delivery_of}
+use Rattle.session_laws.specs.Deliveries.{return_of}
 use Rattle.session_laws.specs.Instances.{Shape, shape_of, shape_in, shape_by, IsKept}
 use Rattle.session_laws.specs.Instances.{SessionsAreKept}
-use Rattle.session_laws.proofs.Deliveries.{report_leaves, active_is, context_not, bind_not}
+use Rattle.session_laws.proofs.Deliveries.{report_kind, report_leaves, active_is, context_not, bind_not}
 
 -- ---- the shape of what a service keeps stays
 
-steps_shape : (service : ReturnService) (g : Glimpse) (now : ℕ) (served : Served)
-    → shape_in service (served_step g now served) ≡ shape_in service served
-unfolding delivery_of served_step
-steps_shape buffer.Raf g now (serves.Raf r) = refl
-steps_shape buffer.Rcf g now (serves.Rcf r) = refl
-steps_shape _ g now _ = refl
+steps_shape : (g : Glimpse) (now : ℕ) (served : Served)
+    → shape_in (served_step g now served) ≡ shape_in served
+unfolding return_of served_step
+steps_shape g now (serves.Return r) = refl
+steps_shape g now _ = refl
 
-settles_shape : (service : ReturnService) (said : Offer) (served : Served)
-    → shape_in service (served_settled said served) ≡ shape_in service served
-unfolding delivery_of served_settled
-settles_shape buffer.Raf said (serves.Raf r) = refl
-settles_shape buffer.Rcf said (serves.Rcf r) = refl
-settles_shape _ said _ = refl
+settles_shape : (said : Offer) (served : Served)
+    → shape_in (served_settled said served) ≡ shape_in served
+unfolding return_of served_settled
+settles_shape said (serves.Return r) = refl
+settles_shape said _ = refl
 
-reports_shape : (service : ReturnService) (served : Served) (r : Replied) (now : ℕ)
-    → shape_in service (reported_by served r now).served ≡ shape_in service served
-unfolding delivery_of reported_by
-reports_shape buffer.Raf (serves.Raf raf) r now =
-    ap (λ (c : Course). Some (shape_of c)) (report_leaves now raf.serving)
-reports_shape buffer.Rcf (serves.Rcf rcf) r now =
-    ap (λ (c : Course). Some (shape_of c)) (report_leaves now rcf.serving)
-reports_shape _ _ r now = refl
+reports_shape : (served : Served) (r : Replied) (now : ℕ)
+    → shape_in (reported_by served r now).served ≡ shape_in served
+unfolding return_of reported_by
+reports_shape (serves.Return s) r now = rw (report_kind now s, report_leaves now s) refl
+reports_shape _ r now = refl
 
-raf_start_shape : (s : RafStartContent) (front : ℕ) (j : Result Span ReturnStartDiagnostic)
-    (raf : Raf)
-    → shape_of (raf_with s front j raf).serving.course ≡ shape_of raf.serving.course
-raf_start_shape s front (Ok span) raf = refl
-raf_start_shape s front (Err why) raf = refl
+-- what becomes of an instance has its shape
+begins_shape : (s : ReturnStart) (front : ℕ) (j : Result Span ReturnStartDiagnostic)
+    (own : Serving) → shape_of (begun s front j own) ≡ shape_of own
+begins_shape s front (Ok span) own = refl
+begins_shape s front (Err why) own = refl
 
-raf_shape : (a : RafAsked) (g : Glimpse) (now : ℕ) (raf : Raf)
-    → shape_of (raf_concluded a g now raf).serving.course ≡ shape_of raf.serving.course
-raf_shape nothing g now raf = refl
-raf_shape (start s) g now raf = raf_start_shape s g.front (raf_moments s g raf) raf
-raf_shape stop g now raf = refl
-raf_shape (report k) g now raf = refl
-raf_shape (get name) g now raf = refl
+concluded_shape : (channels : List Gvcid) (a : ReturnInvocation) (g : Glimpse) (now : ℕ)
+    (own : Serving) → shape_of (return_concluded channels a g now own) ≡ shape_of own
+concluded_shape channels asked.Nothing g now own = refl
+concluded_shape channels (asked.Start s) g now own =
+    begins_shape s g.front (moments_at channels s g own) own
+concluded_shape channels asked.Stop g now own = refl
+concluded_shape channels (asked.Report k) g now own = refl
+concluded_shape channels (asked.Get name) g now own = refl
 
-rcf_start_shape : (s : RcfStartContent) (front : ℕ) (j : Result Span ReturnStartDiagnostic)
-    (rcf : Rcf)
-    → shape_of (rcf_with s front j rcf).serving.course ≡ shape_of rcf.serving.course
-rcf_start_shape s front (Ok span) rcf = refl
-rcf_start_shape s front (Err why) rcf = refl
+concludes_shape : (served : Served) (channels : List Gvcid) (i : Invocation) (r : Replied) (now : ℕ)
+    → shape_in (concluded_by served channels i r now).served ≡ shape_in served
+unfolding return_of concluded_by
+concludes_shape (serves.Return s) channels i r now =
+    ap (λ (x : Shape). Some x) (concluded_shape channels (return_asked i) r.glimpse now s)
+concludes_shape _ channels i r now = refl
 
-rcf_shape : (channels : List Gvcid) (a : RcfAsked) (g : Glimpse) (now : ℕ) (rcf : Rcf)
-    → shape_of (rcf_concluded channels a g now rcf).serving.course ≡ shape_of rcf.serving.course
-rcf_shape channels nothing g now rcf = refl
-rcf_shape channels (start s) g now rcf =
-    rcf_start_shape s g.front (rcf_moments channels s g rcf) rcf
-rcf_shape channels stop g now rcf = refl
-rcf_shape channels (report k) g now rcf = refl
-rcf_shape channels (get name) g now rcf = refl
-
-concludes_shape : (service : ReturnService) (served : Served) (channels : List Gvcid)
-    (i : Invocation) (r : Replied) (now : ℕ)
-    → shape_in service (concluded_by served channels i r now).served ≡ shape_in service served
-unfolding delivery_of concluded_by
-concludes_shape buffer.Raf (serves.Raf raf) channels i r now =
-    ap (λ (x : Shape). Some x) (raf_shape (raf_asked i) r.glimpse now raf)
-concludes_shape buffer.Rcf (serves.Rcf rcf) channels i r now =
-    ap (λ (x : Shape). Some x) (rcf_shape channels (rcf_asked i) r.glimpse now rcf)
-concludes_shape _ _ channels i r now = refl
-
-none_kept : (service : ReturnService) → shape_in service unserved ≡ None
-unfolding delivery_of
-none_kept buffer.Raf = refl
-none_kept buffer.Rcf = refl
+none_kept : shape_in unserved ≡ None
+unfolding return_of
+none_kept = refl
 
 -- what is made for a BIND has the shape of its instance
-made_shape : (service : ReturnService) (s : Service) (timeout : ℕ)
-    → shape_in service (served_at s timeout) ≡ shape_by service s
-unfolding delivery_of served_at
-made_shape buffer.Raf (service_of_site.Raf mode size latency) timeout = refl
-made_shape buffer.Rcf (service_of_site.Rcf mode size latency channels) timeout = refl
-made_shape _ _ timeout = refl
+made_shape : (s : Service) (timeout : ℕ) → shape_in (served_at s timeout) ≡ shape_by s
+unfolding return_of served_at
+made_shape (service_of_site.Raf mode size latency) timeout = refl
+made_shape (service_of_site.Rcf mode size latency channels) timeout = refl
+made_shape (service_of_site.Cltu room longest) timeout = refl
 
 -- that of the instance at a place
-abbrev at_bound : Site → Option ℕ → ReturnService → Option Shape
-at_bound site bound service =
-    option_and_then (shape_by service)
+abbrev at_bound : Site → Option ℕ → Option Shape
+at_bound site bound =
+    option_and_then shape_by
     (option_map (λ (instance : Instance). instance.service)
     (option_and_then (λ (place : ℕ). slice_get site.instances place) bound))
 
-no_shape : (service : ReturnService) (shape : Shape) → shape_in service unserved ≡ Some shape → ⊥
-no_shape service shape is = absurd (cc (none_kept service, is))
+no_shape : (shape : Shape) → shape_in unserved ≡ Some shape → ⊥
+no_shape shape is = absurd (cc (none_kept, is))
 
-instance_shape : (service : ReturnService) (shape : Shape) (o : Option Instance)
-    → shape_in service
+instance_shape : (shape : Shape) (o : Option Instance)
+    → shape_in
     (option_map_or (λ (instance : Instance). served_at instance.service instance.timeout) o unserved)
     ≡ Some shape
-    → option_and_then (shape_by service)
+    → option_and_then shape_by
     (option_map (λ (instance : Instance). instance.service) o)
     ≡ Some shape
-instance_shape service shape None is = absurd (no_shape service shape is)
-instance_shape service shape (Some instance) is =
-    sym (made_shape service instance.service instance.timeout) ∙ is
+instance_shape shape None is = absurd (no_shape shape is)
+instance_shape shape (Some instance) is =
+    sym (made_shape instance.service instance.timeout) ∙ is
 
-bound_shape : (site : Site) (j : Result ℕ BindDiagnostic) (reply : BookReply)
-    (service : ReturnService) (shape : Shape)
-    → shape_in service (service_bound site j reply) ≡ Some shape
-    → at_bound site (place_bound j reply) service ≡ Some shape
-bound_shape site (Ok place) Bound service shape is =
-    instance_shape service shape (slice_get site.instances place) is
-bound_shape site (Err fault) Bound service shape is = absurd (no_shape service shape is)
-bound_shape site j _ service shape is = absurd (no_shape service shape is)
+bound_shape : (site : Site) (j : Result ℕ BindDiagnostic) (reply : BookReply) (shape : Shape)
+    → shape_in (service_bound site j reply) ≡ Some shape
+    → at_bound site (place_bound j reply) ≡ Some shape
+bound_shape site (Ok place) Bound shape is =
+    instance_shape shape (slice_get site.instances place) is
+bound_shape site (Err fault) Bound shape is = absurd (no_shape shape is)
+bound_shape site j _ shape is = absurd (no_shape shape is)
 
 -- ---- what leaves it
 
@@ -191,82 +162,78 @@ pub record Leaves (s t : Standing) : Type 0 where
   pub association : t.association ≡ s.association
   pub outgoing : t.outgoing ≡ s.outgoing
   pub bound : t.bound ≡ s.bound
-  pub shape : (service : ReturnService) → shape_in service t.service ≡ shape_in service s.service
+  pub shape : shape_in t.service ≡ shape_in s.service
 
 leaves_on : (s t u : Standing) → Leaves s t → Leaves t u → Leaves s u
 leaves_on s t u h k = record {
   association = k.association ∙ h.association;
   outgoing = k.outgoing ∙ h.outgoing;
   bound = k.bound ∙ h.bound;
-  shape = λ service. k.shape service ∙ h.shape service;
+  shape = k.shape ∙ h.shape;
 }
 
 if_leaves : (b : Bool) (s t : Standing) → Leaves s t → Leaves s (if b then t else s)
 if_leaves true s t h = h
 if_leaves false s t h =
-    record { association = refl; outgoing = refl; bound = refl; shape = λ service. refl }
+    record { association = refl; outgoing = refl; bound = refl; shape = refl }
 
 module _ (site : Site) where
   stays_kept : (s t : Standing) → Leaves s t → IsKept site s → IsKept site t
   stays_kept s t h k = record {
     still = λ e. h.outgoing ∙ k.still (sym (ap is_active h.association) ∙ e);
-    own = λ service shape is.
-        ap (λ (b : Option ℕ). at_bound site b service) h.bound
-        ∙ k.own service shape (sym (h.shape service) ∙ is);
+    own = λ shape is.
+        ap (λ (b : Option ℕ). at_bound site b) h.bound ∙ k.own shape (sym h.shape ∙ is);
   }
 
   -- where nothing is offered any more
   empty_kept : (s t : Standing) → t.outgoing ≡ [] → t.bound ≡ s.bound
-      → ((service : ReturnService) → shape_in service t.service ≡ shape_in service s.service)
+      → shape_in t.service ≡ shape_in s.service
       → IsKept site s → IsKept site t
   empty_kept s t none bound shape k = record {
     still = λ e. none;
-    own = λ service x is.
-        ap (λ (b : Option ℕ). at_bound site b service) bound
-        ∙ k.own service x (sym (shape service) ∙ is);
+    own = λ x is. ap (λ (b : Option ℕ). at_bound site b) bound ∙ k.own x (sym shape ∙ is);
   }
 
   -- and where nothing is kept any more
   ended_kept : (t : Standing) → t.outgoing ≡ [] → t.service ≡ unserved → IsKept site t
   ended_kept t none gone = record {
     still = λ e. none;
-    own = λ service shape is.
-        absurd (no_shape service shape (sym (ap (shape_in service) gone) ∙ is));
+    own = λ shape is. absurd (no_shape shape (sym (ap shape_in gone) ∙ is));
   }
 
   -- ---- listen and speak
 
   waited_leaves : (s : Standing) (o : Option Offer) → Leaves s (standing_waited s o)
   waited_leaves s None =
-      record { association = refl; outgoing = refl; bound = refl; shape = λ service. refl }
+      record { association = refl; outgoing = refl; bound = refl; shape = refl }
   waited_leaves s (Some Whole) =
-      record { association = refl; outgoing = refl; bound = refl; shape = λ service. refl }
+      record { association = refl; outgoing = refl; bound = refl; shape = refl }
   waited_leaves s (Some Stalled) =
-      record { association = refl; outgoing = refl; bound = refl; shape = λ service. refl }
+      record { association = refl; outgoing = refl; bound = refl; shape = refl }
   waited_leaves s (Some Refused) =
-      record { association = refl; outgoing = refl; bound = refl; shape = λ service. refl }
+      record { association = refl; outgoing = refl; bound = refl; shape = refl }
 
   heard_leaves : (s : Standing) (o : Option Heard) → Leaves s (standing_heard s o)
   heard_leaves s None =
-      record { association = refl; outgoing = refl; bound = refl; shape = λ service. refl }
+      record { association = refl; outgoing = refl; bound = refl; shape = refl }
   heard_leaves s (Some (Arrived octets)) =
-      record { association = refl; outgoing = refl; bound = refl; shape = λ service. refl }
+      record { association = refl; outgoing = refl; bound = refl; shape = refl }
   heard_leaves s (Some HeardNothing) =
-      record { association = refl; outgoing = refl; bound = refl; shape = λ service. refl }
+      record { association = refl; outgoing = refl; bound = refl; shape = refl }
   heard_leaves s (Some Closed) =
-      record { association = refl; outgoing = refl; bound = refl; shape = λ service. refl }
+      record { association = refl; outgoing = refl; bound = refl; shape = refl }
   heard_leaves s (Some Failed) =
-      record { association = refl; outgoing = refl; bound = refl; shape = λ service. refl }
+      record { association = refl; outgoing = refl; bound = refl; shape = refl }
 
   spoke_leaves : (s : Standing) (o : Option Offer) → Leaves s (standing_spoke s o)
   spoke_leaves s None =
-      record { association = refl; outgoing = refl; bound = refl; shape = λ service. refl }
+      record { association = refl; outgoing = refl; bound = refl; shape = refl }
   spoke_leaves s (Some Whole) =
-      record { association = refl; outgoing = refl; bound = refl; shape = λ service. refl }
+      record { association = refl; outgoing = refl; bound = refl; shape = refl }
   spoke_leaves s (Some Stalled) =
-      record { association = refl; outgoing = refl; bound = refl; shape = λ service. refl }
+      record { association = refl; outgoing = refl; bound = refl; shape = refl }
   spoke_leaves s (Some Refused) =
-      record { association = refl; outgoing = refl; bound = refl; shape = λ service. refl }
+      record { association = refl; outgoing = refl; bound = refl; shape = refl }
 
   pub listened_kept : (s : State) (waited : Option Offer) (heard : Option Heard)
       → IsKept site s.standing → IsKept site (listened s waited heard).standing
@@ -283,17 +250,17 @@ module _ (site : Site) where
         association = refl;
         outgoing = refl;
         bound = refl;
-        shape = λ service. settles_shape service Stalled s.service;
+        shape = settles_shape Stalled s.service;
       }) k
   stalled_kept s (Some items) k =
       empty_kept s (settled Stalled (after_stall s (Some items))) refl refl
-      (λ service. settles_shape service Stalled s.service) k
+      (settles_shape Stalled s.service) k
 
   sent_kept : (s : Standing) (o : Option Offer) → IsKept site s → IsKept site (standing_sent s o)
   sent_kept s None k = record { still = k.still; own = k.own }
   sent_kept s (Some Whole) k =
       empty_kept s (standing_sent s (Some Whole)) refl refl
-      (λ service. settles_shape service Whole s.service) k
+      (settles_shape Whole s.service) k
   sent_kept s (Some Stalled) k = stalled_kept s (dropped_by s.service) k
   sent_kept s (Some Refused) k = record { still = k.still; own = k.own }
 
@@ -387,11 +354,10 @@ module _ (site : Site) where
         let v = answered_with site t (invocation_kind i) done.answer in
         record {
           still = λ e. if_not (is_active (moved v.association done.outcome)) v.outgoing e;
-          own = λ service shape is.
-              ap (λ (b : Option ℕ). at_bound site b service)
+          own = λ shape is.
+              ap (λ (b : Option ℕ). at_bound site b)
               (answered_bound t (invocation_kind i) done.answer)
-              ∙ k.own service shape
-              (sym (concludes_shape service u.service channels i r u.moment) ∙ is);
+              ∙ k.own shape (sym (concludes_shape u.service channels i r u.moment) ∙ is);
         }
 
     passing_kept : (said : UserContent) (r : Replied)
@@ -406,7 +372,7 @@ module _ (site : Site) where
         let none = k.still (not_active (bind x) Pass (λ b is. bind_not site b x u.moment is) pass) in
         record {
           still = λ e. none;
-          own = λ service shape is. bound_shape site (bind_judged site x) r.reply service shape is;
+          own = λ shape is. bound_shape site (bind_judged site x) r.reply shape is;
         }
     passing_kept (unbind x) r pass =
         ended_kept (after_passing site (invoked u (unbind x) Pass) (unbind x) r) refl refl
@@ -460,9 +426,9 @@ module _ (site : Site) where
 
   more_leaves : (s : Standing) (message : Option Message) → Leaves s (told_more site s message)
   more_leaves s None =
-      record { association = refl; outgoing = refl; bound = refl; shape = λ service. refl }
+      record { association = refl; outgoing = refl; bound = refl; shape = refl }
   more_leaves s (Some message) =
-      record { association = refl; outgoing = refl; bound = refl; shape = λ service. refl }
+      record { association = refl; outgoing = refl; bound = refl; shape = refl }
 
   report_leaves_it : (s : Standing) (r : Replied) → Leaves s (with_report site s r)
   report_leaves_it s r =
@@ -473,12 +439,12 @@ module _ (site : Site) where
         association = refl;
         outgoing = refl;
         bound = refl;
-        shape = λ service. reports_shape service s.service r s.moment;
+        shape = reports_shape s.service r s.moment;
       }) (more_leaves t told.report))
 
   noticed_leaves : (s : Standing) (notice : Option Notice) → Leaves s (noticed site s notice)
   noticed_leaves s None =
-      record { association = refl; outgoing = refl; bound = refl; shape = λ service. refl }
+      record { association = refl; outgoing = refl; bound = refl; shape = refl }
   noticed_leaves s (Some notice) = more_leaves s (told_by_service s.service notice)
 
   pub unasked_leaves : (r : Replied) (s : Standing) → Leaves s (unasked site r s)
@@ -490,7 +456,7 @@ module _ (site : Site) where
       (if_leaves (may_tell t) t (noticed site t r.notice) (noticed_leaves t r.notice))
       (if_leaves (is_live u.course && not (has_block u) && is_due (pulse_of u) u.moment) u
       (record u { block = spelling beat })
-      (record { association = refl; outgoing = refl; bound = refl; shape = λ service. refl })))
+      (record { association = refl; outgoing = refl; bound = refl; shape = refl })))
 
   -- the service's own step is taken only where it is started
   serves_active : (was started going free : Bool) → ((was && started) && (going && free)) ≡ true
@@ -521,7 +487,7 @@ module _ (site : Site) where
             association = refl;
             outgoing = refl;
             bound = refl;
-            shape = λ service. steps_shape service g s.moment s.service;
+            shape = steps_shape g s.moment s.service;
           }) k)
 
   step_kept : (s : Standing) (next : Next) (now : ℕ) (r : Replied) → IsKept site s

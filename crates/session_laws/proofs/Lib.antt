@@ -9,3 +9,8 @@ mod Starts
 mod Instances
 mod Handing
 mod Sending
+mod Fitting
+mod Due
+mod Owing
+mod Quiet
+mod Reports

@@ -21,8 +21,7 @@ use Rattle.sle_numbers.specs.declared.peer_abort_diagnostic.PeerAbortDiagnostic.
 use Rattle.return_pdu.specs.declared.return_answer.ReturnAnswer.{ReturnAnswer}
 use Rattle.return_pdu.specs.declared.return_answer.ReturnAnswer.TheVariants as given
 use Rattle.sle_common.specs.declared.gvcid.Gvcid.{Gvcid}
-use Rattle.raf_service.specs.Raf.{raf_answer}
-use Rattle.rcf_service.specs.Rcf.{rcf_answer}
+use Rattle.return_service.specs.Instance.{return_answer}
 use Rattle.fcltu_service.specs.declared.answer.CltuAnswer.{CltuAnswer}
 use Rattle.fcltu_service.specs.declared.answer.CltuAnswer.TheVariants as told
 use Rattle.fcltu_service.specs.Service.{answer_of as fcltu_answer}
@@ -60,17 +59,15 @@ use Rattle.session_core.specs.declared.ended.Ended.TheVariants as ended
 use Rattle.session_core.specs.declared.spoken.Spoken.TheVariants as spoken
 use Rattle.session_core.specs.declared.standing.Standing.{Standing}
 use Rattle.session_core.specs.Course.{is_going, is_blocked, has_closed}
-use Rattle.session_core.specs.Inquiry.{Inquiry, only_asks, Replied, reply_in}
+use Rattle.session_services.specs.Inquiry.{Inquiry, only_asks, Replied, reply_in}
 use Rattle.session_core.specs.Message.{UserContent, context, heartbeat, bind, unbind, peer_abort}
 use Rattle.session_core.specs.Message.{invocation, undecoded, out_of_place, judged, kind_of}
 use Rattle.session_core.specs.Message.{message_of}
-use Rattle.session_core.specs.Service.{Invocation, invocation_kind}
-use Rattle.session_core.specs.ReturnServed.{outcome_of}
-use Rattle.session_core.specs.RafServed.{raf_asked}
-use Rattle.session_core.specs.RcfServed.{rcf_asked}
-use Rattle.session_core.specs.FcltuServed.{fcltu_asked, fcltu_outcome}
-use Rattle.session_core.specs.declared.service_state.ServiceState.TheVariants as serves
-use Rattle.session_core.specs.Served.{Served, Message, prepared, concluded_by, dropped_by}
+use Rattle.session_services.specs.Service.{Invocation, invocation_kind}
+use Rattle.session_services.specs.ReturnServed.{outcome_of, return_asked}
+use Rattle.session_services.specs.FcltuServed.{fcltu_asked, fcltu_outcome}
+use Rattle.session_services.specs.declared.service_state.ServiceState.TheVariants as serves
+use Rattle.session_services.specs.Served.{Served, Message, prepared, concluded_by, dropped_by}
 use Rattle.session_core.specs.ServiceSteps.{answered_with, after_stall, is_active, permitted}
 use Rattle.session_core.specs.ServiceSteps.{service_bound, settled}
 use Rattle.session_core.specs.Handling.{bind_judged, bind_ask, bind_outcome, said_ask, is_agreed}
@@ -133,10 +130,8 @@ unfolding concluded_by
 leads_on serves.Nothing channels i r now = refl
 leads_on (serves.Fcltu f) channels i r now =
     forward_leads (fcltu_answer f (fcltu_asked i) r.reply now)
-leads_on (serves.Raf raf) channels i r now =
-    answer_leads (raf_answer (raf_asked i) r.glimpse raf)
-leads_on (serves.Rcf rcf) channels i r now =
-    answer_leads (rcf_answer channels (rcf_asked i) r.glimpse rcf)
+leads_on (serves.Return s) channels i r now =
+    answer_leads (return_answer channels (return_asked i) r.glimpse s)
 
 -- ---- the association
 

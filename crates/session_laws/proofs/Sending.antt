@@ -7,7 +7,7 @@ use Rattle.octet_core.specs.declared.offer.Offer.{Offer}
 use Rattle.octet_core.specs.declared.offer.Offer.TheVariants.{Whole, Stalled, Failed as Refused}
 use Rattle.sle_numbers.specs.declared.peer_abort_diagnostic.PeerAbortDiagnostic.TheVariants as why
 use Rattle.link_model.specs.Calls.{blocks_in}
-use Rattle.return_pdu.specs.declared.service.Service.TheVariants as buffer
+use Rattle.return_pdu.specs.declared.return_kind.ReturnKind.TheVariants as buffer
 use Rattle.station_config.specs.declared.site.Site.{Site}
 use Rattle.assoc_core.specs.State.{moved}
 use Rattle.assoc_core.specs.declared.outcome.Outcome.TheVariants as outcome
@@ -19,13 +19,13 @@ use Rattle.session_core.specs.declared.standing.Standing.{Standing}
 use Rattle.session_core.specs.Course.{is_going, is_live, is_blocked, has_closed}
 use Rattle.session_core.specs.Handling.{aborted, after_passing, concluded, ended_by, invoked}
 use Rattle.session_core.specs.Handling.{is_agreed, is_lost}
-use Rattle.session_core.specs.Inquiry.{Replied, reply_in}
+use Rattle.session_services.specs.Inquiry.{Replied, reply_in}
 use Rattle.session_core.specs.Laws.{ServiceLeaves}
 use Rattle.session_core.specs.Message.{UserContent, context, heartbeat, bind, unbind, peer_abort}
 use Rattle.session_core.specs.Message.{invocation, undecoded, out_of_place, judged}
 use Rattle.session_core.specs.Lists.{start_of, state_after}
-use Rattle.session_core.specs.Served.{concluded_by, dropped_by}
-use Rattle.session_core.specs.Service.{invocation_kind}
+use Rattle.session_services.specs.Served.{concluded_by, dropped_by}
+use Rattle.session_services.specs.Service.{invocation_kind}
 use Rattle.session_core.specs.ServiceSteps.{after_stall, answered_with, has_outgoing, is_active}
 use Rattle.session_core.specs.ServiceSteps.{permitted, settled, with_service}
 use Rattle.session_core.specs.Session.{State, Round, BookAnswer, AreRounds, IsRound, after_round}

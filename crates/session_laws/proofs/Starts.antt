@@ -4,29 +4,26 @@ use Rattle.std.proofs.Common.{Option, Some, None, Ok, Err, Result, List, [], ◌
 use Rattle.std.proofs.Common.{ap, subst, ◌&&◌}
 use Rattle.std.proofs.Common.{◌∙◌, arith}
 use Rattle.std.specs.Prelude.{is_some}
+use Rattle.std.specs.Option.{option_map}
 use Rattle.octet_core.specs.declared.offer.Offer.{Offer}
 use Rattle.sle_numbers.specs.declared.bind_diagnostic.BindDiagnostic.{BindDiagnostic}
 use Rattle.sle_numbers.specs.declared.return_start_diagnostic.ReturnStartDiagnostic.{ReturnStartDiagnostic}
 use Rattle.sle_numbers.specs.declared.peer_abort_diagnostic.PeerAbortDiagnostic.TheVariants.{OtherReason}
-use Rattle.archive_terms.specs.Selection.{by_quality, by_channel}
 use Rattle.archive_terms.specs.Delivery.{Mode, timely, complete, offline, Terms, first_position}
 use Rattle.archive_terms.specs.Delivery.{selection_of}
-use Rattle.return_core.specs.Course.{Course, run_of, with_start}
-use Rattle.return_pdu.specs.Starting.{RafStartContent, RcfStartContent}
+use Rattle.return_core.specs.Course.{Course, run_of}
 use Rattle.return_pdu.specs.declared.return_answer.ReturnAnswer.TheVariants as reply
-use Rattle.return_pdu.specs.declared.service.Service.{Service as ReturnService}
-use Rattle.return_pdu.specs.declared.service.Service.TheVariants as buffer
+use Rattle.return_pdu.specs.declared.return_kind.ReturnKind.{ReturnKind}
 use Rattle.return_service.specs.Answer.{confirmed}
 use Rattle.sle_numbers.specs.ReturnStartDiagnostic.{number_of as start_number}
 use Rattle.return_service.specs.Span.{span_of, moments, moments_unless, refusal as times_refused}
 use Rattle.return_service.specs.declared.span.Span.{Span}
-use Rattle.return_service.specs.Serving.{terms_at}
+use Rattle.return_service.specs.Serving.{Serving}
+use Rattle.return_service.specs.Requested.{may_ask}
+use Rattle.return_service.specs.Instance.{with_start as begun, moments_at, where_permitted}
+use Rattle.return_service.specs.Instance.{terms_of_start}
 use Rattle.sle_common.specs.declared.gvcid.Gvcid.{Gvcid}
-use Rattle.sle_numbers.specs.RequestedFrameQuality.{number_of as quality_number}
-use Rattle.frame_select.specs.Selection.{id_of}
-use Rattle.raf_service.specs.Raf.{Raf, with_start as raf_with, moments_at as raf_moments}
-use Rattle.rcf_service.specs.Rcf.{Rcf, with_start as rcf_with, moments_at as rcf_moments}
-use Rattle.rcf_service.specs.Rcf.{where_permitted, is_permitted}
+use Rattle.frame_select.specs.Selection.{filter_of}
 use Rattle.cds_time.specs.declared.cds.Cds.{Cds}
 use Rattle.archive_terms.specs.Glimpse.{Glimpse}
 use Rattle.isp1_tml.specs.Message.{Content}
@@ -40,18 +37,19 @@ use Rattle.assoc_core.specs.declared.step.Step.{Step}
 use Rattle.assoc_core.specs.declared.step.Step.TheVariants.{Pass, Denied, Abort}
 use Rattle.cltu_queue.specs.declared.book_reply.BookReply.{BookReply}
 use Rattle.session_core.specs.declared.ended.Ended.TheVariants.{PeerClosed, Range}
-use Rattle.session_core.specs.declared.service_state.ServiceState.TheVariants as serves
+use Rattle.session_services.specs.declared.service_state.ServiceState.TheVariants as serves
 use Rattle.session_core.specs.declared.standing.Standing.{Standing}
 use Rattle.session_core.specs.Course.{has_closed}
-use Rattle.session_core.specs.Inquiry.{Replied, reply_in}
+use Rattle.session_services.specs.Inquiry.{Replied, reply_in}
 use Rattle.session_core.specs.Message.{UserContent, context, heartbeat, bind, unbind, peer_abort}
 use Rattle.session_core.specs.Message.{invocation, undecoded, out_of_place, judged}
-use Rattle.session_core.specs.Service.{Invocation, raf_starts, rcf_starts, cltu_starts, transfers}
-use Rattle.session_core.specs.Service.{throws, stops, schedules, gets}
-use Rattle.session_core.specs.Service.{undecoded as no_invocation}
-use Rattle.session_core.specs.Service.{invocation_kind}
-use Rattle.session_core.specs.ReturnServed.{outcome_of}
-use Rattle.session_core.specs.Served.{Served, concluded_by}
+use Rattle.session_services.specs.Service.{Invocation, return_starts, cltu_starts, transfers}
+use Rattle.session_services.specs.Service.{throws, stops, schedules, gets}
+use Rattle.session_services.specs.Service.{undecoded as no_invocation}
+use Rattle.session_services.specs.Service.{invocation_kind}
+use Rattle.session_services.specs.Starting.{Starting}
+use Rattle.session_services.specs.ReturnServed.{outcome_of}
+use Rattle.session_services.specs.Served.{Served, concluded_by}
 use Rattle.session_core.specs.ServiceSteps.{answered_with, is_active, has_outgoing, with_service, led_to}
 use Rattle.session_core.specs.ServiceSteps.{permitted}
 use Rattle.session_core.specs.Handling.{bind_judged, bind_outcome, is_lost, invoked, concluded}
@@ -62,10 +60,12 @@ use Rattle.session_core.specs.Laws.{messages_by}
 use Rattle.session_core.specs.Session.{State, BookAnswer, next_of, stepped, standing_spoke}
 use Rattle.session_core.specs.Session.{standing_sent, spoken_state, before_step}
 use Rattle.session_core.specs.Laws.{ServiceLeaves}
-use Rattle.session_laws.specs.Deliveries.{delivery_of, is_serving, Delivers}
+use Rattle.session_laws.specs.Deliveries.{return_of, is_serving}
 use Rattle.session_laws.specs.Starts.{Wanted, wanted_by, wanted_in, selected, StartsBegin}
 use Rattle.session_laws.specs.Starts.{BegunStands}
-use Rattle.session_laws.proofs.Deliveries.{some_is, serving_active, not_serving, invoked_same}
+use Rattle.session_laws.proofs.Deliveries.{kept_so, kept_of, its_course, its_kind}
+use Rattle.session_laws.proofs.Deliveries.{DeliversAs, so_delivers}
+use Rattle.session_laws.proofs.Deliveries.{serving_active, not_serving, invoked_same}
 use Rattle.session_laws.proofs.Deliveries.{answered_association, answered_outgoing, unasked_tells}
 use Rattle.session_laws.proofs.Deliveries.{untimed, both_serving, same_listened, same_spoke}
 use Rattle.session_laws.proofs.Deliveries.{same_serving, sent_serving, ended_serving, going_back}
@@ -73,17 +73,17 @@ use Rattle.session_laws.proofs.Deliveries.{going_asks, sends_some, ended_deliver
 
 -- ---- what a service makes of a START
 
-record Started (service : ReturnService) (c : Course) (i : Invocation) (front : ℕ)
+record Started (service : ReturnKind) (c : Course) (i : Invocation) (front : ℕ)
     (served : Served) : Type 0 where
   terms : Terms
   wanted : Wanted
-  says : wanted_by service i ≡ Some wanted
+  says : wanted_by i ≡ Some wanted
   selects : terms.selection ≡ selected terms.mode wanted front
   mode : terms.mode ≡ c.mode
   size : terms.size ≡ c.size
   latency : terms.latency ≡ c.latency
   first : terms.selection.first ≤ front
-  delivery : delivery_of service served ≡ Some (record c { run = Some (run_of terms) })
+  delivery : kept_of served ≡ Some (service, record c { run = Some (run_of terms) })
 
 first_seen : (mode : Mode) (start : Option ℕ) (front : ℕ) → first_position mode start front ≤ front
 first_seen timely start front = omega arith
@@ -109,86 +109,59 @@ permitted_are true (Ok own) span e = e
 permitted_are false (Ok own) span e = absurd (cc)
 permitted_are is (Err why) span e = absurd (cc)
 
--- a service whose delivery began with a START of these frames and this span, from what it was
-starts_so : (service : ReturnService) (own c : Course) (i : Invocation) (w : Wanted) (span : Span)
-    (front : ℕ) (served : Served)
-    → Some own ≡ Some c → wanted_by service i ≡ Some w → span ≡ span_of w.start w.stop
-    → delivery_of service served
-    ≡ Some (with_start own (selection_of own.mode w.filter span.start span.stop front))
-    → Started service c i front served
-starts_so service own c i w span front served e says times is =
-    subst (λ (x : Course). Started service x i front served) (some_is own c e) (record {
-      terms = terms_at own w.filter span front;
-      wanted = w;
-      says = says;
+-- an instance whose delivery began with a START of this span, from what it was
+starts_it : (service : ReturnKind) (channels : List Gvcid) (own : Serving) (c : Course)
+    (s : Starting) (g : Glimpse) (j : Result Span ReturnStartDiagnostic)
+    → kept_of (serves.Return own) ≡ Some (service, c) → moments_at channels s.asks g own ≡ j
+    → outcome_of (reply.Start (confirmed start_number j)) ≡ outcome.Started
+    → Started service c (return_starts s) g.front (serves.Return (begun s.asks g.front j own))
+unfolding return_of
+starts_it service channels own c s g (Ok span) e times is =
+    subst (λ (x : Course). Started service x (return_starts s) g.front
+    (serves.Return (begun s.asks g.front (Ok span) own)))
+    (its_course service own c e) (record {
+      terms = terms_of_start s.asks span g.front own;
+      wanted = record {
+        filter = filter_of s.asks.filter;
+        start = s.asks.start;
+        stop = s.asks.stop;
+      };
+      says = refl;
       selects =
-          ap (λ (x : Span). selection_of own.mode w.filter x.start x.stop front) times;
+          ap (λ (x : Span). selection_of own.course.mode (filter_of s.asks.filter) x.start x.stop
+          g.front)
+          (moments_are own.course.mode g.production s.asks.start s.asks.stop span
+          (permitted_are (may_ask channels s.asks.filter)
+          (moments own.course.mode g.production s.asks.start s.asks.stop) span times));
       mode = refl;
       size = refl;
       latency = refl;
-      first = first_seen own.mode span.start front;
-      delivery = is;
+      first = first_seen own.course.mode span.start g.front;
+      delivery = ap (λ (k : ReturnKind). Some (
+        k,
+        record own.course {
+          run = Some (run_of (terms_of_start s.asks span g.front own));
+        },
+      )) (its_kind service own c e);
     })
+starts_it service channels own c s g (Err why) e times is = absurd (cc)
 
-raf_starts_it : (raf : Raf) (c : Course) (s : RafStartContent) (g : Glimpse)
-    (j : Result Span ReturnStartDiagnostic) → delivery_of buffer.Raf (serves.Raf raf) ≡ Some c
-    → raf_moments s g raf ≡ j
-    → outcome_of (reply.Start (confirmed start_number j)) ≡ outcome.Started
-    → Started buffer.Raf c (raf_starts s) g.front (serves.Raf (raf_with s g.front j raf))
-unfolding delivery_of
-raf_starts_it raf c s g (Ok span) e times is =
-    starts_so buffer.Raf raf.serving.course c (raf_starts s) (record {
-      filter = by_quality (quality_number s.quality);
-      start = s.start;
-      stop = s.stop;
-    }) span g.front (serves.Raf (raf_with s g.front (Ok span) raf)) e refl
-    (moments_are raf.serving.course.mode g.production s.start s.stop span times) refl
-raf_starts_it raf c s g (Err why) e times is = absurd (cc)
-
-rcf_starts_it : (channels : List Gvcid) (rcf : Rcf) (c : Course) (s : RcfStartContent)
-    (g : Glimpse) (j : Result Span ReturnStartDiagnostic)
-    → delivery_of buffer.Rcf (serves.Rcf rcf) ≡ Some c → rcf_moments channels s g rcf ≡ j
-    → outcome_of (reply.Start (confirmed start_number j)) ≡ outcome.Started
-    → Started buffer.Rcf c (rcf_starts s) g.front (serves.Rcf (rcf_with s g.front j rcf))
-unfolding delivery_of
-rcf_starts_it channels rcf c s g (Ok span) e times is =
-    starts_so buffer.Rcf rcf.serving.course c (rcf_starts s) (record {
-      filter = by_channel (id_of s.channel);
-      start = s.start;
-      stop = s.stop;
-    }) span g.front (serves.Rcf (rcf_with s g.front (Ok span) rcf)) e refl
-    (moments_are rcf.serving.course.mode g.production s.start s.stop span
-    (permitted_are (is_permitted channels s.channel)
-    (moments rcf.serving.course.mode g.production s.start s.stop) span times)) refl
-rcf_starts_it channels rcf c s g (Err why) e times is = absurd (cc)
-
-starts : (service : ReturnService) (served : Served) (c : Course) (channels : List Gvcid)
+starts : (service : ReturnKind) (served : Served) (c : Course) (channels : List Gvcid)
     (i : Invocation) (r : Replied)
-    (now : ℕ) → delivery_of service served ≡ Some c
+    (now : ℕ) → kept_of served ≡ Some (service, c)
     → (concluded_by served channels i r now).outcome ≡ outcome.Started
     → Started service c i r.glimpse.front (concluded_by served channels i r now).served
-unfolding delivery_of concluded_by
-starts buffer.Raf (serves.Raf raf) c channels (raf_starts s) r now e is =
-    raf_starts_it raf c s r.glimpse (raf_moments s r.glimpse raf) e refl is
-starts buffer.Raf (serves.Raf raf) c channels (rcf_starts s) r now e is = absurd (cc)
-starts buffer.Raf (serves.Raf raf) c channels (cltu_starts s) r now e is = absurd (cc)
-starts buffer.Raf (serves.Raf raf) c channels (transfers t) r now e is = absurd (cc)
-starts buffer.Raf (serves.Raf raf) c channels (throws t) r now e is = absurd (cc)
-starts buffer.Raf (serves.Raf raf) c channels (stops s) r now e is = absurd (cc)
-starts buffer.Raf (serves.Raf raf) c channels (schedules s) r now e is = absurd (cc)
-starts buffer.Raf (serves.Raf raf) c channels (gets g) r now e is = absurd (cc)
-starts buffer.Raf (serves.Raf raf) c channels no_invocation r now e is = absurd (cc)
-starts buffer.Rcf (serves.Rcf rcf) c channels (rcf_starts s) r now e is =
-    rcf_starts_it channels rcf c s r.glimpse (rcf_moments channels s r.glimpse rcf) e refl is
-starts buffer.Rcf (serves.Rcf rcf) c channels (raf_starts s) r now e is = absurd (cc)
-starts buffer.Rcf (serves.Rcf rcf) c channels (cltu_starts s) r now e is = absurd (cc)
-starts buffer.Rcf (serves.Rcf rcf) c channels (transfers t) r now e is = absurd (cc)
-starts buffer.Rcf (serves.Rcf rcf) c channels (throws t) r now e is = absurd (cc)
-starts buffer.Rcf (serves.Rcf rcf) c channels (stops s) r now e is = absurd (cc)
-starts buffer.Rcf (serves.Rcf rcf) c channels (schedules s) r now e is = absurd (cc)
-starts buffer.Rcf (serves.Rcf rcf) c channels (gets g) r now e is = absurd (cc)
-starts buffer.Rcf (serves.Rcf rcf) c channels no_invocation r now e is = absurd (cc)
-starts _ _ c channels i r now e is = absurd (cc)
+unfolding return_of concluded_by
+starts service (serves.Return s) c channels (return_starts i) r now e is =
+    starts_it service channels s c i r.glimpse (moments_at channels i.asks r.glimpse s) e refl is
+starts service (serves.Return s) c channels (cltu_starts i) r now e is = absurd (cc)
+starts service (serves.Return s) c channels (transfers i) r now e is = absurd (cc)
+starts service (serves.Return s) c channels (throws i) r now e is = absurd (cc)
+starts service (serves.Return s) c channels (stops i) r now e is = absurd (cc)
+starts service (serves.Return s) c channels (schedules i) r now e is = absurd (cc)
+starts service (serves.Return s) c channels (gets i) r now e is = absurd (cc)
+starts service (serves.Return s) c channels no_invocation r now e is = absurd (cc)
+starts service _ c channels i r now e is = absurd (cc)
 
 -- ---- a message that starts the service
 
@@ -201,7 +174,7 @@ bind_starts_none : (site : Site) (peer : Option ℕ) (j : Result ℕ BindDiagnos
 bind_starts_none site peer j reply e = grind arith
 
 -- a session that serves behind a message, and didn't before it, was started by it
-record Begun (service : ReturnService) (c : Course) (said : UserContent) (front : ℕ)
+record Begun (service : ReturnKind) (c : Course) (said : UserContent) (front : ℕ)
     (v : Standing) : Type 0 where
   start : Invocation
   so : said ≡ invocation start
@@ -209,14 +182,14 @@ record Begun (service : ReturnService) (c : Course) (said : UserContent) (front 
   outgoing : v.outgoing ≡ []
 
 -- so it was by what came next
-record NextBegun (service : ReturnService) (site : Site) (u : Standing) (c : Course) (next : Next)
+record NextBegun (service : ReturnKind) (site : Site) (u : Standing) (c : Course) (next : Next)
     (front : ℕ) (v : Standing) : Type 0 where
   message : Content
   is : next ≡ Ok (Some message)
   begun : Begun service c (said_to site u message) front v
 
 -- in a round that isn't idle
-record ActedBegun (service : ReturnService) (site : Site) (u : Standing) (c : Course)
+record ActedBegun (service : ReturnKind) (site : Site) (u : Standing) (c : Course)
     (next : Next) (front : ℕ) (v : Standing) : Type 0 where
   busy : is_idle u ≡ false
   begins : NextBegun service site u c next front v
@@ -225,9 +198,9 @@ pub if_none : (b : Bool) (xs : List ℕ) → xs ≡ [] → (if b then xs else []
 if_none true xs e = e
 if_none false xs e = refl
 
-module _ (service : ReturnService) (site : Site) (u : Standing) (c : Course)
+module _ (service : ReturnKind) (site : Site) (u : Standing) (c : Course)
     (still : is_active u.association ≡ false)
-    (none : u.outgoing ≡ []) (delivery : delivery_of service u.service ≡ Some c) where
+    (none : u.outgoing ≡ []) (delivery : kept_of u.service ≡ Some (service, c)) where
   -- what leaves the association
   same_not : (v : Standing) → v.association ≡ u.association → is_serving v ≡ true → ⊥
   same_not v same serving =
@@ -361,7 +334,7 @@ handled_one idle next message e is =
     ap (λ (b : Bool). messages_by (not b && has_message next) next) e
     ∙ ap (λ (n : Next). messages_by (has_message n) n) is
 
-record StepBegins (service : ReturnService) (site : Site) (s : Standing) (next : Next)
+record StepBegins (service : ReturnKind) (site : Site) (s : Standing) (next : Next)
     (c : Course) (front : ℕ) (t : Standing) : Type 0 where
   message : Content
   handled : messages_by (handles s next) next ≡ message ∷ []
@@ -370,9 +343,9 @@ record StepBegins (service : ReturnService) (site : Site) (s : Standing) (next :
   started : Started service c start front t.service
   outgoing : t.outgoing ≡ []
 
-started_on : (service : ReturnService) (c : Course) (i : Invocation) (front : ℕ)
+started_on : (service : ReturnKind) (c : Course) (i : Invocation) (front : ℕ)
     (served later : Served) (h : Started service c i front served)
-    → delivery_of service later ≡ Some (record c { run = Some (run_of h.terms) })
+    → kept_of later ≡ Some (service, record c { run = Some (run_of h.terms) })
     → Started service c i front later
 started_on service c i front served later h is = record {
   terms = h.terms;
@@ -386,10 +359,10 @@ started_on service c i front served later h is = record {
   delivery = is;
 }
 
-step_begins : (service : ReturnService) → ServiceLeaves → (site : Site) (s : Standing)
+step_begins : (service : ReturnKind) → ServiceLeaves → (site : Site) (s : Standing)
     (next : Next) (now : ℕ) (r : Replied)
     (c : Course) → is_active s.association ≡ false → s.outgoing ≡ []
-    → delivery_of service s.service ≡ Some c → is_serving (after_step site s next now r) ≡ true
+    → kept_of s.service ≡ Some (service, c) → is_serving (after_step site s next now r) ≡ true
     → StepBegins service site s next c r.glimpse.front (after_step site s next now r)
 step_begins service leaves site s next now r c still none delivery serving =
     let u = at_moment s now in
@@ -406,7 +379,7 @@ step_begins service leaves site s next now r c still none delivery serving =
     let h = begun.started in
     let tells =
     unasked_tells service site r w (record c { run = Some (run_of h.terms) })
-    (ap (λ (y : Standing). delivery_of service y.service) alive.0 ∙ h.delivery) in
+    (ap (λ (y : Standing). kept_of y.service) alive.0 ∙ h.delivery) in
     let last : after_step site s next now r ≡ x =
     ap (λ (b : Bool). with_service site b r.glimpse x) still in
     subst (StepBegins service site s next c r.glimpse.front) (sym last) (record {
@@ -425,24 +398,24 @@ no_message s e has =
     let no : has_outgoing s ≡ false = ap (λ (x : List ℕ). not (length x == 0)) e in
     absurd (cc (no, has))
 
-empty_delivers : (service : ReturnService) (s : Standing) (c : Course) → s.outgoing ≡ []
-    → delivery_of service s.service ≡ Some c
-    → Delivers service s c
+empty_delivers : (service : ReturnKind) (s : Standing) (c : Course) → s.outgoing ≡ []
+    → kept_of s.service ≡ Some (service, c)
+    → DeliversAs service s c
 empty_delivers service s c e d = record {
   delivery = d;
   offers = λ has. absurd (no_message s e has);
   message = λ has. absurd (no_message s e has);
 }
 
-unsent_delivers : (service : ReturnService) (s : Standing) (c : Course) (sent : Option Offer)
+unsent_delivers : (service : ReturnKind) (s : Standing) (c : Course) (sent : Option Offer)
     → s.outgoing ≡ []
-    → Delivers service s c → (is_some sent ≡ true → has_outgoing s ≡ true)
-    → Delivers service (standing_sent s sent) c
+    → DeliversAs service s c → (is_some sent ≡ true → has_outgoing s ≡ true)
+    → DeliversAs service (standing_sent s sent) c
 unsent_delivers service s c None e d has =
     record { delivery = d.delivery; offers = d.offers; message = d.message }
 unsent_delivers service s c (Some said) e d has = absurd (no_message s e (has refl))
 
-record PartBegins (service : ReturnService) (site : Site) (t : State) (asked_so : Option BookAnswer)
+record PartBegins (service : ReturnKind) (site : Site) (t : State) (asked_so : Option BookAnswer)
     (spoke sent : Option Offer) (c : Course) : Type 0 where
   told : BookAnswer
   asked : asked_so ≡ Some told
@@ -454,16 +427,16 @@ record PartBegins (service : ReturnService) (site : Site) (t : State) (asked_so 
   message : Content
   handled : messages_by (handles t.standing (next_of t)) (next_of t) ≡ message ∷ []
   wanted : Wanted
-  says : wanted_in service (said_to site t.standing message) ≡ Some wanted
+  says : wanted_in (said_to site t.standing message) ≡ Some wanted
   selects : terms.selection ≡ selected terms.mode wanted told.answer.glimpse.front
-  delivers : Delivers service (spoken_state (stepped site t asked_so) spoke sent).standing
+  delivers : DeliversAs service (spoken_state (stepped site t asked_so) spoke sent).standing
       (record c { run = Some (run_of terms) })
 
-told_begins : (service : ReturnService) → ServiceLeaves → (site : Site) (t : State)
+told_begins : (service : ReturnKind) → ServiceLeaves → (site : Site) (t : State)
     (told : Option BookAnswer)
     (spoke sent : Option Offer) (c : Course) → is_some told ≡ true
     → is_active t.standing.association ≡ false → t.standing.outgoing ≡ []
-    → delivery_of service t.standing.service ≡ Some c
+    → kept_of t.standing.service ≡ Some (service, c)
     → is_some sent ≡ may_send (standing_spoke (stepped site t told).standing spoke)
     → is_serving (spoken_state (stepped site t told) spoke sent).standing ≡ true
     → PartBegins service site t told spoke sent c
@@ -491,25 +464,28 @@ told_begins service leaves site t (Some told) spoke sent c some still none deliv
       message = begun.message;
       handled = begun.handled;
       wanted = h.wanted;
-      says = ap (wanted_in service) begun.so ∙ h.says;
+      says = ap wanted_in begun.so ∙ h.says;
       selects = h.selects;
       delivers =
           ended_delivers service (standing_sent z sent) k
           (unsent_delivers service z k sent out
           (empty_delivers service z k out
-          (ap (delivery_of service) (same_spoke y spoke).service ∙ h.delivery))
+          (ap kept_of (same_spoke y spoke).service ∙ h.delivery))
           (λ some. sends_some z (sym sends ∙ some)));
     }
 
 pub starts_begin : ServiceLeaves → StartsBegin
-starts_begin leaves service site s r c is still none delivery serving =
+starts_begin leaves site s r own is still none kept serving =
     let t = before_step s r in
+    let service = own.kind in
+    let c = own.course in
     let same = same_listened s r.waited r.heard in
     let going = going_back service leaves [] site t r serving in
+    let delivery : kept_of s.standing.service ≡ Some (service, c) = ap (option_map kept_so) kept in
     let all =
     told_begins service leaves site t r.told r.spoke r.sent c
     (going_asks t.standing.course r.told is.asks going) (ap is_active same.association ∙ still)
-    (same.outgoing ∙ none) (ap (delivery_of service) same.service ∙ delivery) is.speaks.sends serving in
+    (same.outgoing ∙ none) (ap kept_of same.service ∙ delivery) is.speaks.sends serving in
     record {
       told = all.told;
       asked = all.asked;
@@ -525,7 +501,11 @@ starts_begin leaves service site s r c is still none delivery serving =
         says = all.says;
         selects = all.selects;
       };
-      delivers = all.delivers;
+      delivers =
+          so_delivers service
+          (spoken_state (stepped site t r.told) r.spoke r.sent).standing
+          (record c { run = Some (run_of all.terms) }) all.delivers;
+      kind = refl;
     }
 
 pub begun_stands : BegunStands

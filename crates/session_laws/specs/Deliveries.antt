@@ -1,38 +1,35 @@
 -- What a START of a session hands its link: by the session's rounds, what the delivery does in them.
 use Rattle.std.specs.Prelude.{◌≡◌, ℕ, ◌≤◌, Bool, true, not, ◌&&◌, if◌then◌else◌, Option, Some, None}
 use Rattle.std.specs.Prelude.{false, is_some, List, [], ◌∷◌, ◌++◌, length, take, IsTrue, IsFalse}
-use Rattle.std.specs.List.{list_any}
 use Rattle.std.specs.Option.{option_map, option_map_or, option_to_list}
 use mathlib.Core.List.{IsPrefix}
 use Rattle.octet_core.specs.declared.offer.Offer.{Offer}
 use Rattle.archive_terms.specs.Archive.{Entry, IsArchive}
-use Rattle.archive_terms.specs.Selection.{picked, is_stop_closed}
-use Rattle.archive_terms.specs.Delivery.{Terms, Mode, is_timely, entries_of, is_end_of_data}
-use Rattle.archive_terms.specs.Delivery.{archived_items, end_of_data, started}
-use Rattle.archive_terms.specs.Rounds.{Round as DeliveryRound, Outcome, outcomes, handed_items}
-use Rattle.archive_terms.specs.Rounds.{settled_items, without_backlog, last_front, to_hand_over}
-use Rattle.archive_terms.specs.Rounds.{TimelyShape}
+use Rattle.archive_terms.specs.Delivery.{Terms, Mode, is_timely, started}
+use Rattle.archive_terms.specs.Rounds.{Round as DeliveryRound, Outcome, outcomes, last_front}
 use Rattle.archive_terms.specs.Glimpse.{glimpse}
 use Rattle.archive_terms.specs.Placed.{ToldItem}
 use Rattle.frame_select.specs.Glimpse.{as_said}
-use Rattle.return_core.specs.Course.{Course, is_offering, held_of, with_step}
+use Rattle.return_core.specs.Course.{Course, is_offering, held_of}
 use Rattle.return_core.specs.Mode.{answer_of}
 use Rattle.return_core.specs.Visits.{Visit, passed, stepped, after_visits, visits_handed, visits_done}
 use Rattle.return_core.specs.Visits.{discards_told, AreLooks, rounds_of, VisitsStand}
-use Rattle.return_core.specs.Standing.{all_go_on, StandsFor}
-use Rattle.return_pdu.specs.declared.service.Service.{Service as ReturnService}
-use Rattle.return_pdu.specs.declared.service.Service.TheVariants as buffer
+use Rattle.return_core.specs.Promise.{IsComplete, IsTimely}
+use Rattle.return_core.specs.Standing.{all_go_on, StandsFor, at_front}
+use Rattle.return_pdu.specs.declared.return_kind.ReturnKind.{ReturnKind}
+use Rattle.return_service.specs.Serving.{Serving}
 use Rattle.buffer_message.specs.Signing.{Signing}
 use Rattle.buffer_message.specs.Fitting.{fits_message}
 use Rattle.buffer_message.specs.Message.{message_octets}
+use Rattle.buffer_message.specs.declared.limits.TheConstants.{MOST_ITEMS}
 use Rattle.link_model.specs.Calls.{blocks_in}
 use Rattle.station_config.specs.declared.site.Site.{Site}
 use Rattle.station_book.specs.State.{State as Book, Event}
 use Rattle.station_book.specs.History.{IsLegal, replay}
-use Rattle.session_core.specs.declared.service_state.ServiceState.TheVariants.{Raf, Rcf}
+use Rattle.session_services.specs.declared.service_state.ServiceState.TheVariants.{Return}
 use Rattle.session_core.specs.declared.standing.Standing.{Standing}
 use Rattle.session_core.specs.Course.{is_going, is_blocked}
-use Rattle.session_core.specs.Served.{Served}
+use Rattle.session_services.specs.Served.{Served}
 use Rattle.session_core.specs.ServiceSteps.{is_active, has_outgoing}
 use Rattle.session_core.specs.Steps.{has_block, inquiry_at}
 use Rattle.session_core.specs.Session.{State, Round, BookAnswer, next_of, standing_spoke, send_calls}
@@ -42,11 +39,17 @@ use Rattle.session_laws.specs.Losing.{own_in}
 
 -- ---- the delivery of a session
 
--- the delivery that a bound instance of this service keeps
-unfoldable pub delivery_of : ReturnService → Served → Option Course
-delivery_of buffer.Raf (Raf r) = Some r.serving.course
-delivery_of buffer.Rcf (Rcf r) = Some r.serving.course
-delivery_of _ _ = None
+-- what a bound instance of a return service keeps
+unfoldable pub return_of : Served → Option Serving
+return_of (Return r) = Some r
+return_of _ = None
+
+-- which of the return services it is one of, and its delivery
+abbrev pub kind_in : Served → Option ReturnKind
+kind_in served = option_map (λ r. r.kind) (return_of served)
+
+abbrev pub delivery_of : Served → Option Course
+delivery_of served = option_map (λ r. r.course) (return_of served)
 
 -- the session goes on, and its service is started
 abbrev pub is_serving : Standing → Bool
@@ -60,27 +63,29 @@ ServesOn site s (r ∷ rounds) =
 
 -- ---- what its rounds do
 
--- the octets are the message of these items, which go into one, as a buffer of this service, by
--- somebody who signs them or by nobody
-pub record IsMessageOf (service : ReturnService) (octets : List ℕ) (items : List ToldItem)
-    : Type 0 where
+-- the octets are the message of these items, which go into one, as a buffer of this kind of
+-- service, by somebody who signs them or by nobody
+pub record IsMessageOf (kind : ReturnKind) (octets : List ℕ) (items : List ToldItem) : Type 0 where
   pub by : Option Signing
   pub first : ℕ
-  pub octets_are : octets ≡ message_octets service by first items
+  pub octets_are : octets ≡ message_octets kind by first items
   pub fits : IsTrue (fits_message items)
 
 -- each is the message of its buffer
-abbrev pub AreMessagesOf : ReturnService → List (List ℕ) → List (List ToldItem) → Type 0
-AreMessagesOf service [] [] = Unit {0}
-AreMessagesOf service (octets ∷ more) (items ∷ buffers) =
-    IsMessageOf service octets items × AreMessagesOf service more buffers
+abbrev pub AreMessagesOf : ReturnKind → List (List ℕ) → List (List ToldItem) → Type 0
+AreMessagesOf kind [] [] = Unit {0}
+AreMessagesOf kind (octets ∷ more) (items ∷ buffers) =
+    IsMessageOf kind octets items × AreMessagesOf kind more buffers
 AreMessagesOf _ _ _ = ⊥
 
--- what is kept to be offered is the message of the buffer that the delivery holds fixed
-pub record Delivers (service : ReturnService) (s : Standing) (c : Course) : Type 0 where
-  pub delivery : delivery_of service s.service ≡ Some c
+-- an instance of this kind keeps this delivery, and what is kept to be offered is the message of
+-- the buffer that the delivery holds fixed
+pub record Delivers (s : Standing) (c : Course) : Type 0 where
+  pub kind : ReturnKind
+  pub is_kind : kind_in s.service ≡ Some kind
+  pub delivery : delivery_of s.service ≡ Some c
   pub offers : has_outgoing s ≡ true → IsTrue (is_offering c)
-  pub message : has_outgoing s ≡ true → IsMessageOf service s.outgoing (held_of c)
+  pub message : has_outgoing s ≡ true → IsMessageOf kind s.outgoing (held_of c)
 
 -- a round is a visit: where a block of an earlier round waits it passes, else the delivery takes a
 -- step on the round's look, and is answered where its message was offered
@@ -152,13 +157,15 @@ SeesPublished =
 -- In rounds in which a session serves, it stands for the delivery's visits: their looks are those
 -- that the delivery wants; what the link took whole is, message by message, what they hand over;
 -- what was dropped is what they discard; and what waits is a message of what the delivery holds.
-pub record AreDelivered (service : ReturnService) (site : Site) (s : State) (c : Course)
-    (entries : List Entry) (from : ℕ) (rounds : List Round) : Type 0 where
+pub record AreDelivered (site : Site) (s : State) (c : Course) (entries : List Entry) (from : ℕ)
+    (rounds : List Round) : Type 0 where
+  pub kind : ReturnKind
+  pub is_kind : kind_in s.standing.service ≡ Some kind
   pub looks : AreLooks entries from c (visits_of site s rounds)
   pub goes_on : IsTrue (all_go_on (rounds_of (visits_of site s rounds)))
-  pub now : Delivers service (after_rounds site s rounds).standing
+  pub now : Delivers (after_rounds site s rounds).standing
       (after_visits (visits_of site s rounds) c)
-  pub handed : AreMessagesOf service (sent_of site s rounds)
+  pub handed : AreMessagesOf kind (sent_of site s rounds)
       (visits_handed (visits_of site s rounds) c)
   pub dropped : dropped_of site s rounds
       ≡ discards_told (visits_done (visits_of site s rounds) c)
@@ -166,49 +173,45 @@ pub record AreDelivered (service : ReturnService) (site : Site) (s : State) (c :
 -- the law: over any rounds in which a session with a delivery serves, which see these entries
 abbrev pub AreVisits : Type 0
 AreVisits =
-    (service : ReturnService) (entries : List Entry) (site : Site) (rounds : List Round) (s : State)
-    (c : Course) (from : ℕ) → Delivers service s.standing c → ServesOn site s rounds
-    → AreRounds site s rounds → SeeEntries entries from site s rounds
-    → AreDelivered service site s c entries from rounds
+    (entries : List Entry) (site : Site) (rounds : List Round) (s : State) (c : Course) (from : ℕ)
+    → Delivers s.standing c → ServesOn site s rounds → AreRounds site s rounds
+    → SeeEntries entries from site s rounds → AreDelivered site s c entries from rounds
 
 -- ---- a buffer that is due
 
--- a buffer is fixed, and goes into one message
-abbrev pub is_due_to_offer : Course → Bool
-is_due_to_offer c = is_offering c && fits_message (held_of c)
-
--- Behind a round in which a session served and no block of an earlier round waits, its buffer was
--- offered exactly where it is due after the round's step and no block of its own waits. One that was
--- taken whole is handed over in the round's visit.
+-- A delivery stood for rounds. After one more, in which its session served and no block of an
+-- earlier round waits, its buffer was offered exactly where its START is due one and no block of the
+-- round's own waits, whatever the buffer holds. One that was taken whole is handed over in the
+-- round's visit.
 abbrev pub DueIsOffered : Type 0
 DueIsOffered =
-    (service : ReturnService) (site : Site) (s : State) (r : Round) (c : Course) (told : BookAnswer)
-    → IsRound site s r → Delivers service s.standing c → is_serving s.standing ≡ true
+    (entries : List Entry) (site : Site) (s : State) (r : Round) (c : Course) (t : Terms)
+    (earlier : List DeliveryRound) (told : BookAnswer)
+    → IsRound site s r → StandsFor c t entries earlier → t.size ≤ MOST_ITEMS
+    → Delivers s.standing c → is_serving s.standing ≡ true
     → is_serving (after_round site s r).standing ≡ true → r.told ≡ Some told
+    → IsLookAt entries (last_front t.selection.first earlier) site (before_step s r) (Some told)
     → is_blocked (before_step s r).standing.arrival ≡ false
     → is_some r.sent
     ≡ (not (has_block (standing_spoke (before_speak site s r).standing r.spoke))
-    && is_due_to_offer (with_step c told.answer.glimpse told.moment))
+    && (at_front t entries earlier told.answer.glimpse.front told.moment).fixed)
 
 -- ---- a START
 
 -- Where the delivery stood for rounds since its START, it stands for these and those of its visits,
 -- over the same entries; and what the link took whole is what it hands over in them.
-pub record StartDelivers (service : ReturnService) (site : Site) (s : State) (c : Course)
-    (t : Terms) (entries : List Entry) (earlier : List DeliveryRound) (rounds : List Round)
-    : Type 0 where
-  pub delivered : AreDelivered service site s c entries (last_front t.selection.first earlier)
-      rounds
+pub record StartDelivers (site : Site) (s : State) (c : Course) (t : Terms) (entries : List Entry)
+    (earlier : List DeliveryRound) (rounds : List Round) : Type 0 where
+  pub delivered : AreDelivered site s c entries (last_front t.selection.first earlier) rounds
   pub stand : VisitsStand c t entries earlier (visits_of site s rounds)
 
 abbrev pub StartsDeliver : Type 0
 StartsDeliver =
-    (service : ReturnService) (entries : List Entry) (site : Site) (rounds : List Round) (s : State)
-    (c : Course) (t : Terms) (earlier : List DeliveryRound)
-    → StandsFor c t entries earlier → Delivers service s.standing c → ServesOn site s rounds
-    → AreRounds site s rounds
+    (entries : List Entry) (site : Site) (rounds : List Round) (s : State) (c : Course) (t : Terms)
+    (earlier : List DeliveryRound) → StandsFor c t entries earlier → Delivers s.standing c
+    → ServesOn site s rounds → AreRounds site s rounds
     → SeeEntries entries (last_front t.selection.first earlier) site s rounds
-    → StartDelivers service site s c t entries earlier rounds
+    → StartDelivers site s c t entries earlier rounds
 
 -- what a START's delivery did in the session's rounds behind it
 abbrev pub done_in_rounds : Site → State → Terms → List Entry → List Round → List Outcome
@@ -220,32 +223,12 @@ abbrev pub seen_and_later : Site → State → List Entry → List Round → Lis
 seen_and_later site s entries rounds later =
     take (last_front 0 (rounds_of (visits_of site s rounds))) entries ++ later
 
--- What a complete or offline START handed over is, in order and each once, the first of what it
--- picks of the archive and of each longer one; with end of data it is all of that, behind a closed
--- stop.
-pub record IsComplete (t : Terms) (archive : List Entry) (done : List Outcome) : Type 0 where
-  pub items : take (length (handed_items done)) (to_hand_over t archive) ≡ handed_items done
-  pub picks : take (length (entries_of (handed_items done))) (picked archive t.selection)
-      ≡ entries_of (handed_items done)
-  pub end : IsTrue (list_any is_end_of_data (handed_items done))
-      → IsTrue (is_stop_closed t.selection archive)
-      × (handed_items done ≡ archived_items (picked archive t.selection) ++ end_of_data ∷ [])
-
--- What a timely START handed over and discarded is, in order, the first of what it picks, and each
--- discard is told before the next buffer that is handed over.
-pub record IsTimely (t : Terms) (archive : List Entry) (done : List Outcome) : Type 0 where
-  pub shape : TimelyShape (to_hand_over t archive) done
-  pub end : IsTrue (list_any is_end_of_data (handed_items done))
-      → IsTrue (is_stop_closed t.selection archive)
-      × (without_backlog (settled_items done)
-      ≡ archived_items (picked archive t.selection) ++ end_of_data ∷ [])
-
 -- From a START on, over any rounds in which its session serves.
 abbrev pub FromStart : (Terms → List Entry → List Outcome → Type 0) → (Mode → Type 0) → Type 0
 FromStart Is Has =
-    (service : ReturnService) (entries later : List Entry) (site : Site) (rounds : List Round)
-    (s : State) (c : Course) (t : Terms) → StandsFor c t entries [] → Delivers service s.standing c
-    → ServesOn site s rounds → AreRounds site s rounds
+    (entries later : List Entry) (site : Site) (rounds : List Round) (s : State) (c : Course)
+    (t : Terms) → StandsFor c t entries [] → Delivers s.standing c → ServesOn site s rounds
+    → AreRounds site s rounds
     → SeeEntries entries t.selection.first site s rounds → Has t.mode
     → IsArchive (seen_and_later site s entries rounds later)
     → Is t (seen_and_later site s entries rounds later) (done_in_rounds site s t entries rounds)

@@ -3,3 +3,7 @@ pub mod Deliveries
 pub mod Starts
 pub mod Instances
 pub mod Handing
+pub mod Fitting
+pub mod Owing
+pub mod Quiet
+pub mod Reports

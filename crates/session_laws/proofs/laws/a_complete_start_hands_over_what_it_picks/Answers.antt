@@ -4,19 +4,19 @@ use Rattle.return_core.specs.Visits.{after_visits, rounds_of}
 use Rattle.session_laws.proofs.laws.a_complete_start_hands_over_what_it_picks.Goals as goal
 
 pub returns : goal.returns
-returns c = λ service entries later site rounds s course t stood d serves are sees mode archive.
+returns c = λ entries later site rounds s course t stood d serves are sees mode archive.
     let visits = visits_of site s rounds in
     let stands =
-    start_stands c.a_service_leaves_its_session.ensures c.each_visit_stands.ensures service entries site
+    start_stands c.a_service_leaves_its_session.ensures c.each_visit_stands.ensures entries site
     rounds s course t stood d serves are sees in
     let now = after_visits visits course in
     record {
       items =
           c.complete_rounds.ensures.items now t entries later (rounds_of visits) stands mode archive;
-      picks =
+      entries =
           c.complete_rounds.ensures.entries now t entries later (rounds_of visits) stands mode
           archive;
-      end =
+      only_after_all =
           c.complete_rounds.ensures.end_of_data now t entries later (rounds_of visits) stands mode
           archive;
     }

@@ -9,5 +9,8 @@ returns c = starts_hand_over (record {
   delivers = c.what_a_start_hands_over_is_delivered.ensures;
   complete = c.a_complete_start_hands_over_what_it_picks.ensures;
   timely = c.a_timely_start_tells_what_it_discards.ensures;
+  owes = c.what_a_session_owes_comes.ensures.owed;
+  ready = c.what_a_session_owes_comes.ensures.ready;
+  due = c.a_due_buffer_is_offered.ensures;
   front_is = c.a_wanted_look_is_one_at_its_front.ensures.front;
 })
