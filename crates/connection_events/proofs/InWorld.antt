@@ -6,7 +6,6 @@ use Rattle.std.proofs.lemmas.Bool.Decides.{nat_tests}
 use Rattle.archive_terms.specs.Delivery.{started}
 use Rattle.archive_terms.specs.Rounds.{Round as DeliveryRound, Outcome, outcomes}
 use Rattle.return_core.specs.Visits.{rounds_of}
-use Rattle.return_pdu.specs.declared.service.Service.{Service as ReturnService}
 use Rattle.station_config.specs.declared.site.Site.{Site}
 use Rattle.drill_text.specs.Reading.{reading, AreExact}
 use Rattle.drill_text.specs.declared.script_line.ScriptLine.{ScriptLine}
@@ -48,10 +47,10 @@ names_users exact line c is =
     not_desk c (((exact.read line (Open c)).0 is).0.0)
 
 -- a START behind which no round follows those that it serves is served at the end
-serves_whole : (service : ReturnService) (b : Began) (rounds : List Round) (a : SessionStart)
-    → IsStart service b rounds a → a.later ≡ []
+serves_whole : (b : Began) (rounds : List Round) (a : SessionStart)
+    → IsStart b rounds a → a.later ≡ []
     → is_serving (after_rounds b.site (start_of b) rounds).standing ≡ true
-serves_whole service b rounds a is none =
+serves_whole b rounds a is none =
     let site = b.site in
     let t = begun_by b a in
     let same : after_rounds site (start_of b) rounds ≡ after_rounds site t a.serving =
@@ -77,8 +76,8 @@ module _ {L : Type 0} (reads : L → Option ScriptLine) where
         ap (λ (w : World). slice_get (lives w) (length is.shows.past)) is.shows.is
         ∙ last_there is.shows.past its_life
 
-    module _ (service : ReturnService) (b : Began) (a : SessionStart) (s : Start)
-        (one : IsIt service b a s)
+    module _ (b : Began) (a : SessionStart) (s : Start)
+        (one : IsIt b a s)
         (stands : Stands (users_after reads (new_world site) [] first) s) where
       in_life : Stands its_life.starts s
       in_life =
@@ -92,7 +91,7 @@ module _ {L : Type 0} (reads : L → Option ScriptLine) where
       abbrev Done : List DeliveryRound → List Outcome
       Done rounds = outcomes s.terms (book its_life).published rounds started
 
-      pub is_start : IsStartOf service b a (world_behind reads site (first ++ more))
+      pub is_start : IsStartOf b a (world_behind reads site (first ++ more))
       is_start = record {
         place = length is.shows.past;
         life = its_life;
@@ -100,6 +99,7 @@ module _ {L : Type 0} (reads : L → Option ScriptLine) where
         number = in_life.0;
         start = s;
         there = in_life.1;
+        kind = one.kind;
         door = one.door;
         told = one.told;
         asked = one.asked;
@@ -139,7 +139,7 @@ module _ {L : Type 0} (reads : L → Option ScriptLine) where
       (are_there : StartsAreThere) (world : AreInWorld reads)
       (names : (line : L) (c : ℕ) → reads line ≡ Some (Open c) → IsUsers c) where
     pub in_world : StartsAreInWorld reads
-    in_world site earlier later line c valid says free brings service a is =
+    in_world site earlier later line c valid says free brings a is =
         let before = state_behind reads site earlier in
         let opening = (step before (Open c)).next in
         let fresh = opened c before.clock in
@@ -158,8 +158,7 @@ module _ {L : Type 0} (reads : L → Option ScriptLine) where
         let right : AreRounds site (start_of b) rounds =
         subst (λ (x : Site). AreRounds x (start_of b) (rounds_by x c fresh deeds)) same
         (sessions.lives opening c before.clock later at brings).right in
-        let left_so = are_there b rounds (its reads sessions owns may c users left) valid right service a
-        is in
+        let left_so = are_there b rounds (its reads sessions owns may c users left) valid right a is in
         let has = left_so.has in
         let reached = reaches reads sessions owns may c users later opening fresh left at in
         let lines = earlier ++ line ∷ reached.first in
@@ -187,7 +186,7 @@ module _ {L : Type 0} (reads : L → Option ScriptLine) where
         let ends : a.later ≡ [] → Breaks reads last reached.more =
         λ none. subst (λ (x : State). Breaks reads x reached.more) (sym last_is)
         (reached.rests (subst (λ (x : Site). serves c x (Some fresh) deeds ≡ true) (sym same)
-        (serves_whole service b rounds a is none))) in
+        (serves_whole b rounds a is none))) in
         let lasting = lasts reads reached.more last has.start all stands.0 stands.1 in
         let whole : (lines ++ lasting.first) ++ lasting.more ≡ earlier ++ line ∷ later =
         append_assoc lines lasting.first lasting.more
@@ -202,14 +201,14 @@ module _ {L : Type 0} (reads : L → Option ScriptLine) where
         → slice_get (users_after reads last all lasting.first) stands.0 ≡ Some has.start =
         λ these. ⊎_elim (λ none. lasting.at_once (ends none)) (λ ended. lasting.still.leaves ended)
         (left_so.over these) in
-        let one = it_stays service b a has.start (users_after reads last all lasting.first) stands.0
+        let one = it_stays b a has.start (users_after reads last all lasting.first) stands.0
         has.is now (λ these. ap (λ (x : Start). x.rounds)
         (one_at (slice_get (users_after reads last all lasting.first) stands.0) now.start has.start
         now.there (kept these))) in
-        subst (λ (xs : List L). IsStartOf service b a (world_behind reads site xs)) whole
+        subst (λ (xs : List L). IsStartOf b a (world_behind reads site xs)) whole
         (is_start site (lines ++ lasting.first) lasting.more
         (world site (lines ++ lasting.first) lasting.more)
         (subst (λ (x : State). Breaks reads x lasting.more)
         (sym (after_both lines lasting.first (new_world site))) lasting.breaks)
-        service b a now.start one
+        b a now.start one
         (subst (λ (xs : List Start). Stands xs now.start) (sym users_then) (stands.0, now.there)))

@@ -20,6 +20,7 @@ use Rattle.station_world.specs.World.{World, before_all, lives, in_the_dark, res
 use Rattle.station_world.specs.World.{begins_store, ends_store, reopens, calls, starts, makes_round}
 use Rattle.station_world.specs.World.{ends_start, sends, reads as reads_clock, loses_power, restarts}
 use Rattle.station_world.specs.World.{after_event, after_events}
+use Rattle.station_world.proofs.Moments.{after_both}
 use Rattle.line_events.specs.Forms.{finding_of, store_events, struck_events, power_events, first_events}
 use Rattle.script_store.specs.declared.order.Order.{Order}
 use Rattle.script_store.specs.declared.order.Strike.{Strike}
@@ -34,139 +35,136 @@ use Rattle.station_law.specs.Doors.{Acted, act}
 use Rattle.station_law.specs.Lines.{connected, uplinked, turn_at, step, step_read, offered}
 use Rattle.station_law.specs.Runs.{after}
 use Rattle.station_law.specs.State.{State, start as new_world}
-use Rattle.script_world.specs.Events.{struck_by, stored_under, by_refusal, entry_line}
+use Rattle.script_world.specs.Events.{origin, struck_by, stored_under, by_refusal, entry_line}
 use Rattle.script_world.specs.Events.{events_of, events_read}
-use Rattle.script_world.specs.Script.{origin, answers, events_from, world_behind}
+use Rattle.script_world.specs.Script.{answers, events_from, world_behind}
 use Rattle.connection_events.proofs.Lists.{begins_both}
 use Rattle.connection_events.proofs.Staying.{Breaks}
 
 -- ---- past lives
 
-module _ (o : Opening) where
-  same_past : (w : World) (entries : Option (List Entry)) → (restarted o w entries).past ≡ w.past
-  same_past w None = refl
-  same_past w (Some entries) = refl
+same_past : (o : Opening) (w : World) (entries : Option (List Entry)) → (restarted o w entries).past ≡ w.past
+same_past o w None = refl
+same_past o w (Some entries) = refl
 
-  nothing_more : (w v : World) → v.past ≡ w.past → Begins w.past v.past
-  nothing_more w v is = ([], is ∙ sym (append-nil w.past))
+nothing_more : (w v : World) → v.past ≡ w.past → Begins w.past v.past
+nothing_more w v is = ([], is ∙ sym (append-nil w.past))
 
-  past_stays : (e : Event) (w : World) → Begins w.past (after_event o w e).past
-  past_stays (offers entry) w = nothing_more w (after_event o w (offers entry)) refl
-  past_stays begins_store w = nothing_more w (after_event o w begins_store) refl
-  past_stays (ends_store good) w = nothing_more w (after_event o w (ends_store good)) refl
-  past_stays (reopens finding) w = nothing_more w (after_event o w (reopens finding)) refl
-  past_stays (calls call) w = nothing_more w (after_event o w (calls call)) refl
-  past_stays (starts a) w = nothing_more w (after_event o w (starts a)) refl
-  past_stays (makes_round place r) w = nothing_more w (after_event o w (makes_round place r)) refl
-  past_stays (ends_start place) w = nothing_more w (after_event o w (ends_start place)) refl
-  past_stays (sends good) w = nothing_more w (after_event o w (sends good)) refl
-  past_stays (reads_clock moment) w = nothing_more w (after_event o w (reads_clock moment)) refl
-  past_stays loses_power w = (option_to_list w.now, refl)
-  past_stays (restarts finding) w =
-      nothing_more w (after_event o w (restarts finding)) (same_past w (found_by w.file finding))
+past_stays : (e : Event) (w : World) → Begins w.past (after_event w e).past
+past_stays (offers entry) w = nothing_more w (after_event w (offers entry)) refl
+past_stays begins_store w = nothing_more w (after_event w begins_store) refl
+past_stays (ends_store good) w = nothing_more w (after_event w (ends_store good)) refl
+past_stays (reopens finding) w = nothing_more w (after_event w (reopens finding)) refl
+past_stays (calls call) w = nothing_more w (after_event w (calls call)) refl
+past_stays (starts a) w = nothing_more w (after_event w (starts a)) refl
+past_stays (makes_round place r) w = nothing_more w (after_event w (makes_round place r)) refl
+past_stays (ends_start place) w = nothing_more w (after_event w (ends_start place)) refl
+past_stays (sends good) w = nothing_more w (after_event w (sends good)) refl
+past_stays (reads_clock moment) w = nothing_more w (after_event w (reads_clock moment)) refl
+past_stays loses_power w = (option_to_list w.now, refl)
+past_stays (restarts o finding) w =
+    nothing_more w (after_event w (restarts o finding)) (same_past o w (found_by w.file finding))
 
-  past_lasts : (events : List Event) (w : World) → Begins w.past (after_events o w events).past
-  past_lasts [] w = nothing_more w w refl
-  past_lasts (e ∷ events) w =
-      let next = after_event o w e in
-      begins_both w.past next.past (after_events o next events).past (past_stays e w)
-      (past_lasts events next)
+past_lasts : (events : List Event) (w : World) → Begins w.past (after_events w events).past
+past_lasts [] w = nothing_more w w refl
+past_lasts (e ∷ events) w =
+    let next = after_event w e in
+    begins_both w.past next.past (after_events next events).past (past_stays e w)
+    (past_lasts events next)
 
-  behind_both : (h k : List Event) (w : World)
-      → after_events o w (h ++ k) ≡ after_events o (after_events o w h) k
-  behind_both [] k w = refl
-  behind_both (e ∷ h) k w = behind_both h k (after_event o w e)
+-- ---- a line that recovers
 
-  -- ---- a line that recovers
+module _ (w : World) where
+  -- the lives are past ones behind these events, where it recovers
+  abbrev Ends : List Event → Bool → Type 0
+  Ends events recovers = recovers ≡ true → Begins (lives w) (after_events w events).past
 
-  module _ (w : World) where
-    -- the lives are past ones behind these events, where it recovers
-    abbrev Ends : List Event → Bool → Type 0
-    Ends events recovers = recovers ≡ true → Begins (lives w) (after_events o w events).past
+  never : (events : List Event) → Ends events false
+  never events is = absurd (cc is)
 
-    never : (events : List Event) → Ends events false
-    never events is = absurd (cc is)
+  struck_ends : (o : Opening) (entry : Entry) (has : Bool)
+      → Begins (lives w) (after_events w (struck_events o entry has)).past
+  struck_ends o entry has =
+      past_stays (restarts o (finding_of has))
+      (after_events w (offers entry ∷ begins_store ∷ loses_power ∷ []))
 
-    struck_ends : (entry : Entry) (has : Bool)
-        → Begins (lives w) (after_events o w (struck_events entry has)).past
-    struck_ends entry has =
-        past_stays (restarts (finding_of has))
-        (after_events o w (offers entry ∷ begins_store ∷ loses_power ∷ []))
+  power_ends : (o : Opening) → Begins (lives w) (after_events w (power_events o)).past
+  power_ends o = past_stays (restarts o without_batch) (in_the_dark w)
 
-    power_ends : Begins (lives w) (after_events o w power_events).past
-    power_ends = past_stays (restarts without_batch) (in_the_dark w)
+  module _ (state : State) where
+    abbrev o : Opening
+    o = origin state.doors.site
 
-    module _ (state : State) where
-      by_strike : (entry : Entry) (there : List Entry) (has : Bool) (s : Strike)
-          → Ends (struck_by entry s has) (struck state.store entry there s).recovers
-      by_strike entry there has (Stop pick) is = struck_ends entry has
-      by_strike entry there has Fail is = never (struck_by entry Fail has) is
+    by_strike : (entry : Entry) (there : List Entry) (has : Bool) (s : Strike)
+        → Ends (struck_by o entry s has) (struck state.store entry there s).recovers
+    by_strike entry there has (Stop pick) is = struck_ends o entry has
+    by_strike entry there has Fail is = never (struck_by o entry Fail has) is
 
-      by_hit : (entry : Entry) (order : Order) (hit : Bool)
-          → Ends (if hit then struck_by entry order.strike (leaves_entry order.strike order.calls)
-          else store_events entry)
-          (if hit then struck state.store entry (found order state.store.published entry) order.strike
-          else stores (record state.store { order = behind_store order }) entry).recovers
-      by_hit entry order true =
-          by_strike entry (found order state.store.published entry)
-          (leaves_entry order.strike order.calls) order.strike
-      by_hit entry order false = never (store_events entry)
+    by_hit : (entry : Entry) (order : Order) (hit : Bool)
+        → Ends (if hit then struck_by o entry order.strike (leaves_entry order.strike order.calls)
+        else store_events entry)
+        (if hit then struck state.store entry (found order state.store.published entry) order.strike
+        else stores (record state.store { order = behind_store order }) entry).recovers
+    by_hit entry order true =
+        by_strike entry (found order state.store.published entry)
+        (leaves_entry order.strike order.calls) order.strike
+    by_hit entry order false = never (store_events entry)
 
-      under : (entry : Entry) (order : Option Order)
-          → Ends (stored_under entry order) (stores_under state.store entry order).recovers
-      under entry None = never (store_events entry)
-      under entry (Some order) = by_hit entry order (is_hit order)
+    under : (entry : Entry) (order : Option Order)
+        → Ends (stored_under o entry order) (stores_under state.store entry order).recovers
+    under entry None = never (store_events entry)
+    under entry (Some order) = by_hit entry order (is_hit order)
 
-      by_why : (entry : Entry) (why : Option Refusal)
-          → Ends (by_refusal entry state.store.order why)
-          (entries.by_refusal state.store entry why).recovers
-      by_why entry None = under entry state.store.order
-      by_why entry (Some why) = never []
+    by_why : (entry : Entry) (why : Option Refusal)
+        → Ends (by_refusal o entry state.store.order why)
+        (entries.by_refusal state.store entry why).recovers
+    by_why entry None = under entry state.store.order
+    by_why entry (Some why) = never []
 
-      by_valid : (entry : Entry) (valid : Bool)
-          → Ends (if valid then entry_line state.store entry else [])
-          (if valid then offered state entry else is_wrong state).recovers
-      by_valid entry true = by_why entry (refusal state.store entry)
-      by_valid entry false = never []
+    by_valid : (entry : Entry) (valid : Bool)
+        → Ends (if valid then entry_line o state.store entry else [])
+        (if valid then offered state entry else is_wrong state).recovers
+    by_valid entry true = by_why entry (refusal state.store entry)
+    by_valid entry false = never []
 
-      by_now : (k : ℕ) (s : Strike) (now : Bool)
-          → Ends (if now then power_events else [])
-          (if now then fails_now state.store else orders state.store k s).recovers
-      by_now k s true is = power_ends
-      by_now k s false is = never [] is
+    by_now : (k : ℕ) (s : Strike) (now : Bool)
+        → Ends (if now then power_events o else [])
+        (if now then fails_now state.store else orders state.store k s).recovers
+    by_now k s true is = power_ends o
+    by_now k s false is = never [] is
 
-      by_none : (k : ℕ) (none : Bool)
-          → Ends [] (if none then is_wrong state.store else orders state.store k Fail).recovers
-      by_none k true = never []
-      by_none k false = never []
+    by_none : (k : ℕ) (none : Bool)
+        → Ends [] (if none then is_wrong state.store else orders state.store k Fail).recovers
+    by_none k true = never []
+    by_none k false = never []
 
-      acts : (events : List Event) (a : Option Acted) → Ends events (connected state a).recovers
-      acts events None = never events
-      acts events (Some a) = never events
+    acts : (events : List Event) (a : Option Acted) → Ends events (connected state a).recovers
+    acts events None = never events
+    acts events (Some a) = never events
 
-      turned : (events : List Event) (t : Option Turned) → Ends events (uplinked state t).recovers
-      turned events None = never events
-      turned events (Some t) = never events
+    turned : (events : List Event) (t : Option Turned) → Ends events (uplinked state t).recovers
+    turned events None = never events
+    turned events (Some t) = never events
 
-      line_ends : (line : ScriptLine) → Ends (events_of state w line) (step state line).recovers
-      line_ends Skip = never []
-      line_ends (Offer entry) = by_valid (entry_of entry) (is_valid (entry_of entry))
-      line_ends (Desk start stop quality) = never (events_of state w (Desk start stop quality))
-      line_ends (Clock at) = never (events_of state w (Clock at))
-      line_ends (Crash k pick) = by_now k (Stop (pick_of pick)) (k == 0)
-      line_ends (Fault k) = by_none k (k == 0)
-      line_ends (Take fail) =
-          turned (events_of state w (Take fail)) (turn_at state (turns.Take fail))
-      line_ends Done = turned (events_of state w Done) (turn_at state turns.Done)
-      line_ends (Uplink production status) =
-          turned (events_of state w (Uplink production status))
-          (turn_at state (turns.Uplink production status))
-      line_ends line = acts (events_of state w line) (act state.doors state.clock line)
+    line_ends : (line : ScriptLine) → Ends (events_of state w line) (step state line).recovers
+    line_ends Skip = never []
+    line_ends (Offer entry) = by_valid (entry_of entry) (is_valid (entry_of entry))
+    line_ends (Desk start stop quality) = never (events_of state w (Desk start stop quality))
+    line_ends (Clock at) = never (events_of state w (Clock at))
+    line_ends (Crash k pick) = by_now k (Stop (pick_of pick)) (k == 0)
+    line_ends (Fault k) = by_none k (k == 0)
+    line_ends (Take fail) =
+        turned (events_of state w (Take fail)) (turn_at state (turns.Take fail))
+    line_ends Done = turned (events_of state w Done) (turn_at state turns.Done)
+    line_ends (Uplink production status) =
+        turned (events_of state w (Uplink production status))
+        (turn_at state (turns.Uplink production status))
+    line_ends line = acts (events_of state w line) (act state.doors state.clock line)
 
-      read_ends : (line : Option ScriptLine)
-          → Ends (events_read state w line) (step_read state line).recovers
-      read_ends None = never []
-      read_ends (Some line) = line_ends line
+    read_ends : (line : Option ScriptLine)
+        → Ends (events_read state w line) (step_read state line).recovers
+    read_ends None = never []
+    read_ends (Some line) = line_ends line
 
 -- ---- lines
 
@@ -182,11 +180,8 @@ get_front {X} xs ys k x begins at =
     in_front (y ∷ xs) (suc k) is = in_front xs k is
 
 module _ {L : Type 0} (reads : L → Option ScriptLine) (site : Site) where
-  abbrev o : Opening
-  o = origin site
-
   abbrev behind : State → World → List L → World
-  behind state w lines = after_events o w (events_from reads o state w lines)
+  behind state w lines = after_events w (events_from reads state w lines)
 
   both_behind : (lines more : List L) (state : State) (w : World)
       → behind state w (lines ++ more)
@@ -195,18 +190,18 @@ module _ {L : Type 0} (reads : L → Option ScriptLine) (site : Site) where
   both_behind (line ∷ lines) more state w =
       let events = events_read state w (reads line) in
       let next = (answers reads state line).next in
-      let v = after_events o w events in
-      behind_both o events (events_from reads o next v (lines ++ more)) w
+      let v = after_events w events in
+      after_both w events (events_from reads next v (lines ++ more))
       ∙ both_behind lines more next v
       ∙ ap (λ (x : World). behind (after (answers reads) next lines) x more)
-      (sym (behind_both o events (events_from reads o next v lines) w))
+      (sym (after_both w events (events_from reads next v lines)))
 
   abbrev first : World
-  first = after_events o before_all first_events
+  first = after_events before_all (first_events (origin site))
 
   world_from : (lines : List L) → world_behind reads site lines ≡ behind (new_world site) first lines
   world_from lines =
-      behind_both o first_events (events_from reads o (new_world site) first lines) before_all
+      after_both before_all (first_events (origin site)) (events_from reads (new_world site) first lines)
 
   world_on : (lines more : List L)
       → world_behind reads site (lines ++ more)
@@ -223,13 +218,13 @@ module _ {L : Type 0} (reads : L → Option ScriptLine) (site : Site) where
   life_on (line ∷ more) state w breaks place l at =
       let events = events_read state w (reads line) in
       let next = (answers reads state line).next in
-      let v = after_events o w events in
-      let rest = events_from reads o next v more in
-      let end = after_events o v rest in
+      let v = after_events w events in
+      let rest = events_from reads next v more in
+      let end = after_events v rest in
       let begins : Begins (lives w) end.past =
-      begins_both (lives w) v.past end.past (read_ends o w state (reads line) breaks)
-      (past_lasts o rest v) in
-      ap (λ (x : World). slice_get (lives x) place) (behind_both o events rest w)
+      begins_both (lives w) v.past end.past (read_ends w state (reads line) breaks)
+      (past_lasts rest v) in
+      ap (λ (x : World). slice_get (lives x) place) (after_both w events rest)
       ∙ get_front end.past (lives end) place l (option_to_list end.now, refl)
       (get_front (lives w) end.past place l begins at)
 

@@ -1,5 +1,5 @@
 -- What each START on a connection of a script was handed is what *Delivery* of it hands over of the
--- archive, then and behind any later lines, of which a power failure may be one.
+-- archive, then and after any later lines, of which a power failure may be one.
 use Rattle.std.specs.Prelude.{◌≡◌, IsTrue, ℕ, Option, Some, List, slice_get}
 use Rattle.std.specs.List.{AllByRecursion}
 use mathlib.Core.List.{IsPrefix}
@@ -38,7 +38,7 @@ module _ {L : Type 0} (reads : L → Option ScriptLine) where
   world_after state lines = after (λ state line. step_read state (reads line)) state lines
 
   -- What the STARTs in these rounds were handed is right by what is stored in this world, by what
-  -- is stored behind any more lines, and by each other archive that begins with it; and no message
+  -- is stored after any more lines, and by each other archive that begins with it; and no message
   -- of a service was handed over, or dropped, but where a started service served the round.
   pub record IsDelivered (b : Began) (rounds : List Round) (now : State) : Type 0 where
     pub handed : AreHanded b rounds now.store.published
@@ -46,8 +46,8 @@ module _ {L : Type 0} (reads : L → Option ScriptLine) where
     pub later : (more : List L)
         → Follows now.store.published (world_after now more).store.published
 
-  -- Of every connection that a line opens at a free door behind any lines of a valid site, over any
-  -- lines behind it whose pieces are octets.
+  -- Of every connection that a line opens at a free door after any lines of a valid site, over any
+  -- lines after it whose pieces are octets.
   abbrev pub AreDelivered : Type 0
   AreDelivered =
       (site : Site) (earlier later : List L) (line : L) (c : ℕ) → IsSite site

@@ -15,9 +15,9 @@ use session_laws::laws::{
 use station_book::laws::{a_door_has_one_instance, other_doors_leave_a_door};
 use station_law::laws::{connections_are_sessions, the_book_has_what_is_stored};
 
-/// A connection that is opened at a free door behind any lines of a script, in order or not, is
-/// never answered Lost by the book, where at most one instance of the site is the forward service's, over any lines behind it, and so doesn't end with
-/// `aborted 127`.
+/// Where at most one instance of the site is the forward service's: a connection that is opened at a
+/// free door, after any lines of a script, in order or not, is never answered Lost by the book, over
+/// any later lines. So it doesn't end with `aborted 127`.
 pub fn connections_lose_nothing()
     ensures lines { AreLossless (λ (line : ScriptLine). Some line) }
     ensures texts { AreLossless reading }
@@ -26,9 +26,9 @@ pub fn connections_lose_nothing()
     connections_are_sessions();
 }
 
-/// What each START on a connection was handed, over any lines behind the one that opens the
-/// connection, is what *Delivery* of it hands over of the archive: of what is stored behind these
-/// lines, or behind any more, a power failure among them, and of each archive that begins so. And
+/// What each START on a connection was handed, over any lines after the one that opens the
+/// connection, is what *Delivery* of it hands over of the archive: of what is stored after these
+/// lines, or after any more, a power failure among them, and of each archive that begins so. And
 /// nothing of a service was handed over but in rounds that a started one served.
 pub fn each_start_is_delivered()
     ensures { AreDelivered reading }

@@ -29,16 +29,23 @@ use Rattle.line_events.proofs.Lists.{seen_longer}
 -- ---- worlds that rest
 
 -- what leads on from a world that rests leads on from the one that shows the view
-pub at_rest : (o : Opening) (v next : View) (w : World) (events : List Event) → (shows : Shows v w)
-    → LeadTo o (resting shows.found shows.kept shows.past shows.life v.clock v.antenna) events next
-    → LeadTo o w events next
-at_rest o v next w events shows leads =
-    subst (λ (x : World). LeadTo o x events next) (sym shows.is) leads
+pub at_rest : (v next : View) (w : World) (events : List Event) → (shows : Shows v w)
+    → LeadTo (resting shows.found shows.kept shows.past shows.life v.clock v.antenna) events next
+    → LeadTo w events next
+at_rest v next w events shows leads =
+    subst (λ (x : World). LeadTo x events next) (sym shows.is) leads
 
 -- the published entries of the life that goes on
 pub published_is : (v : View) (w : World) → (shows : Shows v w)
     → (book shows.life).published ≡ v.published
 published_is v w shows = ap (λ (b : books.State). b.published) shows.book_is ∙ shows.one
+
+-- what may follow the published entries may follow those that are acknowledged
+follows_so : (v : View) (found kept : List Entry) (e : Entry) → found ++ kept ≡ v.published
+    → may_follow v.published e ≡ true → IsTrue (may_follow ((found ++ kept) ++ []) e)
+follows_so v found kept e is follows =
+    subst (λ (xs : List Entry). IsTrue (may_follow xs e))
+    (sym (append-nil (found ++ kept) ∙ is)) follows
 
 -- a new life over what a recovery found
 module _ (o : Opening) (v : View) (past : List Life) (l : Life)
@@ -64,28 +71,21 @@ module _ (o : Opening) (v : View) (past : List Life) (l : Life)
 
   -- the power fails between two stores
   pub power_leads : (found kept : List Entry) → found ++ kept ≡ v.published
-      → LeadTo o (resting found kept past l v.clock v.antenna) power_events (anew o v.published v)
+      → LeadTo (resting found kept past l v.clock v.antenna) (power_events o) (anew o v.published v)
   power_leads found kept is = ((tt, (refl, tt)), born_shows (found ++ kept) v.published is)
-
-  -- what may follow the published entries may follow those that are acknowledged
-  follows_so : (found kept : List Entry) (e : Entry) → found ++ kept ≡ v.published
-      → may_follow v.published e ≡ true → IsTrue (may_follow ((found ++ kept) ++ []) e)
-  follows_so found kept e is follows =
-      subst (λ (xs : List Entry). IsTrue (may_follow xs e))
-      (sym (append-nil (found ++ kept) ∙ is)) follows
 
   -- it fails in an entry's store
   pub struck_leads : (found kept : List Entry) (e : Entry) (has : Bool)
       → found ++ kept ≡ v.published → may_follow v.published e ≡ true
-      → LeadTo o (resting found kept past l v.clock v.antenna) (struck_events e has)
+      → LeadTo (resting found kept past l v.clock v.antenna) (struck_events o e has)
       (anew o (found_with has e v) v)
   struck_leads found kept e true is follows = (
-    ((refl, follows_so found kept e is follows, tt), ((refl, tt), (tt, (refl, tt)))),
+    ((refl, follows_so v found kept e is follows, tt), ((refl, tt), (tt, (refl, tt)))),
     born_shows ((found ++ kept) ++ e ∷ []) (v.published ++ e ∷ [])
         (ap (λ (xs : List Entry). xs ++ e ∷ []) is),
   )
   struck_leads found kept e false is follows = (
-    ((refl, follows_so found kept e is follows, tt), ((refl, tt), (tt, (refl, tt)))),
+    ((refl, follows_so v found kept e is follows, tt), ((refl, tt), (tt, (refl, tt)))),
     born_shows (found ++ kept) v.published is,
   )
 
@@ -107,7 +107,7 @@ accepted_entries laws b p e is archive follows =
     (if x then record b { published = b.published ++ e ∷ [] } else b).published) may
     ∙ ap (λ (xs : List Entry). xs ++ e ∷ []) is
 
-module _ (laws : Laws) (o : Opening) (v : View) (past : List Life)
+module _ (laws : Laws) (v : View) (past : List Life)
     (l : Life) (e : Entry) (archive : IsArchive v.published)
     (follows : may_follow v.published e ≡ true) (book_is : book l ≡ v.book)
     (one : v.book.published ≡ v.published) (told_is : told_by (past ++ l ∷ []) ≡ v.told)
@@ -169,20 +169,20 @@ module _ (laws : Laws) (o : Opening) (v : View) (past : List Life)
   )
 
   pub stores_leads : (found kept : List Entry) → found ++ kept ≡ p
-      → LeadTo o (resting found kept past l v.clock v.antenna) (store_events e) (with_entry e v)
+      → LeadTo (resting found kept past l v.clock v.antenna) (store_events e) (with_entry e v)
   stores_leads found kept is = (
     (
-      (refl, follows_so o v past l told_is found kept e is follows, tt),
+      (refl, follows_so v found kept e is follows, tt),
       ((refl, tt), ((refl, tt), ((refl, is_next found kept is), tt))),
     ),
     shown found kept is,
   )
 
   pub failed_leads : (found kept : List Entry) (has : Bool) → found ++ kept ≡ p
-      → LeadTo o (resting found kept past l v.clock v.antenna) (failed_events e has) (with_entry e v)
+      → LeadTo (resting found kept past l v.clock v.antenna) (failed_events e has) (with_entry e v)
   failed_leads found kept true is = (
     (
-      (refl, follows_so o v past l told_is found kept e is follows, tt),
+      (refl, follows_so v found kept e is follows, tt),
       ((refl, tt), ((refl, tt), ((refl, tt), ((refl, is_next found kept is), tt)))),
     ),
     shown found kept is,
@@ -191,7 +191,7 @@ module _ (laws : Laws) (o : Opening) (v : View) (past : List Life)
       let again = stores_leads found (kept ++ [])
       (ap (λ (xs : List Entry). found ++ xs) (append-nil kept) ∙ is) in (
         (
-          (refl, follows_so o v past l told_is found kept e is follows, tt),
+          (refl, follows_so v found kept e is follows, tt),
           ((refl, tt), ((refl, tt), ((refl, tt), again.0))),
         ),
         again.1,
@@ -199,7 +199,7 @@ module _ (laws : Laws) (o : Opening) (v : View) (past : List Life)
 
 -- ---- the world of an archive that was made and opened, and the clock
 
-pub begins_leads : (o : Opening) → LeadTo o before_all first_events (first_view o)
+pub begins_leads : (o : Opening) → LeadTo before_all (first_events o) (first_view o)
 begins_leads o = (
   (refl, tt),
   record {
@@ -218,10 +218,10 @@ begins_leads o = (
   },
 )
 
-pub clock_leads : (o : Opening) (v : View) (w : World) (moment : ℕ) → (shows : Shows v w)
-    → LeadTo o (resting shows.found shows.kept shows.past shows.life v.clock v.antenna)
+pub clock_leads : (v : View) (w : World) (moment : ℕ) → (shows : Shows v w)
+    → LeadTo (resting shows.found shows.kept shows.past shows.life v.clock v.antenna)
     (clock_events moment) (record v { clock = moment })
-clock_leads o v w moment shows = (
+clock_leads v w moment shows = (
   (tt, tt),
   record {
     found = shows.found;
@@ -272,15 +272,15 @@ called_book (e ∷ h) l =
     ∙ ap (λ (b : books.State). replay b h)
     (fold-append then_after (opened l.opening) l.history (event_at (book l) e.call ∷ []))
 
-pub calls_lead : CallsAreEvents → (o : Opening) (v : View) (w : World) (h : List Answered)
+pub calls_lead : CallsAreEvents → (v : View) (w : World) (h : List Answered)
     → (shows : Shows v w) → IsTrue (publishes_nothing h)
-    → LeadTo o (resting shows.found shows.kept shows.past shows.life v.clock v.antenna)
+    → LeadTo (resting shows.found shows.kept shows.past shows.life v.clock v.antenna)
     (call_events h) (record v { book = replay v.book h })
-calls_lead law o v w h shows none =
+calls_lead law v w h shows none =
     let l : Life = shows.life in
     let m : Life = all_called h l in
     let rests : World = resting shows.found shows.kept shows.past l v.clock v.antenna in
-    let leads = law.leads o rests l h refl none in
+    let leads = law.leads rests l h refl none in
     let book_is : book m ≡ replay v.book h =
     called_book h l ∙ ap (λ (b : books.State). replay b h) shows.book_is in
     let same : (replay v.book h).published ≡ v.book.published = none_published h v.book none in

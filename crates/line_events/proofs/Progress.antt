@@ -8,7 +8,6 @@ use Rattle.std.specs.List.{AllByRecursion, filter}
 use Rattle.std.specs.Option.{is_some}
 use Rattle.archive_terms.specs.Archive.{Entry}
 use Rattle.archive_terms.specs.Rounds.{Round, last_front}
-use Rattle.station_book.specs.State.{Opening}
 use Rattle.station_world.specs.Life.{Start, Life, book, Asked, begun, change_at, with_round, with_end}
 use Rattle.station_world.specs.World.{World, starts, makes_round, ends_start}
 use Rattle.line_events.specs.Shows.{is_desk, is_users, desk_starts, users_starts, told_of, IsLasting}
@@ -195,7 +194,7 @@ of_its_door = record { own = own_progress; others = others_progress }
 
 -- ---- where its events lead
 
-module _ (o : Opening) (v : View) (w : World) (shows : Shows v w) (door : ℕ) where
+module _ (v : View) (w : World) (shows : Shows v w) (door : ℕ) where
   abbrev l : Life
   l = shows.life
 
@@ -225,11 +224,11 @@ module _ (o : Opening) (v : View) (w : World) (shows : Shows v w) (door : ℕ) w
   }
 
   nothing : (users : List Start) → users_starts l ≡ users
-      → LeadTo o rests [] (record v { users = users })
+      → LeadTo rests [] (record v { users = users })
   nothing users are = (tt, with_starts l.starts users refl are shows.seen)
 
   takes : (a : Asked) → MayProgress door v.published (taken_now a)
-      → LeadTo o rests (starts a ∷ []) (with_progress door (taken_now a) v)
+      → LeadTo rests (starts a ∷ []) (with_progress door (taken_now a) v)
   takes a may =
       let new : Start = begun a (length (book l).published) in
       let none : HasSeen v.published new = omega arith in
@@ -259,7 +258,7 @@ module _ (o : Opening) (v : View) (w : World) (shows : Shows v w) (door : ℕ) w
 
   makes : (r : Round) (place : Option ℕ) → going_in door l.starts ≡ place
       → MayProgress door v.published (goes_by r)
-      → LeadTo o rests (events_at place (λ (p : ℕ). makes_round p r))
+      → LeadTo rests (events_at place (λ (p : ℕ). makes_round p r))
       (with_progress door (goes_by r) v)
   makes r None is may =
       nothing (change_going door (with_round r) v.users)
@@ -290,7 +289,7 @@ module _ (o : Opening) (v : View) (w : World) (shows : Shows v w) (door : ℕ) w
       )
 
   stops : (place : Option ℕ) → going_in door l.starts ≡ place → IsUsers door
-      → LeadTo o rests (events_at place ends_start) (with_progress door ended_now v)
+      → LeadTo rests (events_at place ends_start) (with_progress door ended_now v)
   stops None is users =
       nothing (change_going door with_end v.users) (changed users with_end (λ x. refl) None is)
   stops (Some place) is users =
@@ -304,15 +303,15 @@ module _ (o : Opening) (v : View) (w : World) (shows : Shows v w) (door : ℕ) w
       )
 
   at_rest : (p : Progress) → MayProgress door v.published p
-      → LeadTo o rests (progress_events door rests p) (with_progress door p v)
+      → LeadTo rests (progress_events door rests p) (with_progress door p v)
   at_rest none_runs may = nothing v.users shows.users_are
   at_rest (taken_now a) may = takes a may
   at_rest (goes_by r) may = makes r (going_in door l.starts) refl may
   at_rest ended_now may = stops (going_in door l.starts) refl may.0
 
-pub progress_leads : (o : Opening) (v : View) (w : World) (door : ℕ) (p : Progress)
+pub progress_leads : (v : View) (w : World) (door : ℕ) (p : Progress)
     → (shows : Shows v w) → MayProgress door v.published p
-    → LeadTo o w (progress_events door w p) (with_progress door p v)
-progress_leads o v w door p shows may =
-    subst (λ (x : World). LeadTo o x (progress_events door x p) (with_progress door p v))
-    (sym shows.is) (at_rest o v w shows door p may)
+    → LeadTo w (progress_events door w p) (with_progress door p v)
+progress_leads v w door p shows may =
+    subst (λ (x : World). LeadTo x (progress_events door x p) (with_progress door p v))
+    (sym shows.is) (at_rest v w shows door p may)

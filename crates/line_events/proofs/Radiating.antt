@@ -30,7 +30,7 @@ sent_on false found kept past clock antenna m r is =
     ap (λ (sent : List (List ℕ)). resting found kept past (sent_with false m) clock sent)
     (append-nil antenna)
 
-module _ (o : Opening) (v : View) (w : World) (shows : Shows v w) (reading run id : ℕ)
+module _ (v : View) (w : World) (shows : Shows v w) (reading run id : ℕ)
     (octets : List ℕ) (good : Bool)
     (found : reply_to v.book (takes reading) ≡ took (Radiate run id octets)) where
   abbrev l : Life
@@ -89,12 +89,12 @@ module _ (o : Opening) (v : View) (w : World) (shows : Shows v w) (reading run i
   }
 
   pub radiates_lead : CallsAreEvents → (h : List Answered) → IsTrue (publishes_nothing h)
-      → LeadTo o (resting shows.found shows.kept shows.past l v.clock v.antenna)
+      → LeadTo (resting shows.found shows.kept shows.past l v.clock v.antenna)
       (radiate_events reading good h) (with_sent reading good octets h v)
   unfolding shown
   radiates_lead law h none =
       let behind = subst
-      (λ (x : World). LeadTo o x (call_events h) (with_sent reading good octets h v))
+      (λ (x : World). LeadTo x (call_events h) (with_sent reading good octets h v))
       (sym (sent_on good shows.found shows.kept shows.past v.clock v.antenna m to_send is_to_send))
-      (calls_lead law o next there h shown none) in
+      (calls_lead law next there h shown none) in
       ((tt, ((to_send, is_to_send), behind.0)), behind.1)

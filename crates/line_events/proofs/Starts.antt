@@ -10,7 +10,6 @@ use Rattle.archive_terms.specs.Selection.{picked, is_stop_closed}
 use Rattle.archive_terms.specs.Delivery.{Item, is_online, started, offline_buffers}
 use Rattle.archive_terms.specs.Rounds.{outcomes, handed_buffers}
 use Rattle.archive_terms.specs.Continuity.{told_buffers}
-use Rattle.station_book.specs.State.{Opening}
 use Rattle.station_world.specs.Life.{Start, Life, book, Asked, with_start}
 use Rattle.station_world.specs.World.{World}
 use Rattle.station_world.specs.Calls.{Leads, desk_events, desk_start, with_now}
@@ -77,21 +76,21 @@ module _ (laws : Laws) (a : Asked) (desk : a.door ≡ 0) (some : 0 < a.size)
   saw : HasSeen p its
   saw = seen_free 0 (length p) (replicate (length (desk_buffers a p)) now) (omega arith)
 
-  desk_leads : (o : Opening) (v : View) (w : World) → (shows : Shows v w) → v.published ≡ p
+  desk_leads : (v : View) (w : World) → (shows : Shows v w) → v.published ≡ p
       → v.clock ≡ now
-      → LeadTo o (resting shows.found shows.kept shows.past shows.life v.clock v.antenna)
+      → LeadTo (resting shows.found shows.kept shows.past shows.life v.clock v.antenna)
       (desk_events a (length shows.life.starts) (length p) now (length (desk_buffers a p)))
       (with_told (desk_told a p) v)
-  desk_leads o v w shows is clock =
+  desk_leads v w shows is clock =
       let l : Life = shows.life in
       let n : ℕ = length (desk_buffers a p) in
       let rests : World = resting shows.found shows.kept shows.past l v.clock v.antenna in
       let published : (book l).published ≡ p = published_is v w shows ∙ is in
-      let leads : Leads o rests (desk_events a (length l.starts) (length p) now n)
+      let leads : Leads rests (desk_events a (length l.starts) (length p) now n)
       (with_now rests (with_start l its)) =
-      subst (λ (xs : List Entry). Leads o rests (desk_events a (length l.starts) (length xs) now n)
+      subst (λ (xs : List Entry). Leads rests (desk_events a (length l.starts) (length xs) now n)
       (with_now rests (with_start l (desk_start a (length xs) now n)))) published
-      (laws.desk.leads o rests l a now n refl some) in (
+      (laws.desk.leads rests l a now n refl some) in (
         leads.0,
         subst (Shows (with_told (desk_told a p) v)) (sym leads.1) (record {
           found = shows.found;
@@ -125,39 +124,39 @@ starts_so v w shows = ap starts_in (sym shows.is)
 pub lines : Laws → LinesAreEvents
 lines laws = record {
   begins = begins_leads;
-  stores = λ o v w e shows archive follows.
-      at_rest o v (with_entry e v) w (store_events e) shows
-      (stores_leads laws o v shows.past shows.life e archive follows shows.book_is
+  stores = λ v w e shows archive follows.
+      at_rest v (with_entry e v) w (store_events e) shows
+      (stores_leads laws v shows.past shows.life e archive follows shows.book_is
       shows.one shows.told_is shows.lasting shows.users_are shows.seen shows.found shows.kept
       shows.acknowledges);
   struck = λ o v w e has shows follows.
-      at_rest o v (anew o (found_with has e v) v) w (struck_events e has) shows
+      at_rest v (anew o (found_with has e v) v) w (struck_events o e has) shows
       (struck_leads o v shows.past shows.life shows.told_is shows.found shows.kept e has
       shows.acknowledges follows);
-  fails = λ o v w e has shows archive follows.
-      at_rest o v (with_entry e v) w (failed_events e has) shows
-      (failed_leads laws o v shows.past shows.life e archive follows shows.book_is
+  fails = λ v w e has shows archive follows.
+      at_rest v (with_entry e v) w (failed_events e has) shows
+      (failed_leads laws v shows.past shows.life e archive follows shows.book_is
       shows.one shows.told_is shows.lasting shows.users_are shows.seen shows.found shows.kept has
       shows.acknowledges);
   power = λ o v w shows.
-      at_rest o v (anew o v.published v) w power_events shows
+      at_rest v (anew o v.published v) w (power_events o) shows
       (power_leads o v shows.past shows.life shows.told_is shows.found shows.kept
       shows.acknowledges);
-  clock = λ o v w moment shows.
-      at_rest o v (record v { clock = moment }) w (clock_events moment) shows
-      (clock_leads o v w moment shows);
-  book = λ o v w h shows none.
-      at_rest o v _ w _ shows (calls_lead laws.book_calls o v w h shows none);
-  radiates = λ o v w reading run id octets good h shows found none.
-      at_rest o v (with_sent reading good octets h v) w (radiate_events reading good h) shows
-      (radiates_lead o v w shows reading run id octets good found laws.book_calls h none);
-  progress = λ o v w door p shows may. progress_leads o v w door p shows may;
-  desk = λ o v w a shows desk some mode.
-      at_rest o v (with_told (desk_told a v.published) v) w (start_events a w v.published v.clock)
+  clock = λ v w moment shows.
+      at_rest v (record v { clock = moment }) w (clock_events moment) shows
+      (clock_leads v w moment shows);
+  book = λ v w h shows none.
+      at_rest v _ w _ shows (calls_lead laws.book_calls v w h shows none);
+  radiates = λ v w reading run id octets good h shows found none.
+      at_rest v (with_sent reading good octets h v) w (radiate_events reading good h) shows
+      (radiates_lead v w shows reading run id octets good found laws.book_calls h none);
+  progress = λ v w door p shows may. progress_leads v w door p shows may;
+  desk = λ v w a shows desk some mode.
+      at_rest v (with_told (desk_told a v.published) v) w (start_events a w v.published v.clock)
       shows
-      (subst (λ k. LeadTo o
+      (subst (λ k. LeadTo
       (resting shows.found shows.kept shows.past shows.life v.clock v.antenna)
       (desk_events a k (length v.published) v.clock (length (desk_buffers a v.published)))
       (with_told (desk_told a v.published) v)) (starts_so v w shows)
-      (desk_leads laws a desk some mode v.published v.clock o v w shows refl refl));
+      (desk_leads laws a desk some mode v.published v.clock v w shows refl refl));
 }

@@ -31,8 +31,8 @@ finding_of true = with_batch
 finding_of false = without_batch
 
 -- the power fails in its store, and the file has it or hasn't
-abbrev pub struck_events : Entry → Bool → List Event
-struck_events e has = offers e ∷ begins_store ∷ loses_power ∷ restarts (finding_of has) ∷ []
+abbrev pub struck_events : Opening → Entry → Bool → List Event
+struck_events o e has = offers e ∷ begins_store ∷ loses_power ∷ restarts o (finding_of has) ∷ []
 
 -- Its store fails, and the archive is opened again. Where the file hasn't the entry, it is offered
 -- and stored once more; it is published in any case.
@@ -46,13 +46,13 @@ failed_events e has =
 
 -- ---- lines on the station
 
--- the archive was made, and is opened
-abbrev pub first_events : List Event
-first_events = restarts without_batch ∷ []
+-- the archive was made, and is opened, for a station whose book is opened so
+abbrev pub first_events : Opening → List Event
+first_events o = restarts o without_batch ∷ []
 
 -- the power fails between two stores, and the archive is opened again
-abbrev pub power_events : List Event
-power_events = loses_power ∷ restarts without_batch ∷ []
+abbrev pub power_events : Opening → List Event
+power_events o = loses_power ∷ restarts o without_batch ∷ []
 
 -- the clock reads a moment
 abbrev pub clock_events : ℕ → List Event
@@ -142,43 +142,43 @@ first_view o = record {
 -- ---- what is claimed of them
 
 -- the events may come, and lead to a world that shows this
-abbrev pub LeadTo : Opening → World → List Event → View → Type 0
-LeadTo o w events v = AllCome o w events × Shows v (after_events o w events)
+abbrev pub LeadTo : World → List Event → View → Type 0
+LeadTo w events v = AllCome w events × Shows v (after_events w events)
 
 pub record LinesAreEvents : Type 0 where
   -- the world of an archive that was made and opened
-  pub begins : (o : Opening) → LeadTo o before_all first_events (first_view o)
+  pub begins : (o : Opening) → LeadTo before_all (first_events o) (first_view o)
   -- an entry that may follow is stored, struck by a power failure, or hit by a call that fails
-  pub stores : (o : Opening) (v : View) (w : World) (e : Entry) → Shows v w
+  pub stores : (v : View) (w : World) (e : Entry) → Shows v w
       → IsArchive v.published → may_follow v.published e ≡ true
-      → LeadTo o w (store_events e) (with_entry e v)
+      → LeadTo w (store_events e) (with_entry e v)
   pub struck : (o : Opening) (v : View) (w : World) (e : Entry) (has : Bool) → Shows v w
       → may_follow v.published e ≡ true
-      → LeadTo o w (struck_events e has) (anew o (found_with has e v) v)
-  pub fails : (o : Opening) (v : View) (w : World) (e : Entry) (has : Bool) → Shows v w
+      → LeadTo w (struck_events o e has) (anew o (found_with has e v) v)
+  pub fails : (v : View) (w : World) (e : Entry) (has : Bool) → Shows v w
       → IsArchive v.published → may_follow v.published e ≡ true
-      → LeadTo o w (failed_events e has) (with_entry e v)
+      → LeadTo w (failed_events e has) (with_entry e v)
   -- the power fails between two stores
   pub power : (o : Opening) (v : View) (w : World) → Shows v w
-      → LeadTo o w power_events (anew o v.published v)
+      → LeadTo w (power_events o) (anew o v.published v)
   -- the clock reads a moment
-  pub clock : (o : Opening) (v : View) (w : World) (moment : ℕ) → Shows v w
-      → LeadTo o w (clock_events moment) (record v { clock = moment })
+  pub clock : (v : View) (w : World) (moment : ℕ) → Shows v w
+      → LeadTo w (clock_events moment) (record v { clock = moment })
   -- the book is called, and nothing is published
-  pub book : (o : Opening) (v : View) (w : World) (h : List Answered) → Shows v w
+  pub book : (v : View) (w : World) (h : List Answered) → Shows v w
       → IsTrue (publishes_nothing h)
-      → LeadTo o w (call_events h) (record v { book = replay v.book h })
+      → LeadTo w (call_events h) (record v { book = replay v.book h })
   -- a take gives octets to be sent, and the book is called behind the send, good or not
-  pub radiates : (o : Opening) (v : View) (w : World) (reading run id : ℕ) (octets : List ℕ)
+  pub radiates : (v : View) (w : World) (reading run id : ℕ) (octets : List ℕ)
       (good : Bool) (h : List Answered) → Shows v w
       → reply_to v.book (take reading) ≡ took (Radiate run id octets)
       → IsTrue (publishes_nothing h)
-      → LeadTo o w (radiate_events reading good h) (with_sent reading good octets h v)
+      → LeadTo w (radiate_events reading good h) (with_sent reading good octets h v)
   -- a START of a user is taken, makes a round, or ends
-  pub progress : (o : Opening) (v : View) (w : World) (door : ℕ) (p : Progress) → Shows v w
+  pub progress : (v : View) (w : World) (door : ℕ) (p : Progress) → Shows v w
       → MayProgress door v.published p
-      → LeadTo o w (progress_events door w p) (with_progress door p v)
+      → LeadTo w (progress_events door w p) (with_progress door p v)
   -- a START of the desk
-  pub desk : (o : Opening) (v : View) (w : World) (a : Asked) → Shows v w → a.door ≡ 0
+  pub desk : (v : View) (w : World) (a : Asked) → Shows v w → a.door ≡ 0
       → 0 < a.size → IsFalse (is_online a.mode)
-      → LeadTo o w (start_events a w v.published v.clock) (with_told (desk_told a v.published) v)
+      → LeadTo w (start_events a w v.published v.clock) (with_told (desk_told a v.published) v)

@@ -99,7 +99,7 @@ both w (ends_start place) other = absurd (cc other)
 both w (sends good) other = let same = sends_both w.now in record { down = same.0; up = same.1 }
 both w (reads moment) other = record { down = λ c. tt; up = λ c. tt }
 both w loses_power other = record { down = λ c. tt; up = λ c. tt }
-both w (restarts finding) other = record {
+both w (restarts o finding) other = record {
   down = λ c. ap (option_map bare_life) c;
   up = λ c. none_same w.now c;
 }
@@ -122,36 +122,36 @@ abbrev world : File → List Life → Option Life → ℕ → List (List ℕ) �
 world file past now clock antenna =
     record { file = file; past = past; now = now; clock = clock; antenna = antenna }
 
-sent_same : (o : Opening) (good : Bool) (file : File) (past : List Life) (clock : ℕ)
+sent_same : (good : Bool) (file : File) (past : List Life) (clock : ℕ)
     (antenna : List (List ℕ)) (now : Option Life)
-    → bare (after_event o (world file past now clock antenna) (sends good))
-    ≡ after_event o (bare (world file past now clock antenna)) (sends good)
-sent_same o good file past clock antenna None = refl
-sent_same o good file past clock antenna (Some l) = refl
+    → bare (after_event (world file past now clock antenna) (sends good))
+    ≡ after_event (bare (world file past now clock antenna)) (sends good)
+sent_same good file past clock antenna None = refl
+sent_same good file past clock antenna (Some l) = refl
 
 restarted_same : (o : Opening) (w : World) (found : Option (List Entry))
     → bare (restarted o w found) ≡ restarted o (bare w) found
 restarted_same o w None = refl
 restarted_same o w (Some entries) = refl
 
-after_bare : (o : Opening) (w : World) (e : Event) → is_of_start e ≡ false
-    → bare (after_event o w e) ≡ after_event o (bare w) e
-after_bare o w (offers entry) other = refl
-after_bare o w begins_store other = refl
-after_bare o w (ends_store good) other = refl
-after_bare o w (reopens finding) other = refl
-after_bare o w (calls call) other =
+after_bare : (w : World) (e : Event) → is_of_start e ≡ false
+    → bare (after_event w e) ≡ after_event (bare w) e
+after_bare w (offers entry) other = refl
+after_bare w begins_store other = refl
+after_bare w (ends_store good) other = refl
+after_bare w (reopens finding) other = refl
+after_bare w (calls call) other =
     ap (with_now (bare w)) (changed_same (called call) (λ l. refl) w.now)
-after_bare o w (starts a) other = absurd (cc other)
-after_bare o w (makes_round place r) other = absurd (cc other)
-after_bare o w (ends_start place) other = absurd (cc other)
-after_bare o w (sends good) other = sent_same o good w.file w.past w.clock w.antenna w.now
-after_bare o w (reads moment) other = refl
-after_bare o w loses_power other =
+after_bare w (starts a) other = absurd (cc other)
+after_bare w (makes_round place r) other = absurd (cc other)
+after_bare w (ends_start place) other = absurd (cc other)
+after_bare w (sends good) other = sent_same good w.file w.past w.clock w.antenna w.now
+after_bare w (reads moment) other = refl
+after_bare w loses_power other =
     ap (λ (past : List Life). world (without_power w.file) past None w.clock w.antenna)
     (map-append bare_life w.past (option_to_list w.now)
     ∙ ap (λ (ls : List Life). map bare_life w.past ++ ls) (listed_same w.now))
-after_bare o w (restarts finding) other = restarted_same o w (found_by w.file finding)
+after_bare w (restarts o finding) other = restarted_same o w (found_by w.file finding)
 
 -- ---- a START's event
 
@@ -160,71 +160,70 @@ gone_same : (change : Life → Life) → ((l : Life) → bare_life (change l) �
 gone_same change same None = refl
 gone_same change same (Some l) = ap (λ (x : Life). Some x) (same l)
 
-start_bare : (o : Opening) (w : World) (e : Event) → is_of_start e ≡ true
-    → bare (after_event o w e) ≡ bare w
-start_bare o w (offers entry) own = absurd (cc own)
-start_bare o w begins_store own = absurd (cc own)
-start_bare o w (ends_store good) own = absurd (cc own)
-start_bare o w (reopens finding) own = absurd (cc own)
-start_bare o w (calls call) own = absurd (cc own)
-start_bare o w (starts a) own =
+start_bare : (w : World) (e : Event) → is_of_start e ≡ true
+    → bare (after_event w e) ≡ bare w
+start_bare w (offers entry) own = absurd (cc own)
+start_bare w begins_store own = absurd (cc own)
+start_bare w (ends_store good) own = absurd (cc own)
+start_bare w (reopens finding) own = absurd (cc own)
+start_bare w (calls call) own = absurd (cc own)
+start_bare w (starts a) own =
     ap (with_now (bare w)) (gone_same (taken a) (λ l. refl) w.now)
-start_bare o w (makes_round place r) own =
+start_bare w (makes_round place r) own =
     ap (with_now (bare w)) (gone_same (changed place (with_round r)) (λ l. refl) w.now)
-start_bare o w (ends_start place) own =
+start_bare w (ends_start place) own =
     ap (with_now (bare w)) (gone_same (changed place with_end) (λ l. refl) w.now)
-start_bare o w (sends good) own = absurd (cc own)
-start_bare o w (reads moment) own = absurd (cc own)
-start_bare o w loses_power own = absurd (cc own)
-start_bare o w (restarts finding) own = absurd (cc own)
+start_bare w (sends good) own = absurd (cc own)
+start_bare w (reads moment) own = absurd (cc own)
+start_bare w loses_power own = absurd (cc own)
+start_bare w (restarts o finding) own = absurd (cc own)
 
 -- ---- lists of events
 
-module _ (o : Opening) where
-  abbrev Beside : World → World → List Event → List Event → Type 0
-  Beside w v events others = AllCome o w events
-      × (bare (after_events o w events) ≡ bare (after_events o v others))
+abbrev Beside : World → World → List Event → List Event → Type 0
+Beside w v events others = AllCome w events
+    × (bare (after_events w events) ≡ bare (after_events v others))
 
-  abbrev Goes : List Event → Type 0
-  Goes events =
-      (w v : World) → bare w ≡ bare v → AllCome o v (without_starts events)
-      → StartsCome o w events → Beside w v events (without_starts events)
+abbrev Goes : List Event → Type 0
+Goes events =
+    (w v : World) → bare w ≡ bare v → AllCome v (without_starts events)
+    → StartsCome w events → Beside w v events (without_starts events)
 
-  one_event : (e : Event) (events : List Event) → Goes events → Goes (e ∷ events)
-  one_event e events goes w v same come start = by (is_of_start e) refl
-    where
-      rest : List Event
-      rest = without_starts events
+one_event : (e : Event) (events : List Event) → Goes events → Goes (e ∷ events)
+one_event e events goes w v same come start = by (is_of_start e) refl
+  where
+    rest : List Event
+    rest = without_starts events
 
-      by : (b : Bool) → is_of_start e ≡ b → Beside w v (e ∷ events) (without_starts (e ∷ events))
-      by true own =
-          let kept : without_starts (e ∷ events) ≡ rest =
-          ap (λ (b : Bool). cond (not b) (e ∷ rest) rest) own in
-          let inner = goes (after_event o w e) v (start_bare o w e own ∙ same)
-          (subst (AllCome o v) kept come) start.1 in (
-            (start.0 own, inner.0),
-            inner.1 ∙ ap (λ (xs : List Event). bare (after_events o v xs)) (sym kept),
-          )
-      by false other =
-          let kept : without_starts (e ∷ events) ≡ e ∷ rest =
-          ap (λ (b : Bool). cond (not b) (e ∷ rest) rest) other in
-          let all : AllCome o v (e ∷ rest) = subst (AllCome o v) kept come in
-          let here : Comes (bare w) e =
-          subst (λ (x : World). Comes x e) (sym same) ((both v e other).down all.0) in
-          let next : bare (after_event o w e) ≡ bare (after_event o v e) =
-          after_bare o w e other
-          ∙ (ap (λ (x : World). after_event o x e) same ∙ sym (after_bare o v e other)) in
-          let inner = goes (after_event o w e) (after_event o v e) next all.1 start.1 in (
-            ((both w e other).up here, inner.0),
-            inner.1 ∙ ap (λ (xs : List Event). bare (after_events o v xs)) (sym kept),
-          )
+    by : (b : Bool) → is_of_start e ≡ b → Beside w v (e ∷ events) (without_starts (e ∷ events))
+    by true own =
+        let kept : without_starts (e ∷ events) ≡ rest =
+        ap (λ (b : Bool). cond (not b) (e ∷ rest) rest) own in
+        let inner = goes (after_event w e) v (start_bare w e own ∙ same)
+        (subst (AllCome v) kept come) start.1 in (
+          (start.0 own, inner.0),
+          inner.1 ∙ ap (λ (xs : List Event). bare (after_events v xs)) (sym kept),
+        )
+    by false other =
+        let kept : without_starts (e ∷ events) ≡ e ∷ rest =
+        ap (λ (b : Bool). cond (not b) (e ∷ rest) rest) other in
+        let all : AllCome v (e ∷ rest) = subst (AllCome v) kept come in
+        let here : Comes (bare w) e =
+        subst (λ (x : World). Comes x e) (sym same) ((both v e other).down all.0) in
+        let next : bare (after_event w e) ≡ bare (after_event v e) =
+        after_bare w e other
+        ∙ (ap (λ (x : World). after_event x e) same ∙ sym (after_bare v e other)) in
+        let inner = goes (after_event w e) (after_event v e) next all.1 start.1 in (
+          ((both w e other).up here, inner.0),
+          inner.1 ∙ ap (λ (xs : List Event). bare (after_events v xs)) (sym kept),
+        )
 
-  no_event : Goes []
-  no_event w v same come start = (tt, same)
+no_event : Goes []
+no_event w v same come start = (tt, same)
 
-  go : (events : List Event) → Goes events
-  go [] = no_event
-  go (e ∷ events) = one_event e events (go events)
+go : (events : List Event) → Goes events
+go [] = no_event
+go (e ∷ events) = one_event e events (go events)
 
 pub starts_stand_beside : StartsStandBeside
-starts_stand_beside o w events come start = go o events w w refl come start
+starts_stand_beside w events come start = go events w w refl come start

@@ -7,7 +7,7 @@ use Rattle.archive_terms.specs.Archive.{Entry, IsArchive}
 use Rattle.cltu_queue.specs.Run.{Radiation}
 use Rattle.cltu_queue.specs.declared.taken.Taken.TheVariants.{Radiate}
 use Rattle.antenna_turns.specs.Steps.{Step, looked, radiated, broke_off, IsStep, IsTake, sent_of}
-use Rattle.station_book.specs.State.{State, Opening, opened, Call, publish, answer, quit}
+use Rattle.station_book.specs.State.{State, opened, Call, publish, answer, quit}
 use Rattle.station_book.specs.State.{take as takes, done, interrupted, uplink, gone, Reply, took}
 use Rattle.station_book.specs.State.{Event as Answered}
 use Rattle.station_book.specs.History.{after, event_at, then_after, reply_to}
@@ -82,16 +82,16 @@ abbrev pub going : List Life → ℕ → File → Life → List (List ℕ) → W
 going past clock f l antenna =
     record { file = f; past = past; now = Some l; clock = clock; antenna = antenna }
 
-module _ (law : CallsAreEvents) (o : Opening) (past : List Life) (clock : ℕ) (f : File) where
+module _ (law : CallsAreEvents) (past : List Life) (clock : ℕ) (f : File) where
   abbrev at : Life → List (List ℕ) → World
   at l antenna = going past clock f l antenna
 
   -- a call that publishes nothing
   pub call_leads : (l : Life) (antenna : List (List ℕ)) (e : Answered)
       → is_publishing e.call ≡ false
-      → Leads o (at l antenna) (calls e.call ∷ []) (at (called e.call l) antenna)
+      → Leads (at l antenna) (calls e.call ∷ []) (at (called e.call l) antenna)
   call_leads l antenna e none =
-      law.leads o (at l antenna) l (e ∷ []) refl (ap (λ (b : Bool). not b && true) none)
+      law.leads (at l antenna) l (e ∷ []) refl (ap (λ (b : Bool). not b && true) none)
 
   -- what was taken is sent, good or not
   abbrev octets_if : Bool → Radiation → List (List ℕ)
@@ -99,7 +99,7 @@ module _ (law : CallsAreEvents) (o : Opening) (past : List Life) (clock : ℕ) (
 
   send_leads : (good : Bool) (m : Life) (antenna : List (List ℕ)) (r : Radiation)
       → m.to_send ≡ Some r
-      → Leads o (at m antenna) (sends good ∷ [])
+      → Leads (at m antenna) (sends good ∷ [])
       (at (sent_with good m) (antenna ++ octets_if good r))
   send_leads true m antenna r is = (
     ((r, is), tt),
@@ -117,7 +117,7 @@ module _ (law : CallsAreEvents) (o : Opening) (past : List Life) (clock : ℕ) (
     pub life : Life
     pub next : Next l e life
     pub quiet : is_publishing e.call ≡ false
-    pub leads : Leads o (at l antenna) (calls e.call ∷ behind) (at life (antenna ++ sent))
+    pub leads : Leads (at l antenna) (calls e.call ∷ behind) (at life (antenna ++ sent))
 
   module _ (l : Life) (antenna : List (List ℕ)) (e : Answered) (is_next : IsNext l e) where
     abbrev m : Life
@@ -144,7 +144,7 @@ module _ (law : CallsAreEvents) (o : Opening) (past : List Life) (clock : ℕ) (
           next = next_sent l e m good (next_called l e is_next);
           quiet = ap is_publishing call;
           leads =
-              leads_on o (at l antenna) (calls e.call ∷ []) (at m antenna) (sends good ∷ [])
+              leads_on (at l antenna) (calls e.call ∷ []) (at m antenna) (sends good ∷ [])
               (at (sent_with good m) (antenna ++ (if good then octets ∷ [] else [])))
               (call_leads l antenna e (ap is_publishing call))
               (send_leads good m antenna
@@ -160,7 +160,7 @@ module _ (law : CallsAreEvents) (o : Opening) (past : List Life) (clock : ℕ) (
           life = m;
           next = next_called l e is_next;
           quiet = ap is_publishing call;
-          leads = subst (λ (sent : List (List ℕ)). Leads o (at l antenna) (calls e.call ∷ [])
+          leads = subst (λ (sent : List (List ℕ)). Leads (at l antenna) (calls e.call ∷ [])
               (at m sent)) (sym (append-nil antenna))
               (call_leads l antenna e (ap is_publishing call));
         }
@@ -175,12 +175,12 @@ module _ (law : CallsAreEvents) (o : Opening) (past : List Life) (clock : ℕ) (
 -- ---- a publishing
 
 -- it comes where what it publishes is the next of what is acknowledged
-pub publish_leads : (o : Opening) (past : List Life) (clock : ℕ) (found kept : List Entry)
+pub publish_leads : (past : List Life) (clock : ℕ) (found kept : List Entry)
     (l : Life) (antenna : List (List ℕ)) (e : Answered) (xs : List Entry) → e.call ≡ publish xs
     → found ++ kept ≡ (book l).published ++ xs
-    → Leads o (going past clock (at_rest found kept) l antenna) (calls e.call ∷ [])
+    → Leads (going past clock (at_rest found kept) l antenna) (calls e.call ∷ [])
     (going past clock (at_rest found kept) (called e.call l) antenna)
-publish_leads o past clock found kept l antenna e xs call is =
+publish_leads past clock found kept l antenna e xs call is =
     let here : Life → World = λ m. going past clock (at_rest found kept) m antenna in
-    subst (λ (c : Call). Leads o (here l) (calls c ∷ []) (here (called c l))) (sym call)
+    subst (λ (c : Call). Leads (here l) (calls c ∷ []) (here (called c l))) (sym call)
     (((refl, ([], is ∙ sym (append-nil ((book l).published ++ xs)))), tt), refl)

@@ -3,7 +3,6 @@ use Rattle.std.proofs.Common.{◌≡◌, true, false, IsTrue, List, [], ◌∷�
 use Rattle.std.proofs.Common.{sym, ap, subst, ◌∙◌, append_assoc, append-nil}
 use Rattle.std.proofs.lemmas.Bool.{and_parts}
 use Rattle.archive_terms.specs.Archive.{Entry, is_archive, IsArchive, may_follow}
-use Rattle.station_book.specs.State.{Opening}
 use Rattle.station_world.specs.File.{File, settled, broken_off, with_batch}
 use Rattle.station_world.specs.File.{without_batch, refused}
 use Rattle.station_world.specs.World.{World, Event, offers, begins_store, ends_store, reopens}
@@ -15,12 +14,12 @@ use Rattle.run_events.specs.Stores.{stored_once, store_failed, Way, at_once, lan
 use Rattle.run_events.specs.Stores.{store_events, Tail, nothing, taken, left_broken, not_opened}
 use Rattle.run_events.specs.Stores.{lost_then_taken, lost_then_failed, unpublished, tail_events}
 
-pub leads_on : (o : Opening) (w : World) (xs : List Event) (v : World) (ys : List Event) (u : World)
-    → Leads o w xs v → Leads o v ys u → Leads o w (xs ++ ys) u
-leads_on o w [] v ys u first second =
-    subst (λ (x : World). Leads o x ys u) (sym first.1) second
-leads_on o w (e ∷ xs) v ys u first second =
-    let rest = leads_on o (after_event o w e) xs v ys u (first.0.1, first.1) second in
+pub leads_on : (w : World) (xs : List Event) (v : World) (ys : List Event) (u : World)
+    → Leads w xs v → Leads v ys u → Leads w (xs ++ ys) u
+leads_on w [] v ys u first second =
+    subst (λ (x : World). Leads x ys u) (sym first.1) second
+leads_on w (e ∷ xs) v ys u first second =
+    let rest = leads_on (after_event w e) xs v ys u (first.0.1, first.1) second in
     ((first.0.0, rest.0), rest.1)
 
 -- ---- files
@@ -61,15 +60,15 @@ TailFollows had (unpublished way entries) = IsArchive (had ++ entries)
 
 -- ---- stores
 
-module _ (grows : Grows) (o : Opening) (w : World) (up : IsUp w) (found : List Entry) where
+module _ (grows : Grows) (w : World) (up : IsUp w) (found : List Entry) where
   abbrev at : File → World
   at f = with_file w f
 
   abbrev To : File → List Event → File → Type 0
-  To f events g = Leads o (at f) events (at g)
+  To f events g = Leads (at f) events (at g)
 
   then_to : (f g h : File) (xs ys : List Event) → To f xs g → To g ys h → To f (xs ++ ys) h
-  then_to f g h xs ys first second = leads_on o (at f) xs (at g) ys (at h) first second
+  then_to f g h xs ys first second = leads_on (at f) xs (at g) ys (at h) first second
 
   -- the next one of an archive may follow what stands before it
   may_come : (a b : List Entry) (e : Entry) → IsArchive (a ++ e ∷ b)

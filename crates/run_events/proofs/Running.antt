@@ -2,7 +2,7 @@
 use mathlib.Core.List.{map-append}
 use Rattle.std.proofs.Common.{◌≡◌, ℕ, ◌+◌, ◌≤◌, Option, Some, None, IfSome, Result, Ok, Err}
 use Rattle.std.proofs.Common.{inl, inr, List, [], ◌∷◌, ◌++◌, length, refl, sym, ap, subst, ◌∙◌}
-use Rattle.std.proofs.Common.{append_assoc, append-nil, arith}
+use Rattle.std.proofs.Common.{append-nil, arith}
 use Rattle.cds_time.specs.declared.cds.Cds.{Cds}
 use Rattle.archive_terms.specs.Archive.{Entry}
 use Rattle.disk_model.specs.Images.{Pending}
@@ -33,49 +33,23 @@ use Rattle.station_run.specs.Ran.{Outside, RanOver}
 use Rattle.station_run.specs.declared.report.RunReport.{RunReport}
 use Rattle.station_world.specs.File.{File, Finding, found_by}
 use Rattle.station_world.specs.Life.{born}
-use Rattle.station_world.specs.World.{World, before_all, Event, restarts, restarted, after_event}
+use Rattle.station_world.specs.World.{World, Event, restarts, restarted}
 use Rattle.station_world.specs.World.{after_events}
 use Rattle.station_world.specs.Comes.{AllCome}
 use Rattle.station_world.specs.Calls.{Leads}
-use Rattle.station_world.specs.Headline.{Headline}
 use Rattle.station_world.specs.Archives.{Holds, StandsForOne, ArchiveLaw}
 use Rattle.run_laws.specs.Lossless.{RunsAreLossless}
 use Rattle.run_laws.proofs.Among.{events}
 use Rattle.run_laws.proofs.Doors.{AreDoors, doors_are}
 use Rattle.run_events.specs.Stores.{Tail}
 use Rattle.run_events.specs.Turns.{events_of, turns_with, is_recorders, RecordsIn}
-use Rattle.run_events.specs.Runs.{station_of, events_of_run, LeadsTo, HasHeadline, IsEvents}
-use Rattle.run_events.specs.Runs.{RunsAreEvents}
+use Rattle.run_events.specs.Runs.{station_of, events_of_run, LeadsTo, IsEvents, RunsAreEvents}
 use Rattle.run_events.specs.Laws.{Laws}
 use Rattle.run_events.proofs.Leading.{leads_on, at_rest}
 use Rattle.run_events.proofs.Calling.{going}
 use Rattle.run_events.proofs.Recording.{Rests, Ahead, ChainGoes, chain_goes, Ended, ended_so}
 use Rattle.run_events.proofs.Walking.{records, calls_in, Walked, walk, end_file}
 use Rattle.run_events.proofs.Owning.{IsRecorders, IsAntennas, each_right, as_many, AreTheirs, whose}
-
--- ---- the headline of events that follow others
-
-come_front : (o : Opening) (w : World) (a b : List Event) → AllCome o w (a ++ b) → AllCome o w a
-come_front o w [] b all = tt
-come_front o w (e ∷ a) b all = (all.0, come_front o (after_event o w e) a b all.1)
-
-pub headline_of : Laws → (o : Opening) (w : World) (all : List Event) → AllCome o w all
-    → HasHeadline o w all
-headline_of laws o w all come = λ earlier front more before is whole.
-    let there : AllCome o w (front ++ more) = subst (AllCome o w) whole come in
-    let first = leads_on o before_all earlier w front (after_events o w front) (before, is)
-    (come_front o w front more there, refl) in
-    let last = leads_on o before_all earlier w (front ++ more) (after_events o w (front ++ more))
-    (before, is) (there, refl) in
-    let joined : (earlier ++ front) ++ more ≡ earlier ++ (front ++ more) =
-    append_assoc earlier front more in
-    let law = laws.headline o (earlier ++ front) more
-    (subst (AllCome o before_all) (sym joined) last.0) in
-    let end : after_events o before_all ((earlier ++ front) ++ more) ≡ after_events o w all =
-    ap (after_events o before_all) joined
-    ∙ (last.1 ∙ ap (after_events o w) (sym whole)) in
-    subst (λ (now : World). Headline now (after_events o w all)) first.1
-    (subst (Headline (after_events o before_all (earlier ++ front))) end law)
 
 -- ---- the recorder's own events
 
@@ -246,10 +220,10 @@ module _ {D F A G L C : Type 0} (pending : D → Option Pending) (disk_faults mo
     abbrev tail : Tail
     tail = ended.tail
 
-    walked : Walked laws o w.past w.clock number over.entries tail (records [] recorded) steps
+    walked : Walked laws w.past w.clock number over.entries tail (records [] recorded) steps
         (born origin) w.antenna h
     walked =
-        walk laws o w.past w.clock number over.entries tail h (records [] recorded) steps
+        walk laws w.past w.clock number over.entries tail h (records [] recorded) steps
         (born origin) w.antenna
         (subst (λ (x : Opening). IsLegal (opened x) h) over.ran.origin over.ran.history.legal)
         theirs.of_recorder theirs.of_antenna antenna_told.right (
@@ -259,25 +233,25 @@ module _ {D F A G L C : Type 0} (pending : D → Option Pending) (disk_faults mo
         )
 
     opening : (finding : Finding) × (found_by w.file finding ≡ Some over.entries)
-        × AllCome o w (restarts finding ∷ [])
-        × Holds pending over.archive (after_events o w (restarts finding ∷ [])).file
+        × AllCome w (restarts o finding ∷ [])
+        × Holds pending over.archive (after_events w (restarts o finding ∷ [])).file
     opening = archives.opened over.archive over.entries told.content o w none_lives stands uses
         acknowledged rests.empty
 
     abbrev all : List Event
-    all = events_of_run opening.0 walked.turns
+    all = events_of_run o opening.0 walked.turns
 
     abbrev last_file : File
-    last_file = end_file laws o w.past w.clock number over.entries tail (records [] recorded)
+    last_file = end_file laws w.past w.clock number over.entries tail (records [] recorded)
 
     abbrev last_world : World
     last_world = going w.past w.clock last_file walked.life (w.antenna ++ sent_in steps)
 
-    leads : Leads o w all last_world
+    leads : Leads w all last_world
     leads =
         let start : World =
         going w.past w.clock (at_rest over.entries []) (born origin) w.antenna in
-        leads_on o w (restarts opening.0 ∷ []) start (events_of walked.turns) last_world
+        leads_on w (restarts o opening.0 ∷ []) start (events_of walked.turns) last_world
         (opening.2, ap (restarted o w) opening.1) walked.leads
 
     last_holds : Holds pending over.archive_now last_file
@@ -317,7 +291,8 @@ module _ {D F A G L C : Type 0} (pending : D → Option Pending) (disk_faults mo
       come = leads.0;
       lead = subst (LeadsTo pending sent h over.archive_now old.antenna new.antenna w)
           (sym leads.1) leads_to;
-      headline = headline_of laws o w all leads.0;
+      headline = laws.headline w all;
+      stays = laws.stays w all;
     }
 
   pub runs_are_events : RunsAreEvents pending disk_faults moment images_since makes fails

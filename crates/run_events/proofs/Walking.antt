@@ -8,7 +8,7 @@ use Rattle.archive_terms.specs.Archive.{Entry, IsArchive}
 use Rattle.recorder.specs.declared.recorded.Recorded.{Recorded}
 use Rattle.antenna_turns.specs.Steps.{Step, IsStep, sent_of, sent_in}
 use Rattle.recorder_turns.specs.Steps.{stored_by, publishings}
-use Rattle.station_book.specs.State.{State, Opening, Call, publish, answer, quit, take, done}
+use Rattle.station_book.specs.State.{State, Call, publish, answer, quit, take, done}
 use Rattle.station_book.specs.State.{interrupted, uplink, gone, Event as Answered}
 use Rattle.station_book.specs.History.{IsLegal, then_after}
 use Rattle.station_world.specs.File.{File}
@@ -40,7 +40,7 @@ pub data Mode : Type 0 where
   records : List Entry → List Recorded → Mode
   is_gone : File → Mode
 
-module _ (laws : Laws) (o : Opening) (past : List Life) (clock number : ℕ) (found : List Entry)
+module _ (laws : Laws) (past : List Life) (clock number : ℕ) (found : List Entry)
     (tail : Tail) where
   abbrev pub file_at : Mode → File
   file_at (records kept steps) = at_rest found kept
@@ -78,7 +78,7 @@ module _ (laws : Laws) (o : Opening) (past : List Life) (clock number : ℕ) (fo
     pub beside : AllByRecursion StandsBeside turns
     pub life : Life
     pub history : life.history ≡ l.history ++ h
-    pub leads : Leads o (at mode l antenna) (events_of turns)
+    pub leads : Leads (at mode l antenna) (events_of turns)
         (going past clock (end_file mode) life (antenna ++ sent_in steps))
 
   abbrev Walks : List Answered → Type 0
@@ -114,7 +114,7 @@ module _ (laws : Laws) (o : Opening) (past : List Life) (clock number : ℕ) (fo
         let others : List Turn = turns_with (is_others number) rest.turns in
         AllByRecursion IsAlone (cond (not (of_recorder || of_antenna)) (t ∷ others) others)
     beside : IsTrue (list_all is_beside before) × IsTrue (list_all is_beside behind)
-    leads : Leads o (at mode l antenna) (before ++ calls e.call ∷ behind) (at next m sent)
+    leads : Leads (at mode l antenna) (before ++ calls e.call ∷ behind) (at next m sent)
 
   one_more : (mode next : Mode) (steps later : List Step) (l m : Life)
       (antenna sent : List (List ℕ)) (e : Answered) (h : List Answered)
@@ -143,14 +143,14 @@ module _ (laws : Laws) (o : Opening) (past : List Life) (clock number : ℕ) (fo
         history = rest.history ∙ ap (λ (xs : List Answered). xs ++ h) one.life_is.history
             ∙ append_assoc l.history (e ∷ []) h;
         leads =
-            let whole = leads_on o (at mode l antenna) (events_of_turn t) (at next m sent)
+            let whole = leads_on (at mode l antenna) (events_of_turn t) (at next m sent)
             (events_of rest.turns)
             (going past clock (end_file next) rest.life (sent ++ sent_in later)) one.leads
             rest.leads in
-            subst (λ (f : File). Leads o (at mode l antenna) (events_of (t ∷ rest.turns))
+            subst (λ (f : File). Leads (at mode l antenna) (events_of (t ∷ rest.turns))
             (going past clock f rest.life (antenna ++ sent_in steps))) one.ends
             (subst (λ (octets : List (List ℕ)).
-            Leads o (at mode l antenna) (events_of (t ∷ rest.turns))
+            Leads (at mode l antenna) (events_of (t ∷ rest.turns))
             (going past clock (end_file next) rest.life octets)) one.sends whole);
       }
 
@@ -174,7 +174,7 @@ module _ (laws : Laws) (o : Opening) (past : List Life) (clock number : ℕ) (fo
     m = called e.call l
 
     next : Next l e m
-    next = called_next laws.book_calls o past clock (at_rest [] []) l antenna e legal.0
+    next = called_next laws.book_calls past clock (at_rest [] []) l antenna e legal.0
 
     legal_then : IsLegal (book m) h
     legal_then = legal_on l m e h next legal.1
@@ -228,12 +228,12 @@ module _ (laws : Laws) (o : Opening) (past : List Life) (clock number : ℕ) (fo
           alone = walked.others;
           beside = (stores_beside fits.1.0 s.entries, refl);
           leads =
-              leads_on o (going past clock (at_rest found kept) l antenna)
+              leads_on (going past clock (at_rest found kept) l antenna)
               (store_events fits.1.0 s.entries) (going past clock (at_rest found now) l antenna)
               (calls e.call ∷ []) (going past clock (at_rest found now) m antenna)
-              (way_leads laws.grows o (going past clock (at_rest found kept) l antenna) tt found
+              (way_leads laws.grows (going past clock (at_rest found kept) l antenna) tt found
               fits.1.0 kept s.entries archive)
-              (publish_leads o past clock found now l antenna e s.entries call before);
+              (publish_leads past clock found now l antenna e s.entries call before);
         })
 
     -- it says that it is gone
@@ -260,13 +260,13 @@ module _ (laws : Laws) (o : Opening) (past : List Life) (clock number : ℕ) (fo
           alone = walked.others;
           beside = (tail_beside tail, refl);
           leads =
-              leads_on o (going past clock (at_rest found kept) l antenna) (tail_events tail)
+              leads_on (going past clock (at_rest found kept) l antenna) (tail_events tail)
               (going past clock f l antenna) (calls e.call ∷ []) (going past clock f m antenna)
-              (tail_leads laws.grows o (going past clock (at_rest found kept) l antenna) tt found
+              (tail_leads laws.grows (going past clock (at_rest found kept) l antenna) tt found
               tail kept
               (subst (λ (xs : List Entry). TailFollows (found ++ xs) tail) (append-nil kept)
               fits.2))
-              (call_leads laws.book_calls o past clock f l antenna e (ap is_publishing call));
+              (call_leads laws.book_calls past clock f l antenna e (ap is_publishing call));
         })
 
     by_mode : (mode : Mode)
@@ -288,7 +288,7 @@ module _ (laws : Laws) (o : Opening) (past : List Life) (clock number : ℕ) (fo
     by_steps [] taken takes right = absurd (cc takes)
     by_steps (s ∷ ss) taken takes right =
         let same : e ≡ take_in s = cc takes in
-        let r = step_leads laws.book_calls o past clock (file_at mode) l antenna e legal.0 s right.0
+        let r = step_leads laws.book_calls past clock (file_at mode) l antenna e legal.0 s right.0
         same in
         let sent : List (List ℕ) = antenna ++ sent_of s in
         let walked = goes mode ss r.life sent (legal_on l r.life e h r.next legal.1) ahead
@@ -317,7 +317,7 @@ module _ (laws : Laws) (o : Opening) (past : List Life) (clock number : ℕ) (fo
     alone steps none takes right =
         let quiet : is_publishing e.call ≡ false =
         (or_parts (is_publishing e.call) _ other).0 in
-        let n = called_next laws.book_calls o past clock (file_at mode) l antenna e legal.0 in
+        let n = called_next laws.book_calls past clock (file_at mode) l antenna e legal.0 in
         let m : Life = called e.call l in
         let walked = goes mode steps m antenna (legal_on l m e h n legal.1) ahead takes right
         (fits_on mode l m (same_published l m e n quiet) fits) in
@@ -336,7 +336,7 @@ module _ (laws : Laws) (o : Opening) (past : List Life) (clock number : ℕ) (fo
           alone = ((refl, refl), walked.others);
           beside = (refl, refl);
           leads =
-              call_leads laws.book_calls o past clock (file_at mode) l antenna e quiet;
+              call_leads laws.book_calls past clock (file_at mode) l antenna e quiet;
         })
 
   -- ---- all of them

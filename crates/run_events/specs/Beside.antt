@@ -3,7 +3,6 @@
 use Rattle.std.specs.Prelude.{◌≡◌, Bool, true, false, not, IsTrue, List, [], ◌∷◌, map}
 use Rattle.std.specs.List.{filter}
 use Rattle.std.specs.Option.{option_map}
-use Rattle.station_book.specs.State.{Opening}
 use Rattle.station_world.specs.Life.{Life}
 use Rattle.station_world.specs.World.{World, Event, starts, makes_round, ends_start, after_event}
 use Rattle.station_world.specs.World.{after_events}
@@ -21,10 +20,10 @@ abbrev pub without_starts : List Event → List Event
 without_starts events = filter (λ e. not (is_of_start e)) events
 
 -- each event of a START may come where it stands
-abbrev pub StartsCome : Opening → World → List Event → Type 0
-StartsCome o w [] = Unit {0}
-StartsCome o w (e ∷ events) =
-    (IsTrue (is_of_start e) → Comes w e) × StartsCome o (after_event o w e) events
+abbrev pub StartsCome : World → List Event → Type 0
+StartsCome w [] = Unit {0}
+StartsCome w (e ∷ events) =
+    (IsTrue (is_of_start e) → Comes w e) × StartsCome (after_event w e) events
 
 -- a world with no STARTs
 abbrev pub bare_life : Life → Life
@@ -37,7 +36,7 @@ bare w = record w { past = map bare_life w.past; now = option_map bare_life w.no
 -- come, and lead to the same world as the others alone, but for its STARTs.
 abbrev pub StartsStandBeside : Type 0
 StartsStandBeside =
-    (o : Opening) (w : World) (events : List Event) → AllCome o w (without_starts events)
-    → StartsCome o w events
-    → AllCome o w events
-    × (bare (after_events o w events) ≡ bare (after_events o w (without_starts events)))
+    (w : World) (events : List Event) → AllCome w (without_starts events)
+    → StartsCome w events
+    → AllCome w events
+    × (bare (after_events w events) ≡ bare (after_events w (without_starts events)))

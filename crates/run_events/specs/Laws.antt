@@ -6,7 +6,9 @@ use Rattle.archive_terms.specs.Archive.{is_in_order, last_time, frame_time, seal
 use Rattle.turn_lock.specs.Own.{weight_of, MakeUp}
 use Rattle.turn_lock.specs.declared.view.Mark.{Mark}
 use Rattle.station_book.specs.State.{Event}
-use Rattle.station_world.specs.Headline.{HeadlineLaw}
+use Rattle.station_world.specs.World.{World, Event as Happening}
+use Rattle.station_world.specs.Headline.{Headline}
+use Rattle.station_world.specs.Stays.{LivesGoOn, AtEachMoment}
 use Rattle.station_world.specs.Calls.{CallsAreEvents}
 
 pub record Laws : Type 0 where
@@ -19,4 +21,5 @@ pub record Laws : Type 0 where
   pub weighs : (f : Event → ℕ) (h : List Event) (lists : List (List (Mark Event)))
       → MakeUp h lists → weight_of f lists ≡ sum_by f h
   pub book_calls : CallsAreEvents
-  pub headline : HeadlineLaw
+  pub headline : (w : World) (events : List Happening) → AtEachMoment Headline w events
+  pub stays : (w : World) (events : List Happening) → AtEachMoment LivesGoOn w events

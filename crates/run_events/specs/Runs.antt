@@ -22,9 +22,10 @@ use Rattle.station_run.specs.Ran.{Outside, RanOver}
 use Rattle.station_run.specs.declared.report.RunReport.{RunReport}
 use Rattle.station_world.specs.File.{Finding, without_power, found_by}
 use Rattle.station_world.specs.Life.{Life}
-use Rattle.station_world.specs.World.{World, before_all, Event, restarts, after_events}
+use Rattle.station_world.specs.World.{World, Event, restarts, after_events}
 use Rattle.station_world.specs.Comes.{AllCome}
 use Rattle.station_world.specs.Headline.{Headline}
+use Rattle.station_world.specs.Stays.{LivesGoOn, AtEachMoment}
 use Rattle.station_world.specs.Archives.{Holds, StandsForOne}
 use Rattle.run_events.specs.Stores.{Tail, EndsWith}
 use Rattle.run_events.specs.Turns.{Turn, events_of, answered_in, AreTurns}
@@ -33,9 +34,9 @@ use Rattle.run_events.specs.Turns.{Turn, events_of, answered_in, AreTurns}
 abbrev pub station_of : Site → ℕ → Opening
 station_of site doors = opening_of site [] (doors + 1)
 
--- the archive is opened, and the turns come
-abbrev pub events_of_run : Finding → List Turn → List Event
-events_of_run finding turns = restarts finding ∷ events_of turns
+-- the archive is opened, for a station whose book is opened so, and the turns come
+abbrev pub events_of_run : Opening → Finding → List Turn → List Event
+events_of_run o finding turns = restarts o finding ∷ events_of turns
 
 -- Behind events that led from a world to one behind them, a life goes on with this history; the
 -- archive holds the file, and each image of its disk stands for one of the file's lists, also once
@@ -53,13 +54,6 @@ pub record LeadsTo {D A : Type 0} (pending : D → Option Pending) (sent : A →
   pub sent_on : now.antenna ≡ w.antenna ++ octets
   pub tells : Tells (sent antenna) (sent antenna_now) octets
 
--- The headline holds behind each front of the events, where events led to the world before them.
-abbrev pub HasHeadline : Opening → World → List Event → Type 0
-HasHeadline o w events =
-    (earlier front more : List Event) → AllCome o before_all earlier
-    → after_events o before_all earlier ≡ w → events ≡ front ++ more
-    → Headline (after_events o w front) (after_events o w events)
-
 -- A history with what its workers did in their places is a list of events, all of which may come.
 -- Its first one opens the archive, which finds these entries.
 pub record IsEvents {D A : Type 0} (pending : D → Option Pending)
@@ -74,10 +68,11 @@ pub record IsEvents {D A : Type 0} (pending : D → Option Pending)
   pub turns : List Turn
   pub answered : answered_in turns ≡ history
   pub are : AreTurns number entries recorded tail steps turns
-  pub come : AllCome o w (events_of_run finding turns)
+  pub come : AllCome w (events_of_run o finding turns)
   pub lead : LeadsTo pending sent history archive antenna antenna_now w
-      (after_events o w (events_of_run finding turns))
-  pub headline : HasHeadline o w (events_of_run finding turns)
+      (after_events w (events_of_run o finding turns))
+  pub headline : AtEachMoment Headline w (events_of_run o finding turns)
+  pub stays : AtEachMoment LivesGoOn w (events_of_run o finding turns)
 
 module _ {D F A G L C : Type 0} (pending : D → Option Pending) (disk_faults moment : D → ℕ)
     (images_since : D → ℕ → List ℕ → Type 0) (makes fails : D → DiskCall → D → Type 0)

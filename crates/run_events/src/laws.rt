@@ -11,7 +11,7 @@ use door_model::Door;
 use recorder::FrameSource;
 use run_laws::laws::a_run_loses_nothing;
 use station_book::Event;
-use station_world::laws::{archive_calls_are_events, calls_are_events, headline_law};
+use station_world::laws::{archive_calls_are_events, at_each_moment, calls_are_events};
 use turn_lock::laws::made_up_weighs_as_much;
 
 /// A run of a valid site over a disk that tells, as `station_run` tells it, is a list of events of
@@ -20,8 +20,8 @@ use turn_lock::laws::made_up_weighs_as_much;
 /// each publishing stands what the recorder's step did to store what it publishes, and right before
 /// the recorder's last turn what it did of a step that it didn't end; right behind each take that
 /// radiated stands the send of its octets, good or not. All may come, and at the end the archive
-/// holds the world's file, and the antenna was sent what it tells. So the headline holds behind
-/// each front of them.
+/// holds the world's file, and the antenna was sent what it tells. So the headline holds at
+/// each moment of them, whatever comes after it.
 pub fn a_run_is_events<D: Disk, F: FrameSource, A: Antenna, G: Door, C: Clock>()
     ensures { RunsAreEvents D.pending D.faults D.moment D.images_since D.makes D.fails
         D.fails_to_read F.answers F.faults A.sent A.faults G.shown G.faults G.Link.calls
@@ -47,5 +47,5 @@ pub fn rests_on()
     follows_by_last_times();
     made_up_weighs_as_much::<Event>();
     calls_are_events();
-    headline_law();
+    at_each_moment();
 }

@@ -15,7 +15,7 @@ use Rattle.archive_terms.specs.Glimpse.{Want, wants_nothing, wants_front, wants_
 use Rattle.archive_terms.specs.Rounds.{Round, last_front}
 use Rattle.station_book.specs.Doors.{is_by}
 use Rattle.station_book.specs.Publishing.{published_by, front_of}
-use Rattle.station_book.specs.State.{State, Opening, opened, Call, publish, answer, quit, take}
+use Rattle.station_book.specs.State.{State, opened, Call, publish, answer, quit, take}
 use Rattle.station_book.specs.State.{done}
 use Rattle.station_book.specs.State.{interrupted, uplink, gone, Event as Answered}
 use Rattle.station_book.specs.History.{after, event_at, reply_to, then_after, replay, IsLegal}
@@ -41,16 +41,16 @@ use Rattle.run_rounds.specs.Doors.{FitsAt, AllFit, events_by}
 
 -- ---- lists of events
 
-pub after_both : (o : Opening) (w : World) (xs ys : List Event)
-    → after_events o w (xs ++ ys) ≡ after_events o (after_events o w xs) ys
-after_both o w [] ys = refl
-after_both o w (x ∷ xs) ys = after_both o (after_event o w x) xs ys
+pub after_both : (w : World) (xs ys : List Event)
+    → after_events w (xs ++ ys) ≡ after_events (after_events w xs) ys
+after_both w [] ys = refl
+after_both w (x ∷ xs) ys = after_both (after_event w x) xs ys
 
-pub come_both : (o : Opening) (w : World) (xs ys : List Event) → StartsCome o w xs
-    → StartsCome o (after_events o w xs) ys → StartsCome o w (xs ++ ys)
-come_both o w [] ys first second = second
-come_both o w (x ∷ xs) ys first second =
-    (first.0, come_both o (after_event o w x) xs ys first.1 second)
+pub come_both : (w : World) (xs ys : List Event) → StartsCome w xs
+    → StartsCome (after_events w xs) ys → StartsCome w (xs ++ ys)
+come_both w [] ys first second = second
+come_both w (x ∷ xs) ys first second =
+    (first.0, come_both (after_event w x) xs ys first.1 second)
 
 other_kind : (e : Event) → is_beside e ≡ true → is_of_start e ≡ false
 other_kind (offers entry) is = refl
@@ -64,18 +64,18 @@ other_kind (ends_start place) is = absurd (cc is)
 other_kind (sends good) is = refl
 other_kind (reads moment) is = refl
 other_kind loses_power is = refl
-other_kind (restarts finding) is = refl
+other_kind (restarts o finding) is = refl
 
 -- an event that is no START's
 one_comes : (w : World) (e : Event) → is_of_start e ≡ false → IsTrue (is_of_start e) → Comes w e
 one_comes w e other own = absurd (cc (sym own ∙ other))
 
-none_come : (o : Opening) (w : World) (es : List Event) → IsTrue (list_all is_beside es)
-    → StartsCome o w es
-none_come o w [] all = tt
-none_come o w (e ∷ es) all =
+none_come : (w : World) (es : List Event) → IsTrue (list_all is_beside es)
+    → StartsCome w es
+none_come w [] all = tt
+none_come w (e ∷ es) all =
     let parts = and_parts (is_beside e) (list_all is_beside es) all in
-    (one_comes w e (other_kind e parts.0), none_come o (after_event o w e) es parts.1)
+    (one_comes w e (other_kind e parts.0), none_come (after_event w e) es parts.1)
 
 kept_both : (xs ys : List Event)
     → without_starts (xs ++ ys) ≡ without_starts xs ++ without_starts ys
@@ -98,40 +98,40 @@ pub record GoesOn (w : World) (all : List Start) (b : State) : Type 0 where
   pub same : life.starts ≡ all
   pub book_is : book life ≡ b
 
-beside_one : (o : Opening) (w : World) (all : List Start) (b : State) (e : Event)
-    → is_beside e ≡ true → GoesOn w all b → GoesOn (after_event o w e) all b
-beside_one o w all b (offers entry) is g =
+beside_one : (w : World) (all : List Start) (b : State) (e : Event)
+    → is_beside e ≡ true → GoesOn w all b → GoesOn (after_event w e) all b
+beside_one w all b (offers entry) is g =
     record { life = g.life; now = g.now; same = g.same; book_is = g.book_is }
-beside_one o w all b begins_store is g =
+beside_one w all b begins_store is g =
     record { life = g.life; now = g.now; same = g.same; book_is = g.book_is }
-beside_one o w all b (ends_store good) is g =
+beside_one w all b (ends_store good) is g =
     record { life = g.life; now = g.now; same = g.same; book_is = g.book_is }
-beside_one o w all b (reopens finding) is g =
+beside_one w all b (reopens finding) is g =
     record { life = g.life; now = g.now; same = g.same; book_is = g.book_is }
-beside_one o w all b (calls call) is g = absurd (cc is)
-beside_one o w all b (starts a) is g = absurd (cc is)
-beside_one o w all b (makes_round place r) is g = absurd (cc is)
-beside_one o w all b (ends_start place) is g = absurd (cc is)
-beside_one o w all b (sends good) is g = record {
+beside_one w all b (calls call) is g = absurd (cc is)
+beside_one w all b (starts a) is g = absurd (cc is)
+beside_one w all b (makes_round place r) is g = absurd (cc is)
+beside_one w all b (ends_start place) is g = absurd (cc is)
+beside_one w all b (sends good) is g = record {
   life = sent_with good g.life;
   now = ap (option_map (sent_with good)) g.now;
   same = g.same;
   book_is = g.book_is;
 }
-beside_one o w all b (reads moment) is g = absurd (cc is)
-beside_one o w all b loses_power is g = absurd (cc is)
-beside_one o w all b (restarts finding) is g = absurd (cc is)
+beside_one w all b (reads moment) is g = absurd (cc is)
+beside_one w all b loses_power is g = absurd (cc is)
+beside_one w all b (restarts o finding) is g = absurd (cc is)
 
-beside_all : (o : Opening) (w : World) (all : List Start) (b : State) (es : List Event)
-    → IsTrue (list_all is_beside es) → GoesOn w all b → GoesOn (after_events o w es) all b
-beside_all o w all b [] is g = g
-beside_all o w all b (e ∷ es) is g =
+beside_all : (w : World) (all : List Start) (b : State) (es : List Event)
+    → IsTrue (list_all is_beside es) → GoesOn w all b → GoesOn (after_events w es) all b
+beside_all w all b [] is g = g
+beside_all w all b (e ∷ es) is g =
     let parts = and_parts (is_beside e) (list_all is_beside es) is in
-    beside_all o (after_event o w e) all b es parts.1 (beside_one o w all b e parts.0 g)
+    beside_all (after_event w e) all b es parts.1 (beside_one w all b e parts.0 g)
 
-call_goes : (o : Opening) (w : World) (all : List Start) (b : State) (c : Call) → GoesOn w all b
-    → GoesOn (after_event o w (calls c)) all (after b c)
-call_goes o w all b c g = record {
+call_goes : (w : World) (all : List Start) (b : State) (c : Call) → GoesOn w all b
+    → GoesOn (after_event w (calls c)) all (after b c)
+call_goes w all b c g = record {
   life = called c g.life;
   now = ap (option_map (called c)) g.now;
   same = g.same;
@@ -211,127 +211,126 @@ not_ended door s going = by s.ended (and_parts (is_at door s) (not s.ended) goin
 
 -- ---- what is made behind a turn
 
-module _ (o : Opening) where
-  -- where it leads
-  record Acted (door front : ℕ) (p : Progress) (v : World) (all : List Start) (b : State)
-      : Type 0 where
-    come : StartsCome o v (progress_events door v p)
-    goes : GoesOn (after_events o v (progress_events door v p)) (progressed door front p all) b
-    within : Within front (progressed door front p all)
+-- where it leads
+record Acted (door front : ℕ) (p : Progress) (v : World) (all : List Start) (b : State)
+    : Type 0 where
+  come : StartsCome v (progress_events door v p)
+  goes : GoesOn (after_events v (progress_events door v p)) (progressed door front p all) b
+  within : Within front (progressed door front p all)
 
-  module _ (door front : ℕ) (v : World) (all : List Start) (b : State) (g : GoesOn v all b)
-      (front_is : length b.published ≡ front) (saw : Within front all) where
-    abbrev l : Life
-    l = g.life
+module _ (door front : ℕ) (v : World) (all : List Start) (b : State) (g : GoesOn v all b)
+    (front_is : length b.published ≡ front) (saw : Within front all) where
+  abbrev l : Life
+  l = g.life
 
-    here : length (book l).published ≡ front
-    here = ap (λ (s : State). length s.published) g.book_is ∙ front_is
+  here : length (book l).published ≡ front
+  here = ap (λ (s : State). length s.published) g.book_is ∙ front_is
 
-    lives_so : (P : Life → Type 0) → P l → Lives v.now P
-    lives_so P holds = subst (λ (x : Option Life). Lives x P) (sym g.now) holds
+  lives_so : (P : Life → Type 0) → P l → Lives v.now P
+  lives_so P holds = subst (λ (x : Option Life). Lives x P) (sym g.now) holds
 
-    going_here : option_map_or (λ (m : Life). going_in door m.starts) v.now None
-        ≡ going_in door all
-    going_here =
-        ap (λ (x : Option Life). option_map_or (λ (m : Life). going_in door m.starts) x None) g.now
-        ∙ ap (going_in door) g.same
+  going_here : option_map_or (λ (m : Life). going_in door m.starts) v.now None
+      ≡ going_in door all
+  going_here =
+      ap (λ (x : Option Life). option_map_or (λ (m : Life). going_in door m.starts) x None) g.now
+      ∙ ap (going_in door) g.same
 
-    -- a START is taken
-    take_acts : (a : Asked) → IsFit door front (taken_now a)
-        → Acted door front (taken_now a) v all b
-    take_acts a fit = record {
-      come = ((λ _. lives_so (λ _. 0 < a.size) fit.1), tt);
-      goes = record {
-        life = taken a l;
-        now = ap (option_map (taken a)) g.now;
-        same = ap (λ n. l.starts ++ begun a n ∷ []) here
-            ∙ ap (λ (xs : List Start). xs ++ begun a front ∷ []) g.same;
-        book_is = g.book_is;
-      };
-      within = within_one front all (begun a front) saw (omega arith);
-    }
+  -- a START is taken
+  take_acts : (a : Asked) → IsFit door front (taken_now a)
+      → Acted door front (taken_now a) v all b
+  take_acts a fit = record {
+    come = ((λ _. lives_so (λ _. 0 < a.size) fit.1), tt);
+    goes = record {
+      life = taken a l;
+      now = ap (option_map (taken a)) g.now;
+      same = ap (λ n. l.starts ++ begun a n ∷ []) here
+          ∙ ap (λ (xs : List Start). xs ++ begun a front ∷ []) g.same;
+      book_is = g.book_is;
+    };
+    within = within_one front all (begun a front) saw (omega arith);
+  }
 
-    -- the one that goes on changes, by an event at its place
-    module _ (change : Start → Start)
-        (keeps : (s : Start) → last_front 0 s.rounds ≤ front
-        → last_front 0 (change s).rounds ≤ front)
-        (event : ℕ → Event)
-        (own : (place : ℕ) → is_of_start (event place) ≡ true)
-        (comes : (place : ℕ) (s : Start) → slice_get l.starts place ≡ Some s
-        → s.ended ≡ false → last_front 0 s.rounds ≤ front → Comes v (event place))
-        (leaves : (place : ℕ)
-        → after_event o v (event place)
-        ≡ record v { now = option_map (changed place change) v.now }) where
-      record Changed (at : Option ℕ) : Type 0 where
-        come : StartsCome o v (events_at at event)
-        goes : GoesOn (after_events o v (events_at at event)) (changed_at at change all) b
-        within : Within front (changed_at at change all)
+  -- the one that goes on changes, by an event at its place
+  module _ (change : Start → Start)
+      (keeps : (s : Start) → last_front 0 s.rounds ≤ front
+      → last_front 0 (change s).rounds ≤ front)
+      (event : ℕ → Event)
+      (own : (place : ℕ) → is_of_start (event place) ≡ true)
+      (comes : (place : ℕ) (s : Start) → slice_get l.starts place ≡ Some s
+      → s.ended ≡ false → last_front 0 s.rounds ≤ front → Comes v (event place))
+      (leaves : (place : ℕ)
+      → after_event v (event place)
+      ≡ record v { now = option_map (changed place change) v.now }) where
+    record Changed (at : Option ℕ) : Type 0 where
+      come : StartsCome v (events_at at event)
+      goes : GoesOn (after_events v (events_at at event)) (changed_at at change all) b
+      within : Within front (changed_at at change all)
 
-      change_acts : (at : Option ℕ) → going_in door all ≡ at → Changed at
-      change_acts None is = record { come = tt; goes = g; within = saw }
-      change_acts (Some place) is =
-          let one = stands_there door all place is in
-          let there : slice_get l.starts place ≡ Some one.start =
-          ap (λ (xs : List Start). slice_get xs place) g.same ∙ one.there in record {
-            come = (
-              (
-                  λ _. comes place one.start there (not_ended door one.start one.going)
-                  (within_at front place all one.start one.there saw)
-                  ),
-              tt,
-            );
-            goes = subst (λ (w : World). GoesOn w (change_at place change all) b)
-                (sym (leaves place)) (record {
-                  life = changed place change l;
-                  now = ap (option_map (changed place change)) g.now;
-                  same = ap (change_at place change) g.same;
-                  book_is = g.book_is;
-                });
-            within = within_change front change keeps place all saw;
-          }
+    change_acts : (at : Option ℕ) → going_in door all ≡ at → Changed at
+    change_acts None is = record { come = tt; goes = g; within = saw }
+    change_acts (Some place) is =
+        let one = stands_there door all place is in
+        let there : slice_get l.starts place ≡ Some one.start =
+        ap (λ (xs : List Start). slice_get xs place) g.same ∙ one.there in record {
+          come = (
+            (
+                λ _. comes place one.start there (not_ended door one.start one.going)
+                (within_at front place all one.start one.there saw)
+                ),
+            tt,
+          );
+          goes = subst (λ (w : World). GoesOn w (change_at place change all) b)
+              (sym (leaves place)) (record {
+                life = changed place change l;
+                now = ap (option_map (changed place change)) g.now;
+                same = ap (change_at place change) g.same;
+                book_is = g.book_is;
+              });
+          within = within_change front change keeps place all saw;
+        }
 
-      all_change : (at : Option ℕ) → at ≡ going_in door all
-          → (come : StartsCome o v (events_at at event))
-          × GoesOn (after_events o v (events_at at event))
-          (changed_at (going_in door all) change all) b
-          × Within front (changed_at (going_in door all) change all)
-      all_change at is =
-          let one = change_acts (going_in door all) refl in
-          subst (λ (x : Option ℕ). (come : StartsCome o v (events_at x event))
-          × GoesOn (after_events o v (events_at x event))
-          (changed_at (going_in door all) change all) b
-          × Within front (changed_at (going_in door all) change all)) (sym is)
-          (one.come, one.goes, one.within)
+    all_change : (at : Option ℕ) → at ≡ going_in door all
+        → (come : StartsCome v (events_at at event))
+        × GoesOn (after_events v (events_at at event))
+        (changed_at (going_in door all) change all) b
+        × Within front (changed_at (going_in door all) change all)
+    all_change at is =
+        let one = change_acts (going_in door all) refl in
+        subst (λ (x : Option ℕ). (come : StartsCome v (events_at x event))
+        × GoesOn (after_events v (events_at x event))
+        (changed_at (going_in door all) change all) b
+        × Within front (changed_at (going_in door all) change all)) (sym is)
+        (one.come, one.goes, one.within)
 
-    round_acts : (r : Round) → IsFit door front (goes_by r)
-        → Acted door front (goes_by r) v all b
-    round_acts r fit =
-        let at = option_map_or (λ (m : Life). going_in door m.starts) v.now None in
-        let one = all_change (with_round r)
-        (λ s before. subst (λ n. n ≤ front) (sym (last_is 0 s.rounds r)) (omega (arith, fit)))
-        (λ place. makes_round place r) (λ place. refl)
-        (λ place s there on before. lives_so (λ m. MayMake m place r) (record {
-          start = s;
-          there = there;
-          goes_on = on;
-          rises = omega (arith, before, fit);
-          published = omega (arith, here, fit);
-        }))
-        (λ place. refl) at going_here in
-        record { come = one.0; goes = one.1; within = one.2 }
+  round_acts : (r : Round) → IsFit door front (goes_by r)
+      → Acted door front (goes_by r) v all b
+  round_acts r fit =
+      let at = option_map_or (λ (m : Life). going_in door m.starts) v.now None in
+      let one = all_change (with_round r)
+      (λ s before. subst (λ n. n ≤ front) (sym (last_is 0 s.rounds r)) (omega (arith, fit)))
+      (λ place. makes_round place r) (λ place. refl)
+      (λ place s there on before. lives_so (λ m. MayMake m place r) (record {
+        start = s;
+        there = there;
+        goes_on = on;
+        rises = omega (arith, before, fit);
+        published = omega (arith, here, fit);
+      }))
+      (λ place. refl) at going_here in
+      record { come = one.0; goes = one.1; within = one.2 }
 
-    end_acts : Acted door front ended_now v all b
-    end_acts =
-        let at = option_map_or (λ (m : Life). going_in door m.starts) v.now None in
-        let one = all_change with_end (λ s before. before) ends_start (λ place. refl)
-        (λ place s there on before. lives_so (λ m. Unit {0}) tt) (λ place. refl) at going_here in
-        record { come = one.0; goes = one.1; within = one.2 }
+  end_acts : Acted door front ended_now v all b
+  end_acts =
+      let at = option_map_or (λ (m : Life). going_in door m.starts) v.now None in
+      let one = all_change with_end (λ s before. before) ends_start (λ place. refl)
+      (λ place s there on before. lives_so (λ m. Unit {0}) tt) (λ place. refl) at going_here in
+      record { come = one.0; goes = one.1; within = one.2 }
 
-    acts : (p : Progress) → IsFit door front p → Acted door front p v all b
-    acts none_runs fit = record { come = tt; goes = g; within = saw }
-    acts (taken_now a) fit = take_acts a fit
-    acts (goes_by r) fit = round_acts r fit
-    acts ended_now fit = end_acts
+  acts : (p : Progress) → IsFit door front p → Acted door front p v all b
+  acts none_runs fit = record { come = tt; goes = g; within = saw }
+  acts (taken_now a) fit = take_acts a fit
+  acts (goes_by r) fit = round_acts r fit
+  acts ended_now fit = end_acts
 
 -- ---- what a door saw
 
@@ -526,17 +525,17 @@ module _ (d : ℕ) (p : Progress) (ps : List Progress) (plans : Plans)
         ∙ ap (λ (b : Bool). made_of k (cond b (e ∷ later) later) (plans k) (filter (is_at k) all))
         (sym by_it)))
 
-module _ (o : Opening) (number : ℕ) (law : ProgressIsOfItsDoor) where
+module _ (number : ℕ) (law : ProgressIsOfItsDoor) where
   -- Turns with what doors make of STARTs behind theirs.
   pub record Filled (ts : List Turn) (plans : Plans) (u : World) (all : List Start) (b : State)
       : Type 0 where
     pub filled : List Turn
     pub answered : answered_in filled ≡ answered_in ts
     pub plain : without_starts (events_of filled) ≡ events_of ts
-    pub come : StartsCome o u (events_of filled)
+    pub come : StartsCome u (events_of filled)
     pub ends : List Start
-    pub goes : GoesOn (after_events o u (events_of filled)) ends (replay b (answered_in ts))
-    pub makes : (door : ℕ) → AllMake door (plans door) (turns_by door (placed o u filled))
+    pub goes : GoesOn (after_events u (events_of filled)) ends (replay b (answered_in ts))
+    pub makes : (door : ℕ) → AllMake door (plans door) (turns_by door (placed u filled))
     pub made : (door : ℕ)
         → filter (is_at door) ends
         ≡ made_of door (events_by door (answered_in ts)) (plans door) (filter (is_at door) all)
@@ -561,15 +560,15 @@ module _ (o : Opening) (number : ℕ) (law : ProgressIsOfItsDoor) where
     next = after b e.call
 
     abbrev v : World
-    v = called_in o u t
+    v = called_in u t
 
     -- right behind the call
     called_goes : GoesOn v all next
     called_goes =
         subst (λ (w : World). GoesOn w all next)
-        (sym (after_both o u t.before (calls e.call ∷ [])))
-        (call_goes o (after_events o u t.before) all b e.call
-        (beside_all o u all b t.before beside.0.0 g))
+        (sym (after_both u t.before (calls e.call ∷ [])))
+        (call_goes (after_events u t.before) all b e.call
+        (beside_all u all b t.before beside.0.0 g))
 
     saw_then : Within (length next.published) all
     saw_then = within_more (length b.published) (length next.published) all (grows_by b e.call) saw
@@ -586,23 +585,23 @@ module _ (o : Opening) (number : ℕ) (law : ProgressIsOfItsDoor) where
         kept_both t.before (calls e.call ∷ [])
         ∙ ap (λ (xs : List Event). xs ++ calls e.call ∷ []) (all_kept t.before beside.0.0)
 
-    front_comes : StartsCome o u front
+    front_comes : StartsCome u front
     front_comes =
-        come_both o u t.before (calls e.call ∷ []) (none_come o u t.before beside.0.0)
-        (one_comes (after_events o u t.before) (calls e.call) refl, tt)
+        come_both u t.before (calls e.call ∷ []) (none_come u t.before beside.0.0)
+        (one_comes (after_events u t.before) (calls e.call) refl, tt)
 
     -- with these events behind it
-    module _ (behind : List Event) (come : StartsCome o v behind)
+    module _ (behind : List Event) (come : StartsCome v behind)
         (plain : without_starts behind ≡ t.behind) where
       abbrev its : Turn
       its = record { before = t.before; answered = e; behind = behind }
 
-      whole_comes : StartsCome o u (events_of_turn its)
+      whole_comes : StartsCome u (events_of_turn its)
       whole_comes =
-          subst (StartsCome o u) (sym (split behind)) (come_both o u front behind front_comes come)
+          subst (StartsCome u) (sym (split behind)) (come_both u front behind front_comes come)
 
-      leads_on : after_events o u (events_of_turn its) ≡ after_events o v behind
-      leads_on = ap (after_events o u) (split behind) ∙ after_both o u front behind
+      leads_on : after_events u (events_of_turn its) ≡ after_events v behind
+      leads_on = ap (after_events u) (split behind) ∙ after_both u front behind
 
       plain_is : without_starts (events_of_turn its) ≡ events_of_turn t
       plain_is =
@@ -613,9 +612,9 @@ module _ (o : Opening) (number : ℕ) (law : ProgressIsOfItsDoor) where
 
       -- and the turns behind that
       and_more : (plans_then : Plans) (all_then : List Start)
-          → (rest : Filled ts plans_then (after_events o u (events_of_turn its)) all_then next)
+          → (rest : Filled ts plans_then (after_events u (events_of_turn its)) all_then next)
           → ((door : ℕ)
-          → AllMake door (plans door) (turns_by door (placed o u (its ∷ rest.filled))))
+          → AllMake door (plans door) (turns_by door (placed u (its ∷ rest.filled))))
           → ((door : ℕ)
           → filter (is_at door) rest.ends
           ≡ made_of door (events_by door (answered_in (t ∷ ts))) (plans door)
@@ -627,10 +626,10 @@ module _ (o : Opening) (number : ℕ) (law : ProgressIsOfItsDoor) where
         plain = kept_both (events_of_turn its) (events_of rest.filled)
             ∙ (ap (λ (xs : List Event). xs ++ without_starts (events_of rest.filled)) plain_is
             ∙ ap (λ (xs : List Event). events_of_turn t ++ xs) rest.plain);
-        come = come_both o u (events_of_turn its) (events_of rest.filled) whole_comes rest.come;
+        come = come_both u (events_of_turn its) (events_of rest.filled) whole_comes rest.come;
         ends = rest.ends;
         goes = subst (λ (x : World). GoesOn x rest.ends (replay next (answered_in ts)))
-            (sym (after_both o u (events_of_turn its) (events_of rest.filled))) rest.goes;
+            (sym (after_both u (events_of_turn its) (events_of rest.filled))) rest.goes;
         makes = makes;
         made = made;
       }
@@ -641,16 +640,16 @@ module _ (o : Opening) (number : ℕ) (law : ProgressIsOfItsDoor) where
         → ((door : ℕ) → AllFit door (events_by door (answered_in ts)) (plans door))
         → Filled (t ∷ ts) plans u all b
     stays nobody alone fit =
-        let come : StartsCome o v t.behind = none_come o v t.behind beside.0.1 in
+        let come : StartsCome v t.behind = none_come v t.behind beside.0.1 in
         let plain : without_starts t.behind ≡ t.behind = all_kept t.behind beside.0.1 in
-        let w : World = after_events o u (events_of_turn t) in
+        let w : World = after_events u (events_of_turn t) in
         let there : GoesOn w all next =
         subst (λ (x : World). GoesOn x all next) (sym (leads_on t.behind come plain))
-        (beside_all o v all next t.behind beside.0.1 called_goes) in
+        (beside_all v all next t.behind beside.0.1 called_goes) in
         let rest = fill plans w all next legal.1 beside.1 alone there saw_then fit in
         and_more t.behind come plain plans all rest
         (λ door.
-        let later = turns_by door (placed o w rest.filled) in
+        let later = turns_by door (placed w rest.filled) in
         subst (λ (c : Bool). AllMake door (plans door) (cond c ((v, t) ∷ later) later))
         (sym (by_nobody e.call door nobody)) (rest.makes door))
         (λ door.
@@ -673,12 +672,12 @@ module _ (o : Opening) (number : ℕ) (law : ProgressIsOfItsDoor) where
         ap (λ (x : Answered). front_of x.reply) is in
         let seen = seen_at b e.call d p own
         (subst (λ (x : Option ℕ). FitsAt d x p) reply fits) in
-        let acted = acts o d n v all next called_goes refl saw_then p seen.fit in
+        let acted = acts d n v all next called_goes refl saw_then p seen.fit in
         let behind : List Event = progress_events d v p in
         let plain : without_starts behind ≡ t.behind = none_left d v p ∙ sym single.1 in
         let t' : Turn = its behind acted.come plain in
         let all' : List Start = progressed d n p all in
-        let w : World = after_events o u (events_of_turn t') in
+        let w : World = after_events u (events_of_turn t') in
         let there : GoesOn w all' next =
         subst (λ (x : World). GoesOn x all' next) (sym (leads_on behind acted.come plain))
         acted.goes in
@@ -687,7 +686,7 @@ module _ (o : Opening) (number : ℕ) (law : ProgressIsOfItsDoor) where
         and_more behind acted.come plain (with_rest d ps plans) all' rest
         (λ door.
         makes_more d p ps plans planned e.call own door (v, t')
-        (turns_by door (placed o w rest.filled)) (record { before = single.0; behind = refl })
+        (turns_by door (placed w rest.filled)) (record { before = single.0; behind = refl })
         (rest.makes door) (d == door) refl)
         (λ door.
         made_more d p ps plans planned e.call own law n door e (events_by door (answered_in ts))

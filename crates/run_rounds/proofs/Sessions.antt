@@ -3,7 +3,7 @@ use Rattle.std.proofs.Common.{◌≡◌, ℕ, Bool, true, false, not, Option, So
 use Rattle.std.proofs.Common.{◌∷◌, ◌++◌, refl, sym, ap, subst, ◌∙◌, append_assoc}
 use Rattle.std.specs.Prelude.{is_some}
 use Rattle.std.specs.List.{AllByRecursion}
-use Rattle.std.specs.Option.{option_map, option_or}
+use Rattle.std.specs.Option.{option_map}
 use Rattle.std.proofs.lemmas.Bool.{and_parts}
 use Rattle.octet_core.specs.declared.offer.Offer.{Offer}
 use Rattle.octet_core.specs.declared.offer.Offer.TheVariants.{Whole, Stalled, Failed as Refused}
@@ -11,7 +11,6 @@ use Rattle.link_model.specs.declared.call.Heard.{Heard}
 use Rattle.link_model.specs.declared.call.Heard.TheVariants.{Arrived, Nothing, Closed, Failed}
 use Rattle.archive_terms.specs.Rounds.{Round as DeliveryRound}
 use Rattle.return_core.specs.Visits.{round_of}
-use Rattle.return_pdu.specs.declared.service.Service.TheVariants as buffer
 use Rattle.station_config.specs.declared.site.Site.{Site}
 use Rattle.station_book.specs.Publishing.{front_of}
 use Rattle.station_book.specs.State.{quit, Event as Answered}
@@ -24,10 +23,11 @@ use Rattle.session_core.specs.declared.course.Course.{Course}
 use Rattle.session_core.specs.declared.course.Course.TheVariants as course
 use Rattle.session_core.specs.declared.standing.Standing.{Standing}
 use Rattle.session_laws.specs.Deliveries.{is_serving, visit_by}
+use Rattle.session_laws.specs.Instances.{shape_at}
 use Rattle.station_world.specs.Life.{Start, Asked}
 use Rattle.station_world.proofs.Lists.{all_join}
 use Rattle.line_events.specs.Progress.{Progress, ended_now, progressed}
-use Rattle.session_events.specs.Asked.{asked_in, asked_where, asked_by}
+use Rattle.session_events.specs.Asked.{asked_in, asked_where, asked_of as asks_of, wanted_at}
 use Rattle.session_events.specs.Rounds.{progress_of, progress_by, made_in, SawFront, front_in}
 use Rattle.session_events.specs.Rounds.{RoundsMayCome}
 use Rattle.session_events.specs.Starts.{starts_over}
@@ -35,6 +35,7 @@ use Rattle.run_laws.proofs.Calls.{owner, AreOf, of_both}
 use Rattle.run_rounds.specs.Doors.{FitsAt, AllFit, made_of}
 use Rattle.run_rounds.specs.Sessions.{Session, first_of, IsSession, AreAsked, answer_makes}
 use Rattle.run_rounds.specs.Sessions.{rounds_make, sessions_make, starts_of}
+use Rattle.run_rounds.specs.Links.{HasCalls}
 
 -- ---- lists, one behind the other
 
@@ -105,7 +106,7 @@ module _ (site : Site) (door : ℕ) where
 
       asked : asked_in door site s r ≡ None
       asked = ap (λ (told : Option BookAnswer). asked_where told
-          (option_or (asked_by buffer.Raf door site s r) (asked_by buffer.Rcf door site s r))) none
+          (asks_of door (shape_at site s.standing) (wanted_at site s r))) none
 
       made : made_in s r ≡ None
       made = ap (λ (told : Option BookAnswer).
@@ -237,18 +238,21 @@ module _ (site : Site) (door : ℕ) where
   -- Events are those of these sessions.
   pub record AreTheirs (es : List Answered) (sessions : List Session) : Type 0 where
     pub right : AllByRecursion (IsSession site door) sessions
+    pub calls : AllByRecursion (HasCalls site door) sessions
     pub asked : AreAsked site door es sessions
 
   pub none_are : AreTheirs [] []
-  none_are = record { right = tt; asked = refl }
+  none_are = record { right = tt; calls = tt; asked = refl }
 
   pub theirs_more : (es : List Answered) (sessions : List Session) → AreTheirs es sessions
       → (a : Session) (answers : List Answered) (left : Answered) → IsSession site door a
+      → HasCalls site door a
       → answers ≡ session_events site door (first_of site door a) a.rounds
       → left.call ≡ quit door
       → AreTheirs (es ++ (answers ++ left ∷ [])) (sessions ++ a ∷ [])
-  theirs_more es sessions was a answers left right is quits = record {
+  theirs_more es sessions was a answers left right calls is quits = record {
     right = all_join (IsSession site door) sessions (a ∷ []) was.right (right, tt);
+    calls = all_join (HasCalls site door) sessions (a ∷ []) was.calls (calls, tt);
     asked = asked_more sessions es was.asked a answers left is quits;
   }
 

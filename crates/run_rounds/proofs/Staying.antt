@@ -2,7 +2,6 @@
 use Rattle.std.proofs.Common.{◌≡◌, ℕ, zero, suc, Bool, true, false, cond, Some}
 use Rattle.std.proofs.Common.{List, [], ◌∷◌, ◌++◌, slice_get, filter, refl, sym, ap, subst, ◌∙◌}
 use Rattle.std.specs.List.{AllByRecursion}
-use Rattle.return_pdu.specs.declared.service.Service.{Service as ReturnService}
 use Rattle.station_config.specs.Validity.{IsSite}
 use Rattle.station_config.specs.declared.site.Site.{Site}
 use Rattle.session_core.specs.Lists.{Began}
@@ -53,10 +52,10 @@ module _ (site : Site) (door : ℕ) where
   began a = began_at site door a.draw a.entered
 
   -- behind the quit of its session, and the sessions that follow
-  has_still : (service : ReturnService) (b : Began) (x : SessionStart) → b.door ≡ door
-      → (later : List Session) (over : List Start) → LeavesIt service b x over
-      → HasIt service b x (starts_of site door later (progressed door 0 ended_now over))
-  has_still service b x at later over left =
+  has_still : (b : Began) (x : SessionStart) → b.door ≡ door
+      → (later : List Session) (over : List Start) → LeavesIt b x over
+      → HasIt b x (starts_of site door later (progressed door 0 ended_now over))
+  has_still b x at later over left =
       let s = left.has.start in
       let place = left.has.place in
       let quit = progressed door 0 ended_now over in
@@ -74,20 +73,20 @@ module _ (site : Site) (door : ℕ) where
         place = place;
         start = on.start;
         there = on.there;
-        is = it_stays service b x s all place left.has.is on
+        is = it_stays b x s all place left.has.is on
             (λ these. ap (λ (y : Start). y.rounds) (sym (same these)));
       }
 
   pub each_is_there : StartsAreThere → IsSite site → (earlier later : List Session) (a : Session)
-      → IsSession site door a → (service : ReturnService) (x : SessionStart)
-      → IsStart service (began a) a.rounds x → (all : List Start)
-      → HasIt service (began a) x (starts_of site door (earlier ++ a ∷ later) all)
-  each_is_there law valid [] later a right service x is all =
-      has_still service (began a) x refl later
+      → IsSession site door a → (x : SessionStart)
+      → IsStart (began a) a.rounds x → (all : List Start)
+      → HasIt (began a) x (starts_of site door (earlier ++ a ∷ later) all)
+  each_is_there law valid [] later a right x is all =
+      has_still (began a) x refl later
       (starts_over door site (first_of site door a) a.rounds all)
-      (law (began a) a.rounds all valid right service x is)
-  each_is_there law valid (b ∷ earlier) later a right service x is all =
-      each_is_there law valid earlier later a right service x is
+      (law (began a) a.rounds all valid right x is)
+  each_is_there law valid (b ∷ earlier) later a right x is all =
+      each_is_there law valid earlier later a right x is
       (progressed door 0 ended_now (starts_over door site (first_of site door b) b.rounds all))
 
 -- ---- among others
@@ -117,10 +116,10 @@ from_filter p (x ∷ all) place s is = by (p x) refl (from_filter p all)
         inner b place
         (subst (λ (c : Bool). slice_get (cond c (x ∷ rest) rest) place ≡ Some s) here is) goes
 
-pub has_in_whole : (service : ReturnService) (b : Began) (x : SessionStart) (p : Start → Bool)
-    (all some_of : List Start) → filter p all ≡ some_of → HasIt service b x some_of
-    → HasIt service b x all
-has_in_whole service b x p all some_of same has =
+pub has_in_whole : (b : Began) (x : SessionStart) (p : Start → Bool)
+    (all some_of : List Start) → filter p all ≡ some_of → HasIt b x some_of
+    → HasIt b x all
+has_in_whole b x p all some_of same has =
     let one = from_filter p all has.place has.start
     (ap (λ (xs : List Start). slice_get xs has.place) same ∙ has.there) in record {
       place = one.0;

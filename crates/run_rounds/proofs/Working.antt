@@ -13,7 +13,7 @@ use Rattle.station_seats.specs.Seats.{IsFresh, owns_of}
 use Rattle.station_seats.specs.declared.report.DoorReport.{DoorReport}
 use Rattle.station_seats.specs.declared.seat.DoorSeat.{DoorSeat}
 use Rattle.session_core.specs.SessionState.{SessionState}
-use Rattle.session_core.specs.Session.{State, Round, session_events}
+use Rattle.session_core.specs.Session.{State, session_events}
 use Rattle.session_core.specs.Lists.{Stage, Part, to_listen, to_step, to_speak, none_made}
 use Rattle.session_core.specs.Lists.{made_listen, made_step, stage_of, part_events, start_of}
 use Rattle.session_core.specs.Lists.{state_after}
@@ -30,7 +30,9 @@ use Rattle.door_turns.specs.declared.visit.Visit.{Visit}
 use Rattle.door_turns.specs.declared.visit.Visit.TheVariants as visit
 use Rattle.run_laws.proofs.Among.{events}
 use Rattle.run_rounds.specs.Sessions.{Session, first_of, IsSession}
-use Rattle.run_rounds.specs.Workers.{rounds_served, session_of, sessions_of_visits, sessions_of_end}
+use Rattle.run_rounds.specs.Links.{HasCalls}
+use Rattle.run_rounds.specs.Workers.{Made, made_by, made_served, session_with, session_of}
+use Rattle.run_rounds.specs.Workers.{sessions_of_visits, sessions_of_end}
 use Rattle.run_rounds.specs.Workers.{sessions_of_worker, sessions_of_each}
 use Rattle.run_rounds.proofs.Sessions.{AreTheirs, none_are, theirs_more}
 
@@ -63,37 +65,47 @@ module _ {G L C : Type 0} (shown : G → Option Shown) (faults : G → ℕ)
     -- events are those of a session that began so
     record IsOne (a : Session) (answers : List Event) : Type 0 where
       right : IsSession site door a
+      has : HasCalls site door a
       events_are : answers ≡ session_events site door (first_of site door a) a.rounds
 
-    abbrev from : ℕ → List Round → Session
-    from entered rounds = record { draw = draw; entered = entered; rounds = rounds }
+    abbrev from : ℕ → Made → Session
+    from entered made = session_with draw entered made
 
     stood : (stage : Stage) (entered : ℕ) (w : SessionState) (answers : List Event)
         (link link_now : L) → (stage ≡ to_speak → ⊥)
         → (s : Stood calls link_faults stage (began_at site door draw entered) w answers link
         link_now)
-        → IsOne (from entered s.stands.rounds) answers
+        → IsOne (from entered (made_by s.own s.stands)) answers
     stood stage entered w answers link link_now before s =
         let began = began_at site door draw entered in
-        let asked = session_events site door (start_of began) s.stands.rounds in record {
+        let asked = session_events site door (start_of began) s.stands.rounds in
+        let unasked : part_events site door (state_after began s.stands.rounds) s.stands.part ≡ [] =
+        no_events site door (state_after began s.stands.rounds) stage s.stands.part
+        s.stands.stage_is before in record {
           right = s.stands.right;
+          has = record {
+            part_right = s.stands.part_right;
+            unasked = unasked;
+            calls_are = s.stands.calls_are;
+          };
           events_are =
               s.stands.events_are
-              ∙ (ap (λ (xs : List Event). asked ++ xs)
-              (no_events site door (state_after began s.stands.rounds) stage s.stands.part
-              s.stands.stage_is before)
-              ∙ append-nil asked);
+              ∙ (ap (λ (xs : List Event). asked ++ xs) unasked ∙ append-nil asked);
         }
 
     served : (result : Result Ended ServeFault) (entered : ℕ) (answers : List Event)
         (unused : List ℕ) (turns left : ℕ) (link link_now : L)
         → (to : ServedTo calls link_faults result (began_at site door draw entered) answers unused
         turns left link link_now)
-        → IsOne (from entered (rounds_served shown faults calls link_faults readings lock site draw
+        → IsOne (from entered (made_served shown faults calls link_faults readings lock site draw
         result (began_at site door draw entered) answers unused turns left link link_now to))
         answers
     served (Err Memory) entered answers unused turns left link link_now (inl never) =
-        record { right = tt; events_are = never.no_answers }
+        record {
+          right = tt;
+          has = record { part_right = tt; unasked = refl; calls_are = refl };
+          events_are = never.no_answers;
+        }
     served (Err Memory) entered answers unused turns left link link_now (inr wanted) =
         stood to_step entered wanted.heard answers link link_now (λ e. cc e) wanted.stood
     served (Err LinkFault) entered answers unused turns left link link_now ran =
@@ -135,7 +147,7 @@ module _ {G L C : Type 0} (shown : G → Option Shown) (faults : G → ℕ)
         subst (λ (es : List Event). AreTheirs site door es (sessions ++ its said a b s ∷ []))
         (sym whole)
         (theirs_more site door (events earlier) sessions before (its said a b s) (events answers)
-        left.event one.right one.events_are serves.is_quit)
+        left.event one.right one.has one.events_are serves.is_quit)
 
     visits_are : (count turns : ℕ) (gained : List (Mark Event)) (a b : WorkerState G C)
         → (v : Visits shown faults calls link_faults readings lock site door draw count turns gained

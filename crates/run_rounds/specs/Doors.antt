@@ -3,7 +3,7 @@ use Rattle.std.specs.Prelude.{◌≡◌, ℕ, Option, Some, None, List, [], ◌�
 use Rattle.std.specs.List.{filter}
 use Rattle.station_book.specs.Doors.{is_by}
 use Rattle.station_book.specs.Publishing.{front_of}
-use Rattle.station_book.specs.State.{Opening, Event as Answered}
+use Rattle.station_book.specs.State.{Event as Answered}
 use Rattle.station_world.specs.Life.{Start}
 use Rattle.station_world.specs.World.{World, calls, after_events}
 use Rattle.line_events.specs.Progress.{Progress, none_runs, ended_now}
@@ -13,14 +13,14 @@ use Rattle.run_events.specs.Turns.{Turn, events_of_turn}
 -- ---- where a turn stands
 
 -- the world right behind its call
-abbrev pub called_in : Opening → World → Turn → World
-called_in o w t = after_events o w (t.before ++ calls t.answered.call ∷ [])
+abbrev pub called_in : World → Turn → World
+called_in w t = after_events w (t.before ++ calls t.answered.call ∷ [])
 
 -- each turn with that world
-abbrev pub placed : Opening → World → List Turn → List (World × Turn)
-placed o w [] = []
-placed o w (t ∷ turns) =
-    (called_in o w t, t) ∷ placed o (after_events o w (events_of_turn t)) turns
+abbrev pub placed : World → List Turn → List (World × Turn)
+placed w [] = []
+placed w (t ∷ turns) =
+    (called_in w t, t) ∷ placed (after_events w (events_of_turn t)) turns
 
 -- ---- a door's turns
 

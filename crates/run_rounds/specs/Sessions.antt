@@ -1,9 +1,10 @@
 -- The sessions of a run's doors, one behind the other, and what their events make of STARTs. This
 -- product's own.
 use Rattle.std.specs.Prelude.{◌≡◌, ℕ, Option, Some, None, List, [], ◌∷◌, ◌++◌}
+use Rattle.link_model.specs.declared.call.Call.{Call as LinkCall}
 use Rattle.station_config.specs.declared.site.Site.{Site}
 use Rattle.station_book.specs.State.{quit, Event as Answered}
-use Rattle.session_core.specs.Lists.{start_of}
+use Rattle.session_core.specs.Lists.{Part, start_of}
 use Rattle.session_core.specs.Session.{State, Round, BookAnswer, AreRounds, after_round}
 use Rattle.session_core.specs.Session.{session_events}
 use Rattle.session_turns.specs.Serving.{began_at}
@@ -12,11 +13,14 @@ use Rattle.line_events.specs.Progress.{Progress, ended_now, progressed}
 use Rattle.session_events.specs.Rounds.{progress_of}
 use Rattle.session_events.specs.Starts.{starts_over}
 
--- a session of a door: the program's draw, the moment at which it began, and its rounds
+-- A session of a door: the program's draw, the moment at which it began, its rounds, the part of a
+-- further one that ran out of memory, if any, and the calls of its link.
 pub record Session : Type 0 where
   pub draw : ℕ
   pub entered : ℕ
   pub rounds : List Round
+  pub part : Part
+  pub calls : List LinkCall
 
 abbrev pub first_of : Site → ℕ → Session → State
 first_of site door a = start_of (began_at site door a.draw a.entered)

@@ -12,7 +12,8 @@ use Rattle.station_book.specs.State.{Opening, Event}
 use Rattle.station_turns.specs.Gained.{events_of}
 use Rattle.station_seats.specs.declared.report.DoorReport.{DoorReport}
 use Rattle.station_seats.specs.declared.seat.DoorSeat.{DoorSeat}
-use Rattle.session_core.specs.Lists.{Began}
+use Rattle.session_core.specs.Lists.{Began, Stage, Part, none_made, StandsAt}
+use Rattle.session_core.specs.SessionState.{SessionState}
 use Rattle.session_core.specs.Session.{Round}
 use Rattle.session_core.specs.declared.ended.Ended.{Ended}
 use Rattle.session_turns.specs.Serving.{began_at, ServedTo}
@@ -33,35 +34,55 @@ sessions_from n [] door = []
 sessions_from n (own ∷ others) door =
     if n == door then own else sessions_from (n + 1) others door
 
+-- what a session made: its rounds, a part of a further one, and the calls of its link
+pub record Made : Type 0 where
+  pub rounds : List Round
+  pub part : Part
+  pub calls : List LinkCall
+
+abbrev pub nothing_made : Made
+nothing_made = record { rounds = []; part = none_made; calls = [] }
+
+abbrev pub made_by : {stage : Stage} {b : Began} {w : SessionState} {answers : List Event}
+    (own : List LinkCall) → StandsAt stage b w own answers → Made
+made_by own stands = record { rounds = stands.rounds; part = stands.part; calls = own }
+
+abbrev pub session_with : ℕ → ℕ → Made → Session
+session_with draw entered made = record {
+  draw = draw;
+  entered = entered;
+  rounds = made.rounds;
+  part = made.part;
+  calls = made.calls;
+}
+
 module _ {G L C : Type 0} (shown : G → Option Shown) (faults : G → ℕ)
     (calls : L → Option (List LinkCall)) (link_faults : L → ℕ) (readings : C → Option (List Cds))
     (lock : Lock Opening) (site : Site) (draw : ℕ) where
-  -- the rounds of a session that was served: those whose calls its link shows
-  abbrev pub rounds_served : (result : Result Ended ServeFault) (b : Began) (answers : List Event)
+  -- what a session that was served made: its rounds, and the part of a further one, by the calls of
+  -- its link
+  abbrev pub made_served : (result : Result Ended ServeFault) (b : Began) (answers : List Event)
       (unused : List ℕ) (turns left : ℕ) (link link_now : L)
-      → ServedTo calls link_faults result b answers unused turns left link link_now → List Round
-  rounds_served (Err Memory) b answers unused turns left link link_now (inl never) = []
-  rounds_served (Err Memory) b answers unused turns left link link_now (inr wanted) =
-      wanted.stood.stands.rounds
-  rounds_served (Err LinkFault) b answers unused turns left link link_now ran =
-      ran.stood.stands.rounds
-  rounds_served (Err TurnsSpent) b answers unused turns left link link_now ran =
-      ran.stood.stands.rounds
-  rounds_served (Ok end) b answers unused turns left link link_now ran =
-      ran.stood.stands.rounds
+      → ServedTo calls link_faults result b answers unused turns left link link_now → Made
+  made_served (Err Memory) b answers unused turns left link link_now (inl never) = nothing_made
+  made_served (Err Memory) b answers unused turns left link link_now (inr wanted) =
+      made_by wanted.stood.own wanted.stood.stands
+  made_served (Err LinkFault) b answers unused turns left link link_now ran =
+      made_by ran.stood.own ran.stood.stands
+  made_served (Err TurnsSpent) b answers unused turns left link link_now ran =
+      made_by ran.stood.own ran.stood.stands
+  made_served (Ok end) b answers unused turns left link link_now ran =
+      made_by ran.stood.own ran.stood.stands
 
   module _ (door : ℕ) where
     abbrev pub session_of : (said : Visit) (old new : WorkerState G C) → ServesLink shown faults
         calls link_faults readings lock site door draw said old new → Session
-    session_of said old new s = record {
-      draw = draw;
-      entered = s.given.serves.served.entered;
-      rounds = rounds_served s.given.result
-          (began_at site door draw s.given.serves.served.entered)
-          (events_of s.given.serves.served.answers) s.given.serves.served.unused
-          s.given.serves.served.spent s.given.serves.at.pass.left s.link s.given.serves.at.link
-          s.given.serves.served.served;
-    }
+    session_of said old new s =
+        let served = s.given.serves.served in
+        session_with draw served.entered
+        (made_served s.given.result (began_at site door draw served.entered)
+        (events_of served.answers) served.unused served.spent s.given.serves.at.pass.left s.link
+        s.given.serves.at.link served.served)
 
     -- of links that were served one behind the other, and of the one at the end, if there is one
     abbrev pub sessions_of_visits : (count turns : ℕ) (gained : List (Mark Event))

@@ -10,6 +10,9 @@ use line_events::laws::progress_is_of_its_door;
 use recorder::FrameSource;
 use run_events::laws::starts_stand_beside;
 use session_events::laws::{each_start_is_the_worlds, what_a_round_makes_may_come};
+use session_laws::laws::{
+    each_start_hands_over, only_a_started_service_sends, what_a_session_sees_is_published,
+};
 
 /// A run that is a list of a world's events, as `run_events` has it, is one with what its sessions
 /// make of STARTs in their places too: behind each answer event what its round makes of the door's
@@ -34,4 +37,7 @@ fn rests_on()
     what_a_round_makes_may_come();
     each_start_is_the_worlds();
     starts_stand_beside();
+    what_a_session_sees_is_published();
+    each_start_hands_over();
+    only_a_started_service_sends();
 }

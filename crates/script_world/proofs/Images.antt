@@ -32,11 +32,15 @@ use Rattle.script_store.specs.Answer.{is_wrong}
 use Rattle.station_law.specs.Doors.{Acted, act}
 use Rattle.station_law.specs.State.{State}
 use Rattle.station_law.specs.Lines.{offered, connected, uplinked, turn_at, turned_or_acted, step}
-use Rattle.script_world.specs.Events.{struck_by, stored_under, by_refusal, entry_line, events_of}
+use Rattle.script_world.specs.Events.{origin, struck_by, stored_under, by_refusal, entry_line}
+use Rattle.script_world.specs.Events.{events_of}
 use Rattle.script_world.specs.Script.{view_of, StandsBehind}
 
-module _ (o : Opening) (state : State) (starts : List Handed) (users : List Start) (w : World)
+module _ (state : State) (starts : List Handed) (users : List Start) (w : World)
     (shows : Shows (view_of state starts users) w) (image : List ℕ) where
+  abbrev o : Opening
+  o = origin state.doors.site
+
   abbrev published : List Entry
   published = state.store.published
 
@@ -49,7 +53,7 @@ module _ (o : Opening) (state : State) (starts : List Handed) (users : List Star
       ap (λ (x : World). acknowledged x.file) shows.is ∙ shows.acknowledges
 
   -- a line that gives nothing to a store
-  nothing : (events : List Event) → May [] → StandsBehind o w events image
+  nothing : (events : List Event) → May [] → StandsBehind w events image
   nothing events may = record {
     count = 0;
     stands = record {
@@ -65,12 +69,12 @@ module _ (o : Opening) (state : State) (starts : List Handed) (users : List Star
 
   -- behind the begin of an entry's store
   in_its_store : (entry : Entry) (events : List Event) → May (entry ∷ [])
-      → take 2 events ≡ offers entry ∷ begins_store ∷ [] → StandsBehind o w events image
+      → take 2 events ≡ offers entry ∷ begins_store ∷ [] → StandsBehind w events image
   in_its_store entry events may is = record {
     count = 2;
-    stands = subst (λ (es : List Event). StandsForOne (after_events o w es).file image) (sym is)
+    stands = subst (λ (es : List Event). StandsForOne (after_events w es).file image) (sym is)
         (subst (λ (x : World). StandsForOne
-        (after_events o x (offers entry ∷ begins_store ∷ [])).file image) (sym shows.is)
+        (after_events x (offers entry ∷ begins_store ∷ [])).file image) (sym shows.is)
         (either may));
   }
     where
@@ -100,33 +104,33 @@ module _ (o : Opening) (state : State) (starts : List Handed) (users : List Star
 
   by_strike : (entry : Entry) (s : Strike) (has : Bool) (there : List Entry)
       → May (struck state.store entry there s).given
-      → StandsBehind o w (struck_by entry s has) image
+      → StandsBehind w (struck_by o entry s has) image
   by_strike entry (Stop pick) has there may = in_its_store entry _ may refl
   by_strike entry Fail has there may = in_its_store entry _ may refl
 
   by_hit : (entry : Entry) (order : Order) (hit : Bool)
       → May (if hit then struck state.store entry (found order published entry) order.strike
       else stores (record state.store { order = behind_store order }) entry).given
-      → StandsBehind o w (if hit
-      then struck_by entry order.strike (leaves_entry order.strike order.calls)
+      → StandsBehind w (if hit
+      then struck_by o entry order.strike (leaves_entry order.strike order.calls)
       else store_events entry) image
   by_hit entry order true may = by_strike entry order.strike _ (found order published entry) may
   by_hit entry order false may = in_its_store entry _ may refl
 
   under : (entry : Entry) (order : Option Order) → May (stores_under state.store entry order).given
-      → StandsBehind o w (stored_under entry order) image
+      → StandsBehind w (stored_under o entry order) image
   under entry None may = in_its_store entry _ may refl
   under entry (Some order) may = by_hit entry order (is_hit order) may
 
   by_why : (entry : Entry) (why : Option Refusal)
       → May (entries.by_refusal state.store entry why).given
-      → StandsBehind o w (by_refusal entry state.store.order why) image
+      → StandsBehind w (by_refusal o entry state.store.order why) image
   by_why entry None may = under entry state.store.order may
   by_why entry (Some why) may = nothing [] may
 
   by_valid : (entry : Entry) (valid : Bool)
       → May (if valid then offered state entry else is_wrong state).given
-      → StandsBehind o w (if valid then entry_line state.store entry else []) image
+      → StandsBehind w (if valid then entry_line o state.store entry else []) image
   by_valid entry true may = by_why entry (entries.refusal state.store entry) may
   by_valid entry false may = nothing [] may
 
@@ -134,33 +138,33 @@ module _ (o : Opening) (state : State) (starts : List Handed) (users : List Star
 
   by_now : (k : ℕ) (pick : Pick) (now : Bool) (events : List Event)
       → May (if now then fails_now state.store else orders state.store k (Stop pick)).given
-      → StandsBehind o w events image
+      → StandsBehind w events image
   by_now k pick true events may = nothing events may
   by_now k pick false events may = nothing events may
 
   by_none : (k : ℕ) (none : Bool) (events : List Event)
       → May (if none then is_wrong state.store else orders state.store k Fail).given
-      → StandsBehind o w events image
+      → StandsBehind w events image
   by_none k true events may = nothing events may
   by_none k false events may = nothing events may
 
   by_act : (a : Option Acted) (events : List Event) → May (connected state a).given
-      → StandsBehind o w events image
+      → StandsBehind w events image
   by_act None events may = nothing events may
   by_act (Some a) events may = nothing events may
 
   by_done : (t : Option Turned) (events : List Event) → May (uplinked state t).given
-      → StandsBehind o w events image
+      → StandsBehind w events image
   by_done None events may = nothing events may
   by_done (Some t) events may = nothing events may
 
   by_turn : (line : ScriptLine) (turn : Option Turn) (events : List Event)
-      → May (turned_or_acted state line turn).given → StandsBehind o w events image
+      → May (turned_or_acted state line turn).given → StandsBehind w events image
   by_turn line None events may = by_act (act state.doors state.clock line) events may
   by_turn line (Some turn) events may = by_done (turn_at state turn) events may
 
   pub of_the_file : (line : ScriptLine) → May (step state line).given
-      → StandsBehind o w (events_of state w line) image
+      → StandsBehind w (events_of state w line) image
   of_the_file Skip may = nothing [] may
   of_the_file (Offer entry) may = by_valid (entry_of entry) (is_valid (entry_of entry)) may
   of_the_file (Desk start stop quality) may = nothing _ may

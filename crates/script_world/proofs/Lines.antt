@@ -91,7 +91,7 @@ module _ (law : LinesAreEvents) (may : RoundsMayCome) (hands : HandsOver) (state
   -- the events lead where the answer does, with these STARTs of users, unless it recovers
   abbrev LeadsWith : List Start → List Event → Answer State → Type 0
   LeadsWith left events a =
-      LeadTo o w events
+      LeadTo w events
       (view_of a.next (handed_by starts a.said) (if a.recovers then [] else left))
 
   abbrev Leads : List Event → Answer State → Type 0
@@ -101,30 +101,30 @@ module _ (law : LinesAreEvents) (may : RoundsMayCome) (hands : HandsOver) (state
   here = view_of state starts users
 
   -- a line that changes nothing of what the world shows
-  stays : LeadTo o w [] here
+  stays : LeadTo w [] here
   stays = (tt, shows)
 
   -- ---- entries
 
   module _ (entry : Entry) (follows : may_follow state.store.published entry ≡ true) where
     by_strike : (s : Strike) (has : Bool)
-        → Leads (struck_by entry s has) (recorded state (struck state.store entry
+        → Leads (struck_by o entry s has) (recorded state (struck state.store entry
         (if has then state.store.published ++ entry ∷ [] else state.store.published) s))
     by_strike (Stop pick) has = law.struck o here w entry has shows follows
-    by_strike Fail has = law.fails o here w entry has shows archive follows
+    by_strike Fail has = law.fails here w entry has shows archive follows
 
     by_hit : (order : Order) (hit : Bool)
-        → Leads (if hit then struck_by entry order.strike (leaves_entry order.strike order.calls)
+        → Leads (if hit then struck_by o entry order.strike (leaves_entry order.strike order.calls)
         else store_events entry)
         (recorded state (if hit
         then struck state.store entry (found order state.store.published entry) order.strike
         else stores (record state.store { order = behind_store order }) entry))
     by_hit order true = by_strike order.strike (leaves_entry order.strike order.calls)
-    by_hit order false = law.stores o here w entry shows archive follows
+    by_hit order false = law.stores here w entry shows archive follows
 
     under : (order : Option Order)
-        → Leads (stored_under entry order) (recorded state (stores_under state.store entry order))
-    under None = law.stores o here w entry shows archive follows
+        → Leads (stored_under o entry order) (recorded state (stores_under state.store entry order))
+    under None = law.stores here w entry shows archive follows
     under (Some order) = by_hit order (is_hit order)
 
   refused_entry : (entry : Entry) (why : Refusal)
@@ -138,7 +138,7 @@ module _ (law : LinesAreEvents) (may : RoundsMayCome) (hands : HandsOver) (state
       else if not short then Some refusals.TooLong
       else if over then Some (refusals.Full (need entry) (free state.store))
       else None in
-      Leads (by_refusal entry state.store.order why)
+      Leads (by_refusal o entry state.store.order why)
       (recorded state (entries.by_refusal state.store entry why))
   by_tests entry valid false short over ordered_is short_is = refused_entry entry refusals.Backward
   by_tests entry valid true false over ordered_is short_is = refused_entry entry refusals.TooLong
@@ -149,7 +149,7 @@ module _ (law : LinesAreEvents) (may : RoundsMayCome) (hands : HandsOver) (state
       (both (is_valid entry) _ valid short_is) ordered_is) state.store.order
 
   by_valid : (entry : Entry) (valid : Bool) → is_valid entry ≡ valid
-      → Leads (if valid then entry_line state.store entry else [])
+      → Leads (if valid then entry_line o state.store entry else [])
       (if valid then offered state entry else is_wrong state)
   by_valid entry true valid = by_tests entry valid (keeps_order state.store.published entry)
       (is_short entry) _ refl refl
@@ -172,15 +172,15 @@ module _ (law : LinesAreEvents) (may : RoundsMayCome) (hands : HandsOver) (state
       else said_at_start state.store.published start stop quality)
       ≡ handed_at_start state.store.published start stop quality ∷ starts) is
       (hands state.store start stop quality starts (in_order (moment start) (moment stop) is)) in
-      subst (λ (all : List Handed). LeadTo o w
+      subst (λ (all : List Handed). LeadTo w
       (start_events (asked start stop quality) w state.store.published state.clock)
       (view_of state all users)) (sym taken)
-      (law.desk o here w (asked start stop quality) shows refl some refl)
+      (law.desk here w (asked start stop quality) shows refl some refl)
 
   -- ---- the power and the disk
 
   by_now : (k : ℕ) (pick : Pick) (now : Bool)
-      → Leads (if now then power_events else [])
+      → Leads (if now then power_events o else [])
       (recorded state (if now then fails_now state.store else orders state.store k (Stop pick)))
   by_now k pick true = law.power o here w shows
   by_now k pick false = stays
@@ -207,7 +207,7 @@ module _ (law : LinesAreEvents) (may : RoundsMayCome) (hands : HandsOver) (state
       let there : Option Connected = Some (ordered a.order l) in
       let ran = rounds_of state.doors.site a.c state.clock a.rounds state.doors.book there in
       let answer = connected state (Some (acted_by state.doors a.c ran)) in
-      subst (λ (all : List Handed). LeadTo o w
+      subst (λ (all : List Handed). LeadTo w
       (rounds_events state.doors.site a.c state.clock w a.rounds state.doors.book there)
       (view_of answer.next all (users_acted state a (Some (Some l)) users)))
       (sym (none_handed a.c ran.said starts))
@@ -235,21 +235,21 @@ module _ (law : LinesAreEvents) (may : RoundsMayCome) (hands : HandsOver) (state
       → Leads (take_events b state.clock fail (Radiate run id octets))
       (uplinked state (Some (taken_by b state.clock fail state.uplink (Radiate run id octets))))
   by_send false run id octets is =
-      law.radiates o here w state.clock run id octets true [] shows
+      law.radiates here w state.clock run id octets true [] shows
       (ap took is) refl
   by_send true run id octets is =
-      law.radiates o here w state.clock run id octets false
+      law.radiates here w state.clock run id octets false
       (event_at (after b (take state.clock)) (interrupted run id state.clock) ∷ []) shows
       (ap took is) refl
 
   by_found : (fail : Bool) (taken : Taken) → finds b state.clock ≡ taken
       → Leads (take_events b state.clock fail taken)
       (uplinked state (Some (taken_by b state.clock fail state.uplink taken)))
-  by_found fail Idle is = law.book o here w
+  by_found fail Idle is = law.book here w
       (event_at b (take state.clock) ∷ []) shows refl
-  by_found fail (Waits until) is = law.book o here w
+  by_found fail (Waits until) is = law.book here w
       (event_at b (take state.clock) ∷ []) shows refl
-  by_found fail (Expired id) is = law.book o here w
+  by_found fail (Expired id) is = law.book here w
       (event_at b (take state.clock) ∷ []) shows refl
   by_found fail (Radiate run id octets) is = by_send fail run id octets is
 
@@ -257,13 +257,13 @@ module _ (law : LinesAreEvents) (may : RoundsMayCome) (hands : HandsOver) (state
       → Leads (call_events (turned_events (done_by b state.clock state.uplink air)))
       (uplinked state (done_by b state.clock state.uplink air))
   by_air None = stays
-  by_air (Some a) = law.book o here w
+  by_air (Some a) = law.book here w
       (event_at b (done a.run a.id state.clock) ∷ []) shows refl
 
   turn_leads : (turn : Turn) → Leads (turn_events state turn) (uplinked state (turn_at state turn))
   turn_leads (turns.Take fail) = by_found fail (finds b state.clock) refl
   turn_leads turns.Done = by_air state.uplink.in_air
-  turn_leads (turns.Uplink production status) = law.book o here w
+  turn_leads (turns.Uplink production status) = law.book here w
       (event_at b (uplink production status state.clock) ∷ []) shows refl
 
   pub line_leads : (line : ScriptLine)
@@ -273,7 +273,7 @@ module _ (law : LinesAreEvents) (may : RoundsMayCome) (hands : HandsOver) (state
   line_leads (Offer entry) = by_valid (entry_of entry) (is_valid (entry_of entry)) refl
   line_leads (Desk start stop quality) =
       by_times start stop (number_of quality) (nat_lt (moment stop) (moment start)) refl
-  line_leads (Clock at) = law.clock o here w (moment at) shows
+  line_leads (Clock at) = law.clock here w (moment at) shows
   line_leads (Crash k pick) = by_now k (pick_of pick) (k == 0)
   line_leads (Fault k) = by_none k (k == 0)
   line_leads (Take fail) = turn_leads (turns.Take fail)
@@ -282,7 +282,7 @@ module _ (law : LinesAreEvents) (may : RoundsMayCome) (hands : HandsOver) (state
   line_leads line = at_doors line
 
   pub read_leads : (line : Option ScriptLine)
-      → LeadTo o w (events_read state w line)
+      → LeadTo w (events_read state w line)
       (view_of (step_read state line).next (handed_by starts (step_read state line).said)
       (users_behind state line users))
   read_leads None = stays

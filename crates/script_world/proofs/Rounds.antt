@@ -5,7 +5,6 @@ use Rattle.std.proofs.lemmas.Bool.{and_parts}
 use Rattle.std.proofs.lemmas.List.Sums.{fold-append}
 use Rattle.archive_terms.specs.Archive.{Entry}
 use Rattle.station_config.specs.declared.site.Site.{Site}
-use Rattle.station_book.specs.Origin.{opening_of}
 use Rattle.station_book.specs.State.{Opening, Event as Answered}
 use Rattle.station_book.specs.State as books
 use Rattle.station_book.specs.History.{replay, then_after}
@@ -63,9 +62,6 @@ module _ (site : Site) (c reading : ℕ) where
   -- ---- a round leads on
 
   module _ (law : LinesAreEvents) (v : View) where
-    abbrev o : Opening
-    o = opening_of site [] 0
-
     abbrev left : books.State → List Start → View
     left b users = record v { book = b; users = users }
 
@@ -73,32 +69,32 @@ module _ (site : Site) (c reading : ℕ) where
     one_leads : (w : World) (b : books.State) (users : List Start) (h : List Answered)
         (p : Progress) → Shows (left b users) w → IsTrue (publishes_nothing h)
         → MayProgress c v.published p
-        → LeadTo o w (round_events o w c h p)
+        → LeadTo w (round_events w c h p)
         (left (replay b h) (progressed c (length b.published) p users))
     one_leads w b users h p shows none may =
-        let first = law.book o (left b users) w h shows none in
-        let there : World = after_events o w (call_events h) in
+        let first = law.book (left b users) w h shows none in
+        let there : World = after_events w (call_events h) in
         let next : View = left (replay b h) users in
-        subst (λ (xs : List Entry). LeadTo o w (round_events o w c h p)
+        subst (λ (xs : List Entry). LeadTo w (round_events w c h p)
         (left (replay b h) (progressed c (length xs) p users))) (sym shows.one)
-        (lead_both o w (call_events h) (progress_events c there p) next (with_progress c p next)
-        first (law.progress o next there c p first.1 may))
+        (lead_both w (call_events h) (progress_events c there p) next (with_progress c p next)
+        first (law.progress next there c p first.1 may))
 
     -- a round, and those behind it
     then_leads : (w : World) (b : books.State) (h k : List Answered) (events more : List Event)
-        (between users : List Start) → LeadTo o w events (left (replay b h) between)
-        → LeadTo o (after_events o w events) more (left (replay (replay b h) k) users)
-        → LeadTo o w (events ++ more) (left (replay b (h ++ k)) users)
+        (between users : List Start) → LeadTo w events (left (replay b h) between)
+        → LeadTo (after_events w events) more (left (replay (replay b h) k) users)
+        → LeadTo w (events ++ more) (left (replay b (h ++ k)) users)
     then_leads w b h k events more between users first second =
-        subst (λ (x : books.State). LeadTo o w (events ++ more) (left x users))
+        subst (λ (x : books.State). LeadTo w (events ++ more) (left x users))
         (sym (fold-append then_after b h k))
-        (lead_both o w events more (left (replay b h) between) (left (replay (replay b h) k) users)
+        (lead_both w events more (left (replay b h) between) (left (replay (replay b h) k) users)
         first second)
 
 module _ (law : LinesAreEvents) (may : RoundsMayCome) (site : Site) (c reading : ℕ) (v : View) where
   pub rounds_lead : (n : ℕ) (w : World) (b : books.State) (l : Option Connected)
       (users : List Start) → Shows (record v { book = b; users = users }) w
-      → LeadTo (opening_of site [] 0) w (rounds_events site c reading w n b l)
+      → LeadTo w (rounds_events site c reading w n b l)
       (record v {
         book = replay b (rounds_of site c reading n b l).events;
         users = users_rounds site c reading n b l users;
@@ -106,12 +102,11 @@ module _ (law : LinesAreEvents) (may : RoundsMayCome) (site : Site) (c reading :
   rounds_lead zero w b l users shows = (tt, shows)
   rounds_lead (suc n) w b None users shows = (tt, shows)
   rounds_lead (suc n) w b (Some l) users shows =
-      let o = opening_of site [] 0 in
       let r = round_at site c l b reading in
       let turned = round_of site c l b reading in
       let p : Progress = progress_in c site l.state r in
-      let events : List Event = round_events o w c turned.events p in
-      let there : World = after_events o w events in
+      let events : List Event = round_events w c turned.events p in
+      let there : World = after_events w events in
       let behind : books.State = replay b turned.events in
       let between : List Start = progressed c (length b.published) p users in
       let right : MayProgress c v.published p =

@@ -42,27 +42,31 @@ use Rattle.station_law.specs.Doors.{Act, act_of, ordered}
 use Rattle.station_law.specs.State.{State}
 use Rattle.station_law.specs.Lines.{turn_at}
 
+-- the origin of a site's book in a script: a power failure of it opens the same one
+abbrev pub origin : Site → Opening
+origin site = opening_of site [] 0
+
 -- ---- an entry's line
 
 -- its store is hit, and the file has it then or hasn't
-abbrev pub struck_by : Entry → Strike → Bool → List Event
-struck_by entry (Stop pick) has = struck_events entry has
-struck_by entry Fail has = failed_events entry has
+abbrev pub struck_by : Opening → Entry → Strike → Bool → List Event
+struck_by o entry (Stop pick) has = struck_events o entry has
+struck_by o entry Fail has = failed_events entry has
 
 -- it is stored while this order stands for the disk
-abbrev pub stored_under : Entry → Option Order → List Event
-stored_under entry None = store_events entry
-stored_under entry (Some order) =
-    if is_hit order then struck_by entry order.strike (leaves_entry order.strike order.calls)
+abbrev pub stored_under : Opening → Entry → Option Order → List Event
+stored_under o entry None = store_events entry
+stored_under o entry (Some order) =
+    if is_hit order then struck_by o entry order.strike (leaves_entry order.strike order.calls)
     else store_events entry
 
 -- a refused one is no event
-abbrev pub by_refusal : Entry → Option Order → Option Refusal → List Event
-by_refusal entry order None = stored_under entry order
-by_refusal entry order (Some why) = []
+abbrev pub by_refusal : Opening → Entry → Option Order → Option Refusal → List Event
+by_refusal o entry order None = stored_under o entry order
+by_refusal o entry order (Some why) = []
 
-abbrev pub entry_line : Store → Entry → List Event
-entry_line store entry = by_refusal entry store.order (refusal store entry)
+abbrev pub entry_line : Opening → Store → Entry → List Event
+entry_line o store entry = by_refusal o entry store.order (refusal store entry)
 
 -- ---- a START of the desk
 
@@ -87,21 +91,20 @@ desk_line state w start stop quality =
 -- ---- rounds of a connection
 
 -- a round calls the book, and behind that makes something of the START of its door
-abbrev pub round_events : Opening → World → ℕ → List Answered → Progress → List Event
-round_events o w c h p =
-    call_events h ++ progress_events c (after_events o w (call_events h)) p
+abbrev pub round_events : World → ℕ → List Answered → Progress → List Event
+round_events w c h p =
+    call_events h ++ progress_events c (after_events w (call_events h)) p
 
 -- so many rounds at a reading of the clock, as long as the connection is there
 abbrev pub rounds_events : Site → ℕ → ℕ → World → ℕ → books.State → Option Connected → List Event
 rounds_events site c reading w zero b l = []
 rounds_events site c reading w (suc n) b None = []
 rounds_events site c reading w (suc n) b (Some l) =
-    let o = opening_of site [] 0 in
     let turned = round_of site c l b reading in
-    let events = round_events o w c turned.events
+    let events = round_events w c turned.events
     (progress_in c site l.state (round_at site c l b reading)) in
     events
-    ++ rounds_events site c reading (after_events o w events) n (replay b turned.events) turned.next
+    ++ rounds_events site c reading (after_events w events) n (replay b turned.events) turned.next
 
 -- those of a line, where the connection is there
 abbrev pub acted_events : State → World → Act → Option (Option Connected) → List Event
@@ -145,10 +148,11 @@ events_by state w line None = act_events state w (act_of line)
 abbrev pub events_of : State → World → ScriptLine → List Event
 events_of state w Skip = []
 events_of state w (Offer entry) =
-    if is_valid (entry_of entry) then entry_line state.store (entry_of entry) else []
+    if is_valid (entry_of entry)
+    then entry_line (origin state.doors.site) state.store (entry_of entry) else []
 events_of state w (Desk start stop quality) = desk_line state w start stop (number_of quality)
 events_of state w (Clock at) = clock_events (moment at)
-events_of state w (Crash k pick) = if k == 0 then power_events else []
+events_of state w (Crash k pick) = if k == 0 then power_events (origin state.doors.site) else []
 events_of state w (Fault k) = []
 events_of state w line = events_by state w line (turn_of line)
 

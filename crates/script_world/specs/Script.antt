@@ -1,15 +1,13 @@
 -- A script as a list of events of a station's world, and the headline of it. This product's own.
 use Rattle.std.specs.Prelude.{◌≡◌, ℕ, Option, List, [], ◌∷◌, ◌++◌, take}
-use Rattle.station_book.specs.Origin.{opening_of}
-use Rattle.station_book.specs.State.{Opening}
 use Rattle.station_config.specs.declared.site.Site.{Site}
 use Rattle.drill_text.specs.declared.script_line.ScriptLine.{ScriptLine}
 use Rattle.gate_journal.specs.JournalState.{IsOldOrNew}
 use Rattle.station_world.specs.Life.{Start}
-use Rattle.station_world.specs.World.{World, before_all, lives, Event, after_events}
+use Rattle.station_world.specs.World.{World, before_all, Event, after_events}
 use Rattle.station_world.specs.Comes.{Begins, AllCome}
 use Rattle.station_world.specs.Headline.{Headline}
-use Rattle.station_world.specs.Stays.{Match, LifeGoesOn}
+use Rattle.station_world.specs.Stays.{LivesGoOn, AtEachMoment}
 use Rattle.station_world.specs.Archives.{StandsForOne}
 use Rattle.line_events.specs.Shows.{Told, View, Shows}
 use Rattle.line_events.specs.Forms.{first_events}
@@ -18,12 +16,8 @@ use Rattle.script_store.specs.Said.{Handed, radiated_by}
 use Rattle.script_store.specs.Answer.{Answer}
 use Rattle.station_law.specs.Lines.{step, step_read}
 use Rattle.station_law.specs.Runs.{after, handed_after}
-use Rattle.script_world.specs.Events.{events_of, events_read}
+use Rattle.script_world.specs.Events.{origin, events_of, events_read}
 use Rattle.script_world.specs.Users.{users_behind}
-
--- the origin of a site's book in a script
-abbrev pub origin : Site → Opening
-origin site = opening_of site [] 0
 
 -- what each START of the desk in a script has handed over, the first one first
 abbrev pub told_since : List Handed → List Told
@@ -43,17 +37,6 @@ view_of state starts users = record {
   users = users;
 }
 
--- It holds of the world behind any first of some events, and of each world that further events lead
--- to from there, be they the rest of these or others that may come.
-abbrev pub AtEachMoment : (World → World → Type 0) → Opening → List Event → Type 0
-AtEachMoment holds o events =
-    (first next : List Event) → Begins first events → AllCome o before_all (first ++ next)
-    → holds (after_events o before_all first) (after_events o before_all (first ++ next))
-
--- a later world has the lives of an earlier one, and what was done in them
-abbrev pub LivesGoOn : World → World → Type 0
-LivesGoOn w later = Match LifeGoesOn (lives w) (lives later)
-
 module _ {L : Type 0} (reads : L → Option ScriptLine) where
   -- what a line answers
   abbrev pub answers : State → L → Answer State
@@ -72,21 +55,20 @@ module _ {L : Type 0} (reads : L → Option ScriptLine) where
       radiated_by (answers state line).said ++ radiated_from (answers state line).next lines
 
   -- the events of lines, one behind the other
-  abbrev pub events_from : Opening → State → World → List L → List Event
-  events_from o state w [] = []
-  events_from o state w (line ∷ lines) =
+  abbrev pub events_from : State → World → List L → List Event
+  events_from state w [] = []
+  events_from state w (line ∷ lines) =
       let events = events_read state w (reads line) in
-      events ++ events_from o (answers state line).next (after_events o w events) lines
+      events ++ events_from (answers state line).next (after_events w events) lines
 
   -- those of a script: the archive is made and opened, and then its lines
   abbrev pub script_events : Site → List L → List Event
-  script_events site lines = first_events
-      ++ events_from (origin site) (start site) (after_events (origin site) before_all first_events)
-      lines
+  script_events site lines = first_events (origin site)
+      ++ events_from (start site) (after_events before_all (first_events (origin site))) lines
 
   -- the world behind them
   abbrev pub world_behind : Site → List L → World
-  world_behind site lines = after_events (origin site) before_all (script_events site lines)
+  world_behind site lines = after_events before_all (script_events site lines)
 
   -- Some lines of a script, and further ones: the events of all may come, those of the first lines
   -- first. The state behind these is that of the world behind their events, as is what each START
@@ -95,30 +77,30 @@ module _ {L : Type 0} (reads : L → Option ScriptLine) where
   -- whatever comes then, the headline holds, of the STARTs of users as of the desk's, and what was
   -- done stays.
   pub record IsInWorld (site : Site) (lines more : List L) : Type 0 where
-    pub come : AllCome (origin site) before_all (script_events site (lines ++ more))
+    pub come : AllCome before_all (script_events site (lines ++ more))
     pub begins : Begins (script_events site lines) (script_events site (lines ++ more))
     pub shows : Shows (view_of (after answers (start site) lines)
         (handed_after answers (start site) [] lines) (users_after (start site) [] lines))
         (world_behind site lines)
     pub radiated : radiated_from (start site) lines ≡ (world_behind site lines).antenna
-    pub headline : AtEachMoment Headline (origin site) (script_events site (lines ++ more))
-    pub stays : AtEachMoment LivesGoOn (origin site) (script_events site (lines ++ more))
+    pub headline : AtEachMoment Headline before_all (script_events site (lines ++ more))
+    pub stays : AtEachMoment LivesGoOn before_all (script_events site (lines ++ more))
 
 -- so is every script, and each front of it
 abbrev pub AreInWorld : {L : Type 0} → (L → Option ScriptLine) → Type 0
 AreInWorld {L} reads = (site : Site) (lines more : List L) → IsInWorld reads site lines more
 
 -- an image stands for one of the lists of the file behind the first few of some events
-pub record StandsBehind (o : Opening) (w : World) (events : List Event) (image : List ℕ) : Type 0
+pub record StandsBehind (w : World) (events : List Event) (image : List ℕ) : Type 0
   where
     pub count : ℕ
-    pub stands : StandsForOne (after_events o w (take count events)).file image
+    pub stands : StandsForOne (after_events w (take count events)).file image
 
 -- An image that stands for what is published before a line, or for that and what the line gives to
 -- stores, stands for one of the lists of the world's file behind some of the line's events.
 abbrev pub ImagesAreOfTheFile : Type 0
 ImagesAreOfTheFile =
-    (o : Opening) (state : State) (starts : List Handed) (users : List Start) (w : World)
+    (state : State) (starts : List Handed) (users : List Start) (w : World)
     (line : ScriptLine) (image : List ℕ) → Shows (view_of state starts users) w
     → IsOldOrNew state.store.published (step state line).given image
-    → StandsBehind o w (events_of state w line) image
+    → StandsBehind w (events_of state w line) image

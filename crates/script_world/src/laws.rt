@@ -14,8 +14,8 @@ pub fn a_script_is_events()
 {
     line_events::laws::lines_are_events();
     session_events::laws::what_a_round_makes_may_come();
-    station_law::laws::headline_law();
-    station_world::laws::what_was_done_stays();
+    station_world::laws::headline_law();
+    station_world::laws::at_each_moment();
     station_law::laws::a_start_hands_over();
     station_law::laws::connections_are_sessions();
 }

@@ -7,23 +7,23 @@ use Rattle.std.proofs.lemmas.List.{take_all}
 use Rattle.archive_terms.specs.Archive.{Entry, IsArchive, frame_time, seal_time, last_time}
 use Rattle.archive_terms.specs.Archive.{is_in_order, is_storable, is_valid, is_short, may_follow}
 use Rattle.disk_model.specs.Images.{Pending}
-use Rattle.disk_model.specs.Moments.{IsImageOf, HoldsThroughout}
+use Rattle.disk_model.specs.Moments.{HoldsThroughout}
 use Rattle.gate_journal.specs.File.{StandsFor}
 use Rattle.gate_journal.specs.JournalState.{IsOldOrNew}
-use Rattle.frame_archive.specs.State.{ArchiveState, failed_batch, at_rest, refusal, with_waiting}
-use Rattle.frame_archive.specs.State.{with_stored, with_failed, times_of}
+use Rattle.frame_archive.specs.State.{ArchiveState, failed_batch, refusal}
+use Rattle.frame_archive.specs.State.{times_of}
 use Rattle.frame_archive.specs.declared.fault.OfferFault.{OfferFault}
 use Rattle.frame_archive.specs.declared.fault.OfferFault.TheVariants.{Backward, TooLong}
 use Rattle.gate_journal.specs.declared.order.Times.{Times}
-use Rattle.frame_archive.specs.Acknowledges.{Acknowledges, Uses}
-use Rattle.frame_archive.specs.Run.{Adds, Keeps}
+use Rattle.frame_archive.specs.Acknowledges.{Acknowledges}
+use Rattle.frame_archive.specs.Run.{Adds}
 use Rattle.station_book.specs.State.{Opening}
-use Rattle.station_world.specs.File.{File, Phase, settled, in_store, broken_off, acknowledged}
+use Rattle.station_world.specs.File.{File, Phase, settled, acknowledged}
 use Rattle.station_world.specs.File.{batch_of, IsListOf, in_a_store, with_kept, Finding, with_batch}
 use Rattle.station_world.specs.File.{without_batch, recovered, found_by}
 use Rattle.station_world.specs.Life.{Life}
 use Rattle.station_world.specs.World.{World, reopens, restarts, after_events}
-use Rattle.station_world.specs.Comes.{IsUp, Lives, is_settled, is_idle, AllCome}
+use Rattle.station_world.specs.Comes.{IsUp, Lives, is_settled, AllCome}
 use Rattle.station_world.specs.Archives.{Holds, StandsForOne, AreEvents, ArchiveLaw}
 use Rattle.station_world.proofs.Lists.{and_both}
 
@@ -121,7 +121,7 @@ module _ (follows : Follows) (one_list : OneList) {D : Type 0} (pending : D → 
   landed_one old new landed adds is none (inl same) =
       let none_more : new.count - old.count ≡ 0 = omega (arith, same) in (
         without_batch,
-        λ o w l now holds. (
+        λ w l now holds. (
           ((holds.idle, up w l now), tt),
           subst (λ (xs : List Entry). Holds pending new (with_kept w.file xs))
               (is ∙ ap (λ n. take n old.waiting) none_more)
@@ -131,7 +131,7 @@ module _ (follows : Follows) (one_list : OneList) {D : Type 0} (pending : D → 
   landed_one old new landed adds is none (inr grown) =
       let all_more : new.count - old.count ≡ old.failed = omega (arith, grown) in (
         with_batch,
-        λ o w l now holds. (
+        λ w l now holds. (
           ((holds.idle, up w l now), tt),
           subst (λ (xs : List Entry). Holds pending new (with_kept w.file xs))
               (is ∙ ap (λ n. take n old.waiting) all_more ∙ holds.batch)
@@ -154,8 +154,8 @@ module _ (follows : Follows) (one_list : OneList) {D : Type 0} (pending : D → 
       → w.now ≡ None → IsListOf w.file entries → found ≡ entries
       → Holds pending archive (recovered found)
       → (finding : Finding) × (found_by w.file finding ≡ Some found)
-      × AllCome o w (restarts finding ∷ [])
-      × Holds pending archive (after_events o w (restarts finding ∷ [])).file
+      × AllCome w (restarts o finding ∷ [])
+      × Holds pending archive (after_events w (restarts o finding ∷ [])).file
   found_one archive found entries o w none (inl is) same holds = (
     without_batch,
     ap Some (sym (same ∙ is)),
@@ -171,7 +171,7 @@ module _ (follows : Follows) (one_list : OneList) {D : Type 0} (pending : D → 
 
   pub archive_law : ArchiveLaw pending
   archive_law = record {
-    offered = λ old new entry valid taken is same keeps o w l now holds. (
+    offered = λ old new entry valid taken is same keeps w l now holds. (
       ((holds.idle, may_be_taken old w.file entry holds valid taken, up w l now), tt),
       record {
         acknowledges = keeps (acknowledged w.file) holds.acknowledges;
@@ -182,13 +182,13 @@ module _ (follows : Follows) (one_list : OneList) {D : Type 0} (pending : D → 
         open_ = λ fresh. holds.open_ (sym (ap (λ (a : ArchiveState D). a.is_stale) is) ∙ fresh);
       },
     );
-    stored = λ old new fresh adds is o w l now holds. (
+    stored = λ old new fresh adds is w l now holds. (
       ((settled_is w.file.phase (holds.open_ fresh), up w l now), ((refl, up w l now), tt)),
       subst (λ (xs : List Entry). Holds pending new (with_kept w.file xs)) holds.waits
           (gained old new w.file old.waiting holds adds
           (ap (λ (a : ArchiveState D). a.waiting) is)),
     );
-    failed = λ old new fresh keeps is o w l now holds. (
+    failed = λ old new fresh keeps is w l now holds. (
       ((settled_is w.file.phase (holds.open_ fresh), up w l now), ((refl, up w l now), tt)),
       record {
         acknowledges = keeps (acknowledged w.file) holds.acknowledges;
@@ -203,7 +203,7 @@ module _ (follows : Follows) (one_list : OneList) {D : Type 0} (pending : D → 
     );
     reopened = λ old new landed adds is whole none.
         landed_one old new landed adds is none whole;
-    refused = λ old new keeps is o w l now holds. (
+    refused = λ old new keeps is w l now holds. (
       ((holds.idle, up w l now), tt),
       record {
         acknowledges = keeps (acknowledged w.file) holds.acknowledges;

@@ -1,22 +1,22 @@
 -- The book's events and a START of the desk as events of a world.
-use Rattle.std.proofs.Common.{◌≡◌, ℕ, zero, suc, ◌≤◌, ◌<◌, Bool, true, false, not, IsTrue, IsFalse}
-use Rattle.std.proofs.Common.{Option, Some, None, List, [], ◌∷◌, ◌++◌, length, map, take, replicate}
+use Rattle.std.proofs.Common.{◌≡◌, ℕ, zero, suc, ◌≤◌, not, IsTrue}
+use Rattle.std.proofs.Common.{Option, Some, List, [], ◌∷◌, ◌++◌, length, map, take, replicate}
 use Rattle.std.proofs.Common.{slice_get, refl, sym, ap, subst, ◌∙◌, append_assoc, append-nil, arith}
 use Rattle.std.proofs.lemmas.Bool.{and_parts}
 use Rattle.std.proofs.lemmas.List.{take_all}
 use Rattle.std.proofs.lemmas.List.Sums.{fold-append}
 use Rattle.archive_terms.specs.Archive.{Entry}
 use Rattle.archive_terms.specs.Selection.{picked, is_stop_closed}
-use Rattle.archive_terms.specs.Delivery.{Item, is_online, offline_buffers}
-use Rattle.archive_terms.specs.Rounds.{Round, free_round, last_front, handed_buffers}
-use Rattle.station_book.specs.State.{State, Opening, opened, Call, publish, answer, quit}
+use Rattle.archive_terms.specs.Delivery.{Item, offline_buffers}
+use Rattle.archive_terms.specs.Rounds.{Round, free_round, last_front}
+use Rattle.station_book.specs.State.{State, opened, Call, publish, answer, quit}
 use Rattle.station_book.specs.State.{take as takes, done, interrupted, uplink, gone}
 use Rattle.station_book.specs.State.{Event as Answered}
 use Rattle.station_book.specs.History.{event_at, IsLegal, then_after}
 use Rattle.station_world.specs.File.{File}
-use Rattle.station_world.specs.Life.{Start, Life, book, Asked, asked_terms, called, begun, taken}
+use Rattle.station_world.specs.Life.{Start, Life, book, Asked, asked_terms, called, begun}
 use Rattle.station_world.specs.Life.{with_start, change_at, with_round, with_end}
-use Rattle.station_world.specs.World.{World, calls, after_event, after_events}
+use Rattle.station_world.specs.World.{World, after_events}
 use Rattle.station_world.specs.Comes.{MayCall, AllCome}
 use Rattle.station_world.specs.Calls.{with_now, Leads, is_publishing, publishes_nothing, call_events}
 use Rattle.station_world.specs.Calls.{all_called, CallsAreEvents, desk_rounds, desk_events}
@@ -42,13 +42,13 @@ may_call (interrupted run id reading) f l none = tt
 may_call (uplink production status reading) f l none = tt
 may_call (gone worker) f l none = tt
 
-calls_lead : (o : Opening) (w : World) (l : Life) (h : List Answered)
+calls_lead : (w : World) (l : Life) (h : List Answered)
     → IsTrue (publishes_nothing h)
-    → Leads o (with_now w l) (call_events h) (with_now w (all_called h l))
-calls_lead o w l [] none = (tt, refl)
-calls_lead o w l (e ∷ h) none =
+    → Leads (with_now w l) (call_events h) (with_now w (all_called h l))
+calls_lead w l [] none = (tt, refl)
+calls_lead w l (e ∷ h) none =
     let parts = and_parts (not (is_publishing e.call)) (publishes_nothing h) none in
-    let rest = calls_lead o w (called e.call l) h parts.1 in
+    let rest = calls_lead w (called e.call l) h parts.1 in
     ((may_call e.call w.file l parts.0, rest.0), rest.1)
 
 called_history : (l : Life) (h : List Answered) → IsLegal (book l) h
@@ -68,9 +68,9 @@ called_starts l (e ∷ h) = called_starts (called e.call l) h
 
 pub calls_are_events : CallsAreEvents
 calls_are_events = record {
-  leads = λ o w l h is none.
-      going_on (λ v. Leads o v (call_events h) (with_now w (all_called h l))) w l is
-      (calls_lead o w l h none);
+  leads = λ w l h is none.
+      going_on (λ v. Leads v (call_events h) (with_now w (all_called h l))) w l is
+      (calls_lead w l h none);
   history = called_history;
   starts = called_starts;
 }
@@ -90,7 +90,7 @@ get_last (x ∷ xs) s = get_last xs s
 abbrev rounds_of : Asked → ℕ → List Round → Start
 rounds_of a front rounds = record (begun a front) { rounds = rounds }
 
-module _ (o : Opening) (w : World) (l : Life) (a : Asked) (now : ℕ) where
+module _ (w : World) (l : Life) (a : Asked) (now : ℕ) where
   abbrev front : ℕ
   front = length (book l).published
 
@@ -99,7 +99,7 @@ module _ (o : Opening) (w : World) (l : Life) (a : Asked) (now : ℕ) where
 
   -- so many further rounds, and the end
   rounds_lead : (n : ℕ) (rounds : List Round) → last_front 0 rounds ≤ front
-      → Leads o (at (l.starts ++ rounds_of a front rounds ∷ []))
+      → Leads (at (l.starts ++ rounds_of a front rounds ∷ []))
       (desk_rounds (length l.starts) front now n)
       (at (l.starts
       ++ with_end (rounds_of a front (rounds ++ map (free_round front) (replicate n now))) ∷ []))
@@ -124,10 +124,10 @@ module _ (o : Opening) (w : World) (l : Life) (a : Asked) (now : ℕ) where
             rises = rises;
             published = omega arith;
           },
-          subst (λ (all : List Start). AllCome o (at all) (desk_rounds (length l.starts) front now n))
+          subst (λ (all : List Start). AllCome (at all) (desk_rounds (length l.starts) front now n))
               (sym next) rest.0,
         ),
-        ap (λ (all : List Start). after_events o (at all) (desk_rounds (length l.starts) front now n))
+        ap (λ (all : List Start). after_events (at all) (desk_rounds (length l.starts) front now n))
             next
             ∙ rest.1
             ∙ ap (λ (rs : List Round). at (l.starts ++ with_end (rounds_of a front rs) ∷ []))
@@ -140,11 +140,11 @@ length_of (suc n) now = let rest = length_of n now in omega (arith, rest)
 
 pub desk : Laws → DeskIsEvents
 desk laws = record {
-  leads = λ o w l a now n is some.
+  leads = λ w l a now n is some.
       let front = length (book l).published in
-      going_on (λ v. Leads o v (desk_events a (length l.starts) front now n)
+      going_on (λ v. Leads v (desk_events a (length l.starts) front now n)
       (with_now w (with_start l (desk_start a front now n)))) w l is
-      (let rest = rounds_lead o w l a now n [] (omega arith) in ((some, rest.0), rest.1));
+      (let rest = rounds_lead w l a now n [] (omega arith) in ((some, rest.0), rest.1));
   hands_over = λ l a now n some mode.
       let p : List Entry = (book l).published in
       let t = asked_terms a (length p) in

@@ -1,26 +1,27 @@
 -- The headline of worlds that stand.
-use Rattle.std.proofs.Common.{◌≡◌, ℕ, ◌<◌, Bool, IsTrue, IsFalse, Option, None, Some, List, [], ◌∷◌}
+use Rattle.std.proofs.Common.{◌≡◌, ℕ, IsTrue, None, List, [], ◌∷◌}
 use Rattle.std.proofs.Common.{◌++◌, length, take, drop, refl, sym, ap, subst, ◌∙◌, append_assoc}
 use Rattle.std.proofs.Common.{append-nil, take-append-drop, inl, inr, arith}
 use Rattle.std.proofs.lemmas.List.{take_at, take_all}
 use Rattle.std.proofs.lemmas.Grind.{flat_map-append}
-use Rattle.std.specs.List.{AllByRecursion, flat_map, list_any}
+use Rattle.std.specs.List.{AllByRecursion, list_any}
 use Rattle.std.specs.Option.{option_to_list}
 use Rattle.archive_terms.specs.Archive.{Entry, IsArchive}
 use Rattle.archive_terms.specs.Selection.{picked, is_stop_closed}
-use Rattle.archive_terms.specs.Delivery.{is_timely, entries_of, is_end_of_data, end_of_data}
+use Rattle.archive_terms.specs.Delivery.{entries_of, is_end_of_data, end_of_data}
 use Rattle.archive_terms.specs.Delivery.{archived_items}
 use Rattle.archive_terms.specs.Rounds.{Outcome, handed_items, handed_buffers, settled_items}
 use Rattle.archive_terms.specs.Rounds.{without_backlog, to_hand_over, TimelyShape, last_front}
 use Rattle.archive_terms.specs.Continuity.{told_buffers}
-use Rattle.station_book.specs.State.{opened, Event as Answered}
-use Rattle.station_book.specs.History.{IsLegal}
+use Rattle.station_book.specs.State.{State, opened, Event as Answered}
+use Rattle.station_book.specs.History.{IsLegal, then_after}
 use Rattle.station_world.specs.File.{File, acknowledged, batch_of, IsListOf}
 use Rattle.station_world.specs.Life.{Start, Life, book, done_by, octets_sent}
 use Rattle.station_world.specs.World.{World, lives}
 use Rattle.station_world.specs.Comes.{Begins}
 use Rattle.station_world.specs.Headline.{CompleteDelivery, TimelyDelivery, SameContinuity}
-use Rattle.station_world.specs.Headline.{OfEachStart, RadiatesLawfully, IsKept, Headline, HeadlineLaw}
+use Rattle.station_world.specs.Headline.{OfEachStart, RadiatesLawfully, TellsInTurn, IsKept}
+use Rattle.station_world.specs.Headline.{Headline, HeadlineLaw}
 use Rattle.station_world.specs.Laws.{Laws}
 use Rattle.station_world.proofs.Lists.{joined, all_join, all_map, front_of}
 use Rattle.station_world.proofs.Files.{FileStands, kept_alone}
@@ -88,14 +89,27 @@ module _ (laws : Laws) (l : Life) (archive : List Entry) (begins : Begins (book 
 
 -- ---- radiation
 
+-- the events of a history up to one of them are legal
+legal_prefix : (s : State) (h later : List Answered) → IsLegal s (h ++ later) → IsLegal s h
+legal_prefix s [] later legal = tt
+legal_prefix s (e ∷ h) later legal = (legal.0, legal_prefix (then_after s e) h later legal.1)
+
+up_to : (l : Life) (h k later : List Answered) (e : Answered) → l.history ≡ h ++ e ∷ k ++ later
+    → IsLegal (opened l.opening) l.history → IsLegal (opened l.opening) (h ++ e ∷ k)
+up_to l h k later e is legal = legal_prefix (opened l.opening) (h ++ e ∷ k) later
+    (subst (IsLegal (opened l.opening)) is legal)
+
 radiates : Laws → (kept : List Entry) (l : Life) → LifeStands kept l → RadiatesLawfully l
 radiates laws kept l stands = record {
-  runs = λ h k e first is begun one.
-      laws.runs (opened l.opening) h k e first
-      (subst (λ (xs : List Answered). IsLegal (opened l.opening) xs) is stands.legal) begun one;
+  runs = λ h k later e first is begun one.
+      laws.runs (opened l.opening) h k e first (up_to l h k later e is stands.legal) begun one;
   once = laws.once l.opening l.history stands.legal;
   tried = stands.tried;
 }
+
+tells : Laws → (kept : List Entry) (l : Life) → LifeStands kept l → TellsInTurn l
+tells laws kept l stands = λ one h k later e door is begun before.
+    laws.notices l.opening h k e door one (up_to l h k later e is stands.legal) begun before
 
 -- ---- the file
 
@@ -125,6 +139,7 @@ of_worlds laws w later old goes = record {
   timely_delivery = each TimelyDelivery timely;
   continuity = each SameContinuity continuity;
   radiation = all_map (LifeStands kept) RadiatesLawfully (radiates laws kept) (lives w) all;
+  notices = all_map (LifeStands kept) TellsInTurn (tells laws kept) (lives w) all;
   antenna = old.antenna ∙ sym (flat_map-append octets_sent w.past (option_to_list w.now));
   recovery = is_kept laws w.file old.file;
   composition = goes.grows;
@@ -151,6 +166,6 @@ of_worlds laws w later old goes = record {
         found.archive) l.starts stands.starts) (lives w) all
 
 pub headline : Laws → HeadlineLaw
-headline laws o events more come =
-    behind_both laws Headline o events more come
-    (λ w old later. of_worlds laws w _ old (all_go laws o w more later old))
+headline laws events more come =
+    behind_both laws Headline events more come
+    (λ w old later. of_worlds laws w _ old (all_go laws w more later old))

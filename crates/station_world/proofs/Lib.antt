@@ -4,6 +4,7 @@ pub mod Files
 pub mod Lives
 pub mod Worlds
 pub mod Headlines
+pub mod Moments
 pub mod Staying
 pub mod Calls
 pub mod Archives

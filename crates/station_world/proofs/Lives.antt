@@ -17,9 +17,9 @@ use Rattle.station_book.specs.History.{event_at, replay, IsLegal, then_after, ma
 use Rattle.station_book.specs.Publishing.{published_in, published_by}
 use Rattle.station_book.specs.Radiation.{radiations, radiation_by}
 use Rattle.station_world.specs.File.{File, acknowledged}
-use Rattle.station_world.specs.Life.{Start, Fate, sent, failed, unsent, Try, Life, book, octets_of}
+use Rattle.station_world.specs.Life.{Start, Fate, unsent, Try, Life, book, octets_of}
 use Rattle.station_world.specs.Life.{taken_to_radiate, octets_sent, is_take, tried, tries_with}
-use Rattle.station_world.specs.Life.{radiated_by, called, fate_of, sent_with, Asked, begun, taken}
+use Rattle.station_world.specs.Life.{radiated_by, called, fate_of, sent_with, Asked, taken}
 use Rattle.station_world.specs.Life.{change_at, changed, with_round, with_end}
 use Rattle.station_world.specs.Comes.{Begins, MayCall, MayMake}
 use Rattle.station_world.specs.Laws.{Laws}

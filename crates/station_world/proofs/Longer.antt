@@ -1,5 +1,5 @@
 -- A delivery over a longer archive.
-use Rattle.std.proofs.Common.{◌≡◌, ℕ, ◌+◌, ◌≤◌, List, [], ◌∷◌, ◌++◌, length, take, refl, sym, ap, ◌∙◌}
+use Rattle.std.proofs.Common.{◌≡◌, ℕ, ◌≤◌, List, [], ◌∷◌, ◌++◌, length, take, refl, sym, ap, ◌∙◌}
 use Rattle.std.proofs.Common.{arith, Some, length-append}
 use Rattle.std.proofs.lemmas.List.{take-append-le}
 use Rattle.archive_terms.specs.Archive.{Entry, IsArchive}

@@ -1,6 +1,6 @@
 -- What happened stays.
 use Rattle.std.proofs.Common.{◌≡◌, ℕ, zero, suc, ◌≤◌, Bool, true, false, Option, Some, None, List, []}
-use Rattle.std.proofs.Common.{◌∷◌, ◌++◌, length, take, slice_get, refl, sym, ap, subst, ◌∙◌, append-nil}
+use Rattle.std.proofs.Common.{◌∷◌, ◌++◌, length, take, refl, sym, ap, subst, ◌∙◌, append-nil}
 use Rattle.std.proofs.Common.{arith, cond, option_map}
 use Rattle.std.specs.List.{AllByRecursion}
 use Rattle.std.specs.Option.{option_to_list}
@@ -202,36 +202,36 @@ opened_again w o refused none = same_lives w
 opened_again w o with_batch none = one_more w _ none
 opened_again w o without_batch none = one_more w _ none
 
-one_goes : Laws → (o : Opening) (w : World) (e : Event) → Comes w e → WorldStands w
-    → GoOn w (after_event o w e)
-one_goes laws o w (offers entry) may old = same_lives w
-one_goes laws o w begins_store may old = same_lives w
-one_goes laws o w (ends_store good) may old = same_lives w
-one_goes laws o w (reopens finding) may old = same_lives w
-one_goes laws o w (calls call) may old =
+one_goes : Laws → (w : World) (e : Event) → Comes w e → WorldStands w
+    → GoOn w (after_event w e)
+one_goes laws w (offers entry) may old = same_lives w
+one_goes laws w begins_store may old = same_lives w
+one_goes laws w (ends_store good) may old = same_lives w
+one_goes laws w (reopens finding) may old = same_lives w
+one_goes laws w (calls call) may old =
     alters w.past w.now (called call)
     (λ l is. by_call laws call l (one_stands w l is old).starts)
-one_goes laws o w (starts a) may old = alters w.past w.now (taken a) (λ l is. by_start a l)
-one_goes laws o w (makes_round place r) may old =
+one_goes laws w (starts a) may old = alters w.past w.now (taken a) (λ l is. by_start a l)
+one_goes laws w (makes_round place r) may old =
     alters w.past w.now (changed place (with_round r)) (λ l is. by_round place r l)
-one_goes laws o w (ends_start place) may old =
+one_goes laws w (ends_start place) may old =
     alters w.past w.now (changed place with_end) (λ l is. by_stop place l)
-one_goes laws o w (sends good) may old =
+one_goes laws w (sends good) may old =
     alters w.past w.now (sent_with good) (λ l is. by_send good l)
-one_goes laws o w (reads moment) may old = same_lives w
-one_goes laws o w loses_power may old =
+one_goes laws w (reads moment) may old = same_lives w
+one_goes laws w loses_power may old =
     subst (λ (xs : List Life). Match LifeGoesOn (lives w) xs) (sym (append-nil (lives w)))
     (same_lives w)
-one_goes laws o w (restarts finding) may old = opened_again w o finding may
+one_goes laws w (restarts o finding) may old = opened_again w o finding may
 
-go_on : Laws → (o : Opening) (w : World) (events : List Event) → AllCome o w events
-    → WorldStands w → GoOn w (after_events o w events)
-go_on laws o w [] come old = same_lives w
-go_on laws o w (e ∷ events) come old =
-    match_then LifeGoesOn LifeGoesOn LifeGoesOn life_then (lives w) (lives (after_event o w e))
-    (lives (after_events o (after_event o w e) events)) (one_goes laws o w e come.0 old)
-    (go_on laws o (after_event o w e) events come.1 (goes laws o w e come.0 old).stands)
+go_on : Laws → (w : World) (events : List Event) → AllCome w events
+    → WorldStands w → GoOn w (after_events w events)
+go_on laws w [] come old = same_lives w
+go_on laws w (e ∷ events) come old =
+    match_then LifeGoesOn LifeGoesOn LifeGoesOn life_then (lives w) (lives (after_event w e))
+    (lives (after_events (after_event w e) events)) (one_goes laws w e come.0 old)
+    (go_on laws (after_event w e) events come.1 (goes laws w e come.0 old).stands)
 
 pub stays : Laws → WhatWasDoneStays
-stays laws o events more come =
-    behind_both laws GoOn o events more come (λ w old later. go_on laws o w more later old)
+stays laws events more come =
+    behind_both laws GoOn events more come (λ w old later. go_on laws w more later old)

@@ -1,12 +1,11 @@
 -- What holds of a world, and that each event keeps it, and so does every list of them.
-use Rattle.std.proofs.Common.{◌≡◌, ℕ, Bool, true, false, Option, Some, None, List, [], ◌∷◌, ◌++◌}
+use Rattle.std.proofs.Common.{◌≡◌, ℕ, Bool, Option, Some, None, List, [], ◌∷◌, ◌++◌}
 use Rattle.std.proofs.Common.{refl, sym, ap, subst, ◌∙◌, append_assoc, append-nil, option_map}
 use Rattle.std.proofs.Common.{if◌then◌else◌}
 use Rattle.std.specs.List.{AllByRecursion, flat_map}
 use Rattle.std.specs.Option.{option_to_list}
 use Rattle.std.proofs.lemmas.Grind.{flat_map-append}
 use Rattle.archive_terms.specs.Archive.{Entry, IsArchive}
-use Rattle.cltu_queue.specs.Run.{Radiation}
 use Rattle.station_book.specs.State.{Opening}
 use Rattle.station_world.specs.File.{File, acknowledged, batch_of, Finding, with_batch, without_batch}
 use Rattle.station_world.specs.File.{refused, found_by}
@@ -14,7 +13,7 @@ use Rattle.station_world.specs.Life.{Life, octets_sent, called, taken, changed, 
 use Rattle.station_world.specs.Life.{sent_with}
 use Rattle.station_world.specs.World.{World, before_all, Event, offers, begins_store, ends_store}
 use Rattle.station_world.specs.World.{reopens, calls, starts, makes_round, ends_start, sends, reads}
-use Rattle.station_world.specs.World.{loses_power, restarts, with_file, with_life, octets_to_send}
+use Rattle.station_world.specs.World.{loses_power, restarts, with_file, octets_to_send}
 use Rattle.station_world.specs.World.{in_the_dark, restarted, after_event, after_events}
 use Rattle.station_world.specs.Comes.{Begins, Lives, Comes, AllCome}
 use Rattle.station_world.specs.Laws.{Laws}
@@ -169,55 +168,55 @@ opened_again laws w o without_batch none old =
 
 -- ---- events
 
-pub goes : Laws → (o : Opening) (w : World) (e : Event) → Comes w e → WorldStands w
-    → Goes w (after_event o w e)
-goes laws o w (offers entry) may old = of_file w _ old (by_offer laws w.file entry may.1 old.file)
-goes laws o w begins_store may old = of_file w _ old (by_begin w.file old.file)
-goes laws o w (ends_store good) may old = of_file w _ old (by_end w.file good old.file)
-goes laws o w (reopens finding) may old = of_file w _ old (by_reopen laws w.file finding old.file)
-goes laws o w (calls call) may old =
+pub goes : Laws → (w : World) (e : Event) → Comes w e → WorldStands w
+    → Goes w (after_event w e)
+goes laws w (offers entry) may old = of_file w _ old (by_offer laws w.file entry may.1 old.file)
+goes laws w begins_store may old = of_file w _ old (by_begin w.file old.file)
+goes laws w (ends_store good) may old = of_file w _ old (by_end w.file good old.file)
+goes laws w (reopens finding) may old = of_file w _ old (by_reopen laws w.file finding old.file)
+goes laws w (calls call) may old =
     change w w.now (called call) _ refl may old (λ l m s. by_call laws w.file l call m s)
     (λ l. call_sends_nothing call l)
-goes laws o w (starts a) may old =
+goes laws w (starts a) may old =
     change w w.now (taken a) _ refl may old (λ l m s. by_start (acknowledged w.file) l a m s)
     (λ l. refl)
-goes laws o w (makes_round place r) may old =
+goes laws w (makes_round place r) may old =
     change w w.now (changed place (with_round r)) _ refl may old
     (λ l m s. by_round (acknowledged w.file) l place r m s) (λ l. refl)
-goes laws o w (ends_start place) may old =
+goes laws w (ends_start place) may old =
     change w w.now (changed place with_end) _ refl may old
     (λ l m s. by_stop (acknowledged w.file) l place s) (λ l. refl)
-goes laws o w (sends good) may old = was_sent w w.now good _ refl may old
-goes laws o w (reads moment) may old = record {
+goes laws w (sends good) may old = was_sent w w.now good _ refl may old
+goes laws w (reads moment) may old = record {
   stands = record { file = old.file; past = old.past; now = old.now; antenna = old.antenna };
   grows = all_of_it (acknowledged w.file);
 }
-goes laws o w loses_power may old = without laws w old
-goes laws o w (restarts finding) may old = opened_again laws w o finding may old
+goes laws w loses_power may old = without laws w old
+goes laws w (restarts o finding) may old = opened_again laws w o finding may old
 
-pub all_go : Laws → (o : Opening) (w : World) (events : List Event) → AllCome o w events
-    → WorldStands w → Goes w (after_events o w events)
-all_go laws o w [] come old = stays w old
-all_go laws o w (e ∷ events) come old =
-    let one : Goes w (after_event o w e) = goes laws o w e come.0 old in
-    let rest : Goes (after_event o w e) (after_events o (after_event o w e) events) =
-    all_go laws o (after_event o w e) events come.1 one.stands in
+pub all_go : Laws → (w : World) (events : List Event) → AllCome w events
+    → WorldStands w → Goes w (after_events w events)
+all_go laws w [] come old = stays w old
+all_go laws w (e ∷ events) come old =
+    let one : Goes w (after_event w e) = goes laws w e come.0 old in
+    let rest : Goes (after_event w e) (after_events (after_event w e) events) =
+    all_go laws (after_event w e) events come.1 one.stands in
     record {
       stands = rest.stands;
-      grows = joined (acknowledged w.file) (acknowledged (after_event o w e).file)
-          (acknowledged (after_events o (after_event o w e) events).file) one.grows rest.grows;
+      grows = joined (acknowledged w.file) (acknowledged (after_event w e).file)
+          (acknowledged (after_events (after_event w e) events).file) one.grows rest.grows;
     }
 
 -- ---- two lists of events
 
 -- what holds where a list stands and the next one comes, holds behind both
-pub behind_both : Laws → (P : World → World → Type 0) (o : Opening) (events more : List Event)
-    → AllCome o before_all (events ++ more)
-    → ((w : World) → WorldStands w → AllCome o w more → P w (after_events o w more))
-    → P (after_events o before_all events) (after_events o before_all (events ++ more))
-behind_both laws P o events more come holds = on before_all events come at_first
+pub behind_both : Laws → (P : World → World → Type 0) (events more : List Event)
+    → AllCome before_all (events ++ more)
+    → ((w : World) → WorldStands w → AllCome w more → P w (after_events w more))
+    → P (after_events before_all events) (after_events before_all (events ++ more))
+behind_both laws P events more come holds = on before_all events come at_first
   where
-    on : (w : World) (h : List Event) → AllCome o w (h ++ more) → WorldStands w
-        → P (after_events o w h) (after_events o w (h ++ more))
+    on : (w : World) (h : List Event) → AllCome w (h ++ more) → WorldStands w
+        → P (after_events w h) (after_events w (h ++ more))
     on w [] come old = holds w old come
-    on w (e ∷ h) come old = on (after_event o w e) h come.1 (goes laws o w e come.0 old).stands
+    on w (e ∷ h) come old = on (after_event w e) h come.1 (goes laws w e come.0 old).stands

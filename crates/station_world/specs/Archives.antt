@@ -1,7 +1,7 @@
 -- An archive on a disk that tells holds a world's file, and its calls are events of it. This
 -- product's own.
-use Rattle.std.specs.Prelude.{◌≡◌, ◌⊎◌, ℕ, ◌+◌, ◌-◌, Bool, true, false, IsTrue, Option, None, Some, List}
-use Rattle.std.specs.Prelude.{[], ◌∷◌, ◌++◌, take, length, IfSome}
+use Rattle.std.specs.Prelude.{◌≡◌, ◌⊎◌, ℕ, ◌+◌, ◌-◌, true, false, IsTrue, Option, None, Some, List}
+use Rattle.std.specs.Prelude.{[], ◌∷◌, take}
 use Rattle.archive_terms.specs.Archive.{Entry, is_valid}
 use Rattle.disk_model.specs.Images.{Pending}
 use Rattle.disk_model.specs.Moments.{IsImageOf}
@@ -40,8 +40,8 @@ pub record StandsForOne (f : File) (image : List ℕ) : Type 0 where
 abbrev pub AreEvents : {D : Type 0} → (D → Option Pending) → ArchiveState D → ArchiveState D
     → List Event → Type 0
 AreEvents pending old new events =
-    (o : Opening) (w : World) (l : Life) → w.now ≡ Some l → Holds pending old w.file
-    → AllCome o w events × Holds pending new (after_events o w events).file
+    (w : World) (l : Life) → w.now ≡ Some l → Holds pending old w.file
+    → AllCome w events × Holds pending new (after_events w events).file
 
 -- Each call by what it ensures.
 pub record ArchiveLaw {D : Type 0} (pending : D → Option Pending) : Type 0 where
@@ -71,8 +71,8 @@ pub record ArchiveLaw {D : Type 0} (pending : D → Option Pending) : Type 0 whe
       (w : World) → w.now ≡ None → StandsForOne w.file content → Uses found archive.used content
       → Acknowledges pending archive found → archive.waiting ≡ []
       → (finding : Finding) × (found_by w.file finding ≡ Some found)
-      × AllCome o w (restarts finding ∷ [])
-      × Holds pending archive (after_events o w (restarts finding ∷ [])).file
+      × AllCome w (restarts o finding ∷ [])
+      × Holds pending archive (after_events w (restarts o finding ∷ [])).file
   -- an image between two calls; one within a store; and the same ones once the power has failed
   pub images : (archive : ArchiveState D) (f : File) (image : List ℕ) → Holds pending archive f
       → IsImageOf (pending archive.disk) image → StandsForOne f image

@@ -5,7 +5,7 @@ use Rattle.std.specs.List.{fold, list_all}
 use Rattle.archive_terms.specs.Selection.{picked, is_stop_closed}
 use Rattle.archive_terms.specs.Delivery.{offline_buffers, is_online}
 use Rattle.archive_terms.specs.Rounds.{free_round, handed_buffers}
-use Rattle.station_book.specs.State.{Opening, Call, publish, Event as Answered}
+use Rattle.station_book.specs.State.{Call, publish, Event as Answered}
 use Rattle.station_book.specs.History.{IsLegal}
 use Rattle.station_world.specs.Life.{Start, Life, book, done_by, Asked, asked_terms, called}
 use Rattle.station_world.specs.Life.{with_start}
@@ -18,8 +18,8 @@ abbrev pub with_now : World → Life → World
 with_now w l = record w { now = Some l }
 
 -- events may come in a world, and lead to another
-abbrev pub Leads : Opening → World → List Event → World → Type 0
-Leads o w events next = AllCome o w events × (after_events o w events ≡ next)
+abbrev pub Leads : World → List Event → World → Type 0
+Leads w events next = AllCome w events × (after_events w events ≡ next)
 
 -- ---- events of the book
 
@@ -39,9 +39,9 @@ all_called h l = fold (λ (m : Life) (e : Answered). called e.call m) l h
 -- Events that are legal behind a life's history, none of them a publishing, are events of the
 -- world: they lead to the world whose life has them behind that history, and the same STARTs.
 pub record CallsAreEvents : Type 0 where
-  pub leads : (o : Opening) (w : World) (l : Life) (h : List Answered) → w.now ≡ Some l
+  pub leads : (w : World) (l : Life) (h : List Answered) → w.now ≡ Some l
       → IsTrue (publishes_nothing h)
-      → Leads o w (call_events h) (with_now w (all_called h l))
+      → Leads w (call_events h) (with_now w (all_called h l))
   pub history : (l : Life) (h : List Answered) → IsLegal (book l) h
       → (all_called h l).history ≡ l.history ++ h
   pub starts : (l : Life) (h : List Answered) → (all_called h l).starts ≡ l.starts
@@ -69,10 +69,10 @@ desk_start a front now n = record {
 -- Its events lead to the same world, whose life has the START behind the others. What it handed
 -- over are the first so many buffers of an offline delivery of what is published.
 pub record DeskIsEvents : Type 0 where
-  pub leads : (o : Opening) (w : World) (l : Life) (a : Asked) (now n : ℕ) → w.now ≡ Some l
+  pub leads : (w : World) (l : Life) (a : Asked) (now n : ℕ) → w.now ≡ Some l
       → 0 < a.size →
       let front = length (book l).published in
-      Leads o w (desk_events a (length l.starts) front now n)
+      Leads w (desk_events a (length l.starts) front now n)
       (with_now w (with_start l (desk_start a front now n)))
   pub hands_over : (l : Life) (a : Asked) (now n : ℕ) → 0 < a.size → IsFalse (is_online a.mode) →
       let published = (book l).published in

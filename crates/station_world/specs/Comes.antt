@@ -1,10 +1,10 @@
 -- Which event may come in a world. This product's own.
 use Rattle.std.specs.Prelude.{◌≡◌, ℕ, ◌≤◌, ◌<◌, Bool, true, false, IsTrue, Option, Some, None, List, []}
 use Rattle.std.specs.Prelude.{◌∷◌, ◌++◌, length, slice_get}
-use Rattle.archive_terms.specs.Archive.{Entry, may_follow}
+use Rattle.archive_terms.specs.Archive.{may_follow}
 use Rattle.archive_terms.specs.Rounds.{Round, last_front}
 use Rattle.cltu_queue.specs.Run.{Radiation}
-use Rattle.station_book.specs.State.{Opening, Call, publish}
+use Rattle.station_book.specs.State.{Call, publish}
 use Rattle.station_world.specs.File.{Phase, settled, in_store, File, acknowledged}
 use Rattle.station_world.specs.Life.{Start, Life, book}
 use Rattle.station_world.specs.World.{World, Event, offers, begins_store, ends_store, reopens, calls}
@@ -73,9 +73,9 @@ Comes w (ends_start place) = IsUp w
 Comes w (sends good) = Lives w.now (λ l. (r : Radiation) × (l.to_send ≡ Some r))
 Comes w (reads moment) = Unit {0}
 Comes w loses_power = Unit {0}
-Comes w (restarts finding) = w.now ≡ None
+Comes w (restarts o finding) = w.now ≡ None
 
 -- each event of a list may come
-abbrev pub AllCome : Opening → World → List Event → Type 0
-AllCome o w [] = Unit {0}
-AllCome o w (e ∷ events) = Comes w e × AllCome o (after_event o w e) events
+abbrev pub AllCome : World → List Event → Type 0
+AllCome w [] = Unit {0}
+AllCome w (e ∷ events) = Comes w e × AllCome (after_event w e) events

@@ -1,18 +1,17 @@
 -- The headline: of every list of events, what each START hands its link, what radiates, and what a
 -- recovery keeps. This product's own.
-use Rattle.std.specs.Prelude.{◌≡◌, ℕ, Bool, true, IsTrue, IsFalse, Option, None, Some, List, [], ◌∷◌}
-use Rattle.std.specs.Prelude.{◌++◌, length, take, map}
-use Rattle.std.specs.List.{list_any, flat_map, AllByRecursion}
+use Rattle.std.specs.Prelude.{◌≡◌, ℕ, IsTrue, IsFalse, None, Some, List, [], ◌∷◌, ◌++◌, take}
+use Rattle.std.specs.List.{flat_map, AllByRecursion}
 use Rattle.archive_terms.specs.Archive.{Entry, IsArchive}
-use Rattle.archive_terms.specs.Selection.{picked, is_stop_closed}
-use Rattle.archive_terms.specs.Delivery.{Terms, is_timely, entries_of, is_end_of_data, end_of_data}
-use Rattle.archive_terms.specs.Delivery.{archived_items}
-use Rattle.archive_terms.specs.Rounds.{Outcome, handed_items, handed_buffers, settled_items}
-use Rattle.archive_terms.specs.Rounds.{without_backlog, to_hand_over, TimelyShape}
+use Rattle.archive_terms.specs.Delivery.{is_timely}
+use Rattle.archive_terms.specs.Rounds.{handed_buffers}
 use Rattle.archive_terms.specs.Continuity.{told_buffers}
+use Rattle.return_core.specs.Promise.{IsComplete, IsTimely}
 use Rattle.cltu_queue.specs.Run.{AreInTurn}
-use Rattle.station_book.specs.State.{Opening, opened, Event as Answered}
-use Rattle.station_book.specs.History.{replay, IsLegal}
+use Rattle.station_book.specs.State.{opened, Event as Answered}
+use Rattle.station_book.specs.History.{replay}
+use Rattle.station_book.specs.Doors.{HasOneForward}
+use Rattle.station_book.specs.Notices.{door_of_run, are_before_stop, IsToldInTurn}
 use Rattle.station_book.specs.Radiation.{radiations, run_begun, are_of_one_run, IsLawful}
 use Rattle.station_world.specs.File.{File, acknowledged, batch_of, IsListOf}
 use Rattle.station_world.specs.Life.{Start, Life, book, done_by, taken_to_radiate, octets_sent}
@@ -20,26 +19,6 @@ use Rattle.station_world.specs.World.{World, before_all, lives, Event, after_eve
 use Rattle.station_world.specs.Comes.{Begins, AllCome}
 
 -- ---- what a START has handed its link
-
--- What a START of a complete or offline instance is to hand over of an archive begins with what it
--- has handed over: the entries are the first ones that it picks, in order, each once. End of data
--- stands last, behind all that it picks, and only with the stop closed.
-pub record IsComplete (t : Terms) (archive : List Entry) (done : List Outcome) : Type 0 where
-  pub items : take (length (handed_items done)) (to_hand_over t archive) ≡ handed_items done
-  pub entries : take (length (entries_of (handed_items done))) (picked archive t.selection)
-      ≡ entries_of (handed_items done)
-  pub only_after_all : IsTrue (list_any is_end_of_data (handed_items done))
-      → IsTrue (is_stop_closed t.selection archive)
-      × (handed_items done ≡ archived_items (picked archive t.selection) ++ end_of_data ∷ [])
-
--- A START of a timely instance omits exactly the buffers that it notifies. Behind end of data the
--- stop is closed, and all that it picks was handed over or discarded.
-pub record IsTimely (t : Terms) (archive : List Entry) (done : List Outcome) : Type 0 where
-  pub shape : TimelyShape (to_hand_over t archive) done
-  pub only_after_all : IsTrue (list_any is_end_of_data (handed_items done))
-      → IsTrue (is_stop_closed t.selection archive)
-      × (without_backlog (settled_items done)
-      ≡ archived_items (picked archive t.selection) ++ end_of_data ∷ [])
 
 -- what the promise says of a START of a life and an archive
 abbrev pub CompleteDelivery : List Entry → Life → Start → Type 0
@@ -64,15 +43,25 @@ OfEachStart holds f all =
 
 -- ---- what radiates
 
--- In a life's history each run radiates lawfully: its CLTUs radiate in order, each within its
--- window. Nothing radiates twice in it, over all its runs. And what was taken to be sent, whatever
--- became of it, is what the history radiated.
+-- In a life's history each run radiates lawfully, from the START that began it up to any of its
+-- events: its CLTUs radiate in order, each within its window. Nothing radiates twice, over all runs.
+-- And what was taken to be sent, whatever became of it, is what was radiated.
 pub record RadiatesLawfully (l : Life) : Type 0 where
-  pub runs : (h k : List Answered) (e : Answered) (first : ℕ) → l.history ≡ h ++ e ∷ k
-      → run_begun e ≡ Some first → IsTrue (are_of_one_run k)
+  pub runs : (h k later : List Answered) (e : Answered) (first : ℕ)
+      → l.history ≡ h ++ e ∷ k ++ later → run_begun e ≡ Some first → IsTrue (are_of_one_run k)
       → IsLawful (replay (opened l.opening) (h ++ e ∷ [])).queue.run first k
   pub once : AreInTurn (radiations l.history)
   pub tried : taken_to_radiate l ≡ radiations l.history
+
+-- In a life's history the notices of each run are told in turn, up to any event before its stop. No
+-- other door than that whose START began the run is told any. The station has one forward service
+-- at most.
+abbrev pub TellsInTurn : Life → Type 0
+TellsInTurn l =
+    HasOneForward l.opening.services → (h k later : List Answered) (e : Answered) (door : ℕ)
+    → l.history ≡ h ++ e ∷ k ++ later → door_of_run e ≡ Some door
+    → IsTrue (are_before_stop door k)
+    → IsToldInTurn (replay (opened l.opening) (h ++ e ∷ [])) door k
 
 -- ---- what a recovery keeps
 
@@ -97,8 +86,10 @@ pub record Headline (w later : World) : Type 0 where
   pub timely_delivery : OfEachStart TimelyDelivery later.file (lives w)
   -- and each frame has the same continuity in each of them
   pub continuity : OfEachStart SameContinuity later.file (lives w)
-  -- CLTUs radiate at most once, in order, within their windows
+  -- in each run CLTUs radiate at most once, in order, within their windows
   pub radiation : AllByRecursion RadiatesLawfully (lives w)
+  -- the notices of each run are told in order, each once, at its door alone
+  pub notices : AllByRecursion TellsInTurn (lives w)
   -- the antenna was sent the octets of the takes whose send was good, in order, each once
   pub antenna : w.antenna ≡ flat_map octets_sent (lives w)
   -- a recovery keeps a prefix that holds every acknowledged entry
@@ -109,5 +100,5 @@ pub record Headline (w later : World) : Type 0 where
 -- It holds behind every list of events and behind every longer one.
 abbrev pub HeadlineLaw : Type 0
 HeadlineLaw =
-    (o : Opening) (events more : List Event) → AllCome o before_all (events ++ more)
-    → Headline (after_events o before_all events) (after_events o before_all (events ++ more))
+    (events more : List Event) → AllCome before_all (events ++ more)
+    → Headline (after_events before_all events) (after_events before_all (events ++ more))

@@ -1,5 +1,5 @@
 -- The laws of the archive, of deliveries and of histories that the headline rests on.
-use Rattle.std.specs.Prelude.{◌≡◌, ℕ, ◌<◌, Bool, IsTrue, IsFalse, List, [], ◌∷◌, ◌++◌, length, take}
+use Rattle.std.specs.Prelude.{◌≡◌, ℕ, ◌<◌, IsTrue, IsFalse, List, [], ◌∷◌, ◌++◌, length, take}
 use Rattle.std.specs.Prelude.{None, Some, ◌&&◌, map}
 use Rattle.std.specs.List.{list_any}
 use Rattle.archive_terms.specs.Archive.{Entry, is_archive, IsArchive, may_follow}
@@ -13,6 +13,8 @@ use Rattle.archive_terms.specs.Continuity.{told_buffers}
 use Rattle.cltu_queue.specs.Run.{AreInTurn}
 use Rattle.station_book.specs.State.{State, Opening, opened, Event}
 use Rattle.station_book.specs.History.{replay, IsLegal}
+use Rattle.station_book.specs.Doors.{HasOneForward}
+use Rattle.station_book.specs.Notices.{door_of_run, are_before_stop, IsToldInTurn}
 use Rattle.station_book.specs.Publishing.{published_in}
 use Rattle.station_book.specs.Radiation.{radiations, run_begun, are_of_one_run, IsLawful}
 
@@ -59,6 +61,10 @@ pub record Laws : Type 0 where
   pub runs : (s : State) (h k : List Event) (e : Event) (first : ℕ) → IsLegal s (h ++ e ∷ k)
       → run_begun e ≡ Some first → IsTrue (are_of_one_run k)
       → IsLawful (replay s (h ++ e ∷ [])).queue.run first k
+  pub notices : (o : Opening) (h k : List Event) (e : Event) (door : ℕ) → HasOneForward o.services
+      → IsLegal (opened o) (h ++ e ∷ k) → door_of_run e ≡ Some door
+      → IsTrue (are_before_stop door k)
+      → IsToldInTurn (replay (opened o) (h ++ e ∷ [])) door k
   pub once : (o : Opening) (h : List Event) → IsLegal (opened o) h → AreInTurn (radiations h)
   pub offline_rounds : (t : Terms) (entries : List Entry) (front : ℕ) (moments : List ℕ)
       → 0 < t.size → IsFalse (is_online t.mode)

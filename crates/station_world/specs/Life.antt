@@ -1,10 +1,9 @@
 -- A life of the station, from an opening of its archive to a power failure: its book, its STARTs
 -- and what was sent, and what happens in it. This product's own.
-use Rattle.std.specs.Prelude.{◌≡◌, ℕ, zero, suc, Bool, true, false, if◌then◌else◌, Option, Some, None}
+use Rattle.std.specs.Prelude.{ℕ, zero, suc, Bool, true, false, if◌then◌else◌, Option, None}
 use Rattle.std.specs.Prelude.{List, [], ◌∷◌, ◌++◌, length, map}
 use Rattle.std.specs.List.{flat_map}
 use Rattle.std.specs.Option.{option_to_list}
-use Rattle.archive_terms.specs.Archive.{Entry}
 use Rattle.archive_terms.specs.Selection.{Filter}
 use Rattle.archive_terms.specs.Delivery.{Mode, selection_of, Terms, started}
 use Rattle.archive_terms.specs.Rounds.{Round, Outcome, outcomes}

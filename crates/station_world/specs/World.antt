@@ -1,9 +1,8 @@
 -- World step: what happens to a station, one event after the other. This product's own.
-use Rattle.std.specs.Prelude.{◌≡◌, ℕ, Bool, if◌then◌else◌, Option, Some, None, List, [], ◌∷◌, ◌++◌, map}
+use Rattle.std.specs.Prelude.{ℕ, Bool, if◌then◌else◌, Option, Some, None, List, [], ◌∷◌, ◌++◌, map}
 use Rattle.std.specs.Option.{option_map, option_to_list}
 use Rattle.archive_terms.specs.Archive.{Entry}
 use Rattle.archive_terms.specs.Rounds.{Round}
-use Rattle.cltu_queue.specs.Run.{Radiation}
 use Rattle.station_book.specs.State.{Opening, Call}
 use Rattle.station_world.specs.File.{File, made, with_offer, in_a_store, store_ended, Finding}
 use Rattle.station_world.specs.File.{reopened, without_power, found_by, recovered}
@@ -31,7 +30,8 @@ lives w = w.past ++ option_to_list w.now
 -- An entry is offered and taken. A store of all that waits begins; it ends, good or not. The file
 -- is opened again. The book is called. A START is taken; a round of the START at a place is over;
 -- that START ends. The octets of the last take are sent, good or not. The clock reads a moment. The
--- power fails, at any time. The archive is opened behind a power failure.
+-- power fails, at any time. The archive is opened after a power failure, for a station whose book
+-- opens so: each restart may have other instances, doors and rooms.
 pub data Event : Type 0 where
   offers : Entry → Event
   begins_store : Event
@@ -44,7 +44,7 @@ pub data Event : Type 0 where
   sends : Bool → Event
   reads : ℕ → Event
   loses_power : Event
-  restarts : Finding → Event
+  restarts : Opening → Finding → Event
 
 -- ---- what an event leaves
 
@@ -77,21 +77,21 @@ restarted o w (Some entries) = record w {
   now = Some (born (record o { entries = entries }));
 }
 
--- the world behind an event, at a station whose book is opened so
-abbrev pub after_event : Opening → World → Event → World
-after_event o w (offers entry) = with_file w (with_offer w.file entry)
-after_event o w begins_store = with_file w (in_a_store w.file)
-after_event o w (ends_store good) = with_file w (store_ended w.file good)
-after_event o w (reopens finding) = with_file w (reopened w.file finding)
-after_event o w (calls call) = with_life w (called call)
-after_event o w (starts a) = with_life w (taken a)
-after_event o w (makes_round place r) = with_life w (changed place (with_round r))
-after_event o w (ends_start place) = with_life w (changed place with_end)
-after_event o w (sends good) = with_send w good
-after_event o w (reads moment) = record w { clock = moment }
-after_event o w loses_power = in_the_dark w
-after_event o w (restarts finding) = restarted o w (found_by w.file finding)
+-- the world behind an event
+abbrev pub after_event : World → Event → World
+after_event w (offers entry) = with_file w (with_offer w.file entry)
+after_event w begins_store = with_file w (in_a_store w.file)
+after_event w (ends_store good) = with_file w (store_ended w.file good)
+after_event w (reopens finding) = with_file w (reopened w.file finding)
+after_event w (calls call) = with_life w (called call)
+after_event w (starts a) = with_life w (taken a)
+after_event w (makes_round place r) = with_life w (changed place (with_round r))
+after_event w (ends_start place) = with_life w (changed place with_end)
+after_event w (sends good) = with_send w good
+after_event w (reads moment) = record w { clock = moment }
+after_event w loses_power = in_the_dark w
+after_event w (restarts o finding) = restarted o w (found_by w.file finding)
 
-abbrev pub after_events : Opening → World → List Event → World
-after_events o w [] = w
-after_events o w (e ∷ events) = after_events o (after_event o w e) events
+abbrev pub after_events : World → List Event → World
+after_events w [] = w
+after_events w (e ∷ events) = after_events (after_event w e) events

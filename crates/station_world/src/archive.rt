@@ -6,6 +6,7 @@ ghost use Rattle.disk_model.specs.Moments.{HoldsThroughout};
 ghost use Rattle.disk_model.specs.Calls.{AllMade, FailedAtOne};
 ghost use Rattle.record_form.specs.Entry.{entry_of};
 ghost use Rattle.gate_journal.specs.JournalState.{appending, recovering, FailsToRecover};
+ghost use Rattle.frame_archive.specs.State.{at_rest};
 ghost use Rattle.frame_archive.specs.declared.fault.ArchiveFault.TheVariants as ArchiveFault;
 ghost use Rattle.station_book.specs.State.{Opening};
 ghost use Rattle.station_world.specs.File.{File, in_a_store, Finding, refused, found_by};
@@ -76,18 +77,21 @@ pub fn reopen<D: Disk>(archive: &mut FrameArchive<D>) -> Result<Landing, Archive
 }
 
 /// Opens the archive behind a power failure, on a disk whose content stands for one of the file's
-/// lists: a restart that finds just the entries that are handed out.
+/// lists: a restart that finds just the entries that it gives. Nothing waits in the archive, which
+/// has the capacity that was asked for.
 pub fn open<D: Disk>(
     alloc: Global,
     disk: D,
     capacity: u64,
 ) -> Result<(FrameArchive<D>, Entries), (ArchiveFault, D)>
     requires { capacity ≤ 268435456 }
+    ensures at_rest { IfOk result (λ opened. opened.0 ≡ at_rest opened.0.disk capacity opened.0.used
+        opened.1) }
     ensures restarted { IfOk result (λ opened. (o : Opening) (w : World) → w.now ≡ None
         → IsSomeAnd (D.pending disk) (λ told. StandsForOne w.file told.content)
         → (finding : Finding) × (found_by w.file finding ≡ Some opened.1)
-        × AllCome o w (restarts finding ∷ [])
-        × Holds D.pending opened.0 (after_events o w (restarts finding ∷ [])).file) }
+        × AllCome w (restarts o finding ∷ [])
+        × Holds D.pending opened.0 (after_events w (restarts o finding ∷ [])).file) }
     ensures calls { IfOk result (λ opened. AllMade D.makes disk recovering opened.0.disk) }
     ensures refused_calls { IfErr result (λ refused. (refused.0 ≡ ArchiveFault.DiskFault)
         ⊎ AllMade D.makes disk recovering refused.1) }

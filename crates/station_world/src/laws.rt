@@ -6,8 +6,9 @@ ghost use Rattle.archive_terms.specs.Rounds.{Round, last_front};
 ghost use Rattle.return_core.specs.Course.{Course};
 ghost use Rattle.return_core.specs.Standing.{StandsFor};
 ghost use Rattle.station_world.specs.Laws.{Laws};
-ghost use Rattle.station_world.specs.Headline.{HeadlineLaw};
-ghost use Rattle.station_world.specs.Stays.{WhatWasDoneStays};
+ghost use Rattle.station_world.specs.World.{World, Event};
+ghost use Rattle.station_world.specs.Headline.{Headline, HeadlineLaw};
+ghost use Rattle.station_world.specs.Stays.{LivesGoOn, WhatWasDoneStays, AtEachMoment};
 ghost use Rattle.station_world.specs.Calls.{CallsAreEvents, DeskIsEvents};
 ghost use Rattle.station_world.specs.Archives.{ArchiveLaw};
 
@@ -16,9 +17,10 @@ use disk_model::Disk;
 /// The headline, over every interleaving of frames, operations, clock readings, stalls, aborts,
 /// crashes within any write and restarts: what each START of a complete or offline instance hands
 /// its link is a prefix of what it admits, end of data only after all; a timely one omits exactly
-/// the buffers that it notifies; CLTUs radiate at most once, in order, within their windows; a
-/// recovery keeps a prefix that holds every acknowledged entry. What was handed over stays right
-/// for whatever a later recovery finds.
+/// the buffers that it notifies; CLTUs radiate at most once, in order, within their windows; the
+/// notices of each run are told in order, each once, at its door; a recovery keeps a prefix that
+/// holds every acknowledged entry. What was handed over stays right for whatever a later recovery
+/// finds.
 pub fn headline_law()
     ensures { HeadlineLaw }
 {
@@ -30,6 +32,16 @@ pub fn what_was_done_stays()
     ensures { WhatWasDoneStays }
 {
     rests_on();
+}
+
+/// At each moment of events that follow others, and whatever comes after it, the headline holds,
+/// and what was done stays.
+pub fn at_each_moment()
+    ensures headline { (w : World) (events : List Event) → AtEachMoment Headline w events }
+    ensures stays { (w : World) (events : List Event) → AtEachMoment LivesGoOn w events }
+{
+    headline_law();
+    what_was_done_stays();
 }
 
 /// Events of the book that publish nothing are events of the world, at any life that goes on.
@@ -74,4 +86,5 @@ fn rests_on()
     station_book::laws::published_entries_grow();
     station_book::laws::lawful_radiation();
     station_book::laws::nothing_radiates_twice();
+    station_book::laws::notices_are_told_in_turn();
 }

@@ -6,5 +6,6 @@ returns c = record {
   follows = c.follows_by_last_times.ensures.archive;
   weighs = c.made_up_weighs_as_much.ensures;
   book_calls = c.calls_are_events.ensures;
-  headline = c.headline_law.ensures;
+  headline = c.at_each_moment.ensures.headline;
+  stays = c.at_each_moment.ensures.stays;
 }

@@ -7,4 +7,7 @@ returns c = record {
   rounds = c.what_a_round_makes_may_come.ensures;
   there = c.each_start_is_the_worlds.ensures;
   beside = c.starts_stand_beside.ensures;
+  sees = c.what_a_session_sees_is_published.ensures;
+  hands = c.each_start_hands_over.ensures;
+  only = c.only_a_started_service_sends.ensures;
 }

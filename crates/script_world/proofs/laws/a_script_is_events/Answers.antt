@@ -10,8 +10,8 @@ returns c =
     record {
       lines = λ site lines more. in_world c.lines_are_events.ensures
           c.what_a_round_makes_may_come.ensures c.a_start_hands_over.ensures.last c.headline_law.ensures site sites
-          (λ (line : ScriptLine). Some line) c.what_was_done_stays.ensures lines more;
+          (λ (line : ScriptLine). Some line) c.at_each_moment.ensures.headline c.at_each_moment.ensures.stays lines more;
       texts = λ site lines more. in_world c.lines_are_events.ensures
           c.what_a_round_makes_may_come.ensures c.a_start_hands_over.ensures.last c.headline_law.ensures site sites reading
-          c.what_was_done_stays.ensures lines more;
+          c.at_each_moment.ensures.headline c.at_each_moment.ensures.stays lines more;
     }

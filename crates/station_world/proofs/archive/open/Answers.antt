@@ -1,5 +1,4 @@
 use Rattle.std.proofs.Common.{ap}
-use Rattle.disk_model.specs.Images.{Pending}
 use Rattle.frame_archive.specs.State.{ArchiveState}
 use Rattle.station_world.proofs.Results.{of_value, told_so}
 use Rattle.station_world.proofs.archive.open.Goals as goal

@@ -11,6 +11,7 @@ returns c = record {
   told = c.continuity_stays.ensures.of_a_run;
   published = c.published_entries_grow.ensures.by_events;
   runs = c.lawful_radiation.ensures;
+  notices = c.notices_are_told_in_turn.ensures;
   once = c.nothing_radiates_twice.ensures;
   offline_rounds = c.offline_rounds.ensures;
 }
