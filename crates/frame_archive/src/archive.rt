@@ -4,7 +4,7 @@ ghost use Rattle.std.specs.Prelude.{List, length, take, drop, Some, None, IfSome
 ghost use Rattle.std.specs.Prelude.{IsTrue, MatchResult, OnOk, OnErr, IfOk, IfErr, IsOk, IsErrOf};
 ghost use Rattle.std.specs.Prelude.{if◌then◌else◌, Ok, Err, MatchOption};
 ghost use Rattle.octet_core.specs.Fault.{Rose};
-ghost use Rattle.archive_terms.specs.Archive.{is_valid};
+ghost use Rattle.archive_terms.specs.Archive.{is_valid, IsArchive};
 ghost use Rattle.archive_terms.specs.Archive as terms;
 ghost use Rattle.disk_model.specs.Moments.{IsImageOf, HoldsThroughout};
 ghost use Rattle.disk_model.specs.Calls.{AllMade, FailedAtOne};
@@ -110,6 +110,7 @@ pub fn open_archive<D: Disk>(
     requires { capacity ≤ 268435456 }
     ensures at_rest { IfOk result (λ opened. opened.0 ≡ at_rest opened.0.disk capacity opened.0.used
         opened.1) }
+    ensures archive { IfOk result (λ opened. IsArchive opened.1) }
     ensures stands { IfOk result (λ opened. IfSome (D.pending disk) (λ told. Uses opened.1
         opened.0.used told.content)) }
     ensures acknowledged { IfOk result (λ opened. IfSome (D.pending disk) (λ _. Acknowledges

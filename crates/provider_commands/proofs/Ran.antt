@@ -21,6 +21,16 @@ started_on (Some disk) taken None First IsSo is so told = tt
 started_on (Some disk) taken (Some pass) First IsSo is so told =
     subst (λ found. IfSome found (λ disk. IsSo disk pass)) (sym is) (so pass told)
 
+-- so does what holds where there is none
+pub not_started_on : {D P : Type 0} (disk : Option D) (taken : D) (passes : Option P)
+    (First Second : Type 0) (IsSo : D → Type 0) → disk ≡ Some taken
+    → (First → Second → IsSo taken) → IfNone passes First → IfNone passes Second
+    → IfSome disk (λ found. IfNone passes (IsSo found))
+not_started_on None taken passes First Second IsSo is so told more = absurd cc
+not_started_on (Some disk) taken (Some pass) First Second IsSo is so told more = tt
+not_started_on (Some disk) taken None First Second IsSo is so told more =
+    subst (λ found. IfSome found IsSo) (sym is) (so told more)
+
 -- a slice of a whole vector that was lent and changed is the vector then
 pub put_back : {A : Type 0} (n : ℕ) (xs ys : List A) → length xs ≡ n → length xs ≡ length ys
     → take n (xs ++ drop (length xs) ys) ≡ xs

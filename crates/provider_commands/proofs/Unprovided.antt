@@ -3,11 +3,14 @@ use Rattle.std.proofs.Common.{◌≡◌, ℕ, List, Option, Some, None, IfSome, 
 use Rattle.std.proofs.Common.{subst}
 use Rattle.disk_model.specs.Images.{Pending}
 use Rattle.disk_model.specs.Moments.{IsImageOf}
+use Rattle.disk_model.specs.declared.call.Call.{Call as DiskCall}
+use Rattle.station_run.specs.Ran.{Outside as Around}
 use Rattle.run_plan.specs.declared.plan.RunPlan.{RunPlan}
 use Rattle.run_command.specs.declared.status.RunStatus.TheVariants as ends
 use Rattle.command_words.specs.declared.commands.Plan.{Plan}
 use Rattle.command_words.specs.declared.commands.Plan.TheVariants.{Run}
 use Rattle.command_ends.specs.declared.status.Status.TheVariants.{Memory}
+use Rattle.script_commands.specs.Lawful.{IsLawful}
 use Rattle.archive_commands.specs.Archives.{unasked, IsInit, IsList}
 use Rattle.command_words.specs.Command.{NeedsDisk}
 use Rattle.command_ends.specs.Ends.{code}
@@ -41,13 +44,15 @@ pub unprovided : {D : Type 0} (pending : D → Option Pending) (extent moment : 
     (images_since : D → ℕ → List ℕ → Type 0) (faults : D → ℕ)
     → ((disk : D) (image : List ℕ) → images_since disk (moment disk) image
     → IsImageOf (pending disk) image)
-    → (plan : Option Plan) (disk : Option D) (outside : Outside) (exit : ℕ) → exit ≡ code Memory
-    → NeedsDisk plan
+    → ((script : List ℕ) → IsLawful script) → (plan : Option Plan) (disk : Option D)
+    (outside : Outside) (exit : ℕ) → exit ≡ code Memory → NeedsDisk plan
     → IsProvided pending extent moment images_since faults plan disk disk outside outside exit
-unprovided pending extent moment images_since faults only_now plan disk outside exit is needs =
+unprovided pending extent moment images_since faults only_now lawful plan disk outside exit is
+    needs =
     record {
       usage = λ none. absurd (subst NeedsDisk none needs);
       drilled = λ drill. absurd (subst NeedsDisk drill needs);
+      lawful = lawful;
       made = λ path init. unmade pending extent moment images_since faults only_now outside.written
           outside.write_faults exit is disk;
       listed = λ path list. unread pending extent moment images_since faults only_now
@@ -74,13 +79,20 @@ never_started None passes IsSo none = tt
 never_started (Some disk) None IsSo none = tt
 never_started (Some disk) (Some pass) IsSo none = absurd cc
 
-pub given_up : {D P : Type 0} (pending : D → Option Pending) (faults : D → ℕ) (disk : Option D)
+pub given_up : {D F A G C P : Type 0} (pending : D → Option Pending) (faults moment : D → ℕ)
+    (images_since : D → ℕ → List ℕ → Type 0) (makes fails : D → DiskCall → D → Type 0)
+    (fails_to_read : D → D → Type 0) (disk : Option D) (around : Around F A G C)
     (passes : Option P) (outside : Outside) (exit : ℕ) → exit ≡ code Memory
-    → NotStartedOn pending faults disk disk passes outside outside exit
-given_up pending faults None passes outside exit is = tt
-given_up pending faults (Some disk) (Some pass) outside exit is = tt
-given_up pending faults (Some disk) None outside exit is = record {
-  own = ends.Memory;
-  ends = inr (inr (is, refl, refl));
-  cause = inl (refl, refl);
-}
+    → NotStartedOn pending faults moment images_since makes fails fails_to_read disk disk around
+    around passes outside outside exit
+given_up pending faults moment images_since makes fails fails_to_read None around passes outside exit
+    is = tt
+given_up pending faults moment images_since makes fails fails_to_read (Some disk) around (Some pass)
+    outside exit is = tt
+given_up pending faults moment images_since makes fails fails_to_read (Some disk) around None outside
+    exit is = record {
+      own = ends.Memory;
+      ends = inr (inr (is, refl, refl));
+      cause = inl (refl, refl);
+      untouched = refl;
+    }

@@ -12,7 +12,7 @@ use Rattle.turn_lock.specs.PassState.{PassState}
 use Rattle.station_config.specs.Validity.{IsSite}
 use Rattle.station_config.specs.declared.site.Site.{Site}
 use Rattle.station_book.specs.State.{Event, Opening}
-use Rattle.station_run.specs.Ran.{Outside as Around, RanOver}
+use Rattle.station_run.specs.Ran.{Outside as Around, outside, RanOver}
 use Rattle.station_run.specs.declared.report.RunReport.{RunReport}
 use Rattle.run_laws.specs.Lossless.{IsLossless}
 use Rattle.run_events.specs.Runs.{RunIsEvents}
@@ -24,6 +24,15 @@ use Rattle.run_plan.specs.declared.plan.RunPlan.{RunPlan}
 use Rattle.command_ends.specs.Outside.{Outside}
 use Rattle.command_words.specs.declared.commands.Plan.{Plan}
 use Rattle.command_words.specs.declared.commands.Plan.TheVariants.{Run}
+use Rattle.provider_commands.specs.declared.equipment.Equipment.{Equipment}
+
+-- what is around a station of what the program runs on
+abbrev pub around : {I O D G C F A : Type 0} → Equipment I O D G C F A → Around F A G C
+around kit = outside kit.frames kit.antenna kit.antenna_clock kit.doors.items kit.clocks.items
+
+abbrev pub IsRun : Option Plan → Type 0
+IsRun (Some (Run run)) = Unit {0}
+IsRun _ = ⊥
 
 -- a station has 1 to 16 doors, a clock for each, and no pass of an earlier run
 abbrev pub IsReady : {G C P : Type 0} → List G → List C → Option P → Type 0
@@ -43,18 +52,46 @@ IsRan before after exit =
     ⊎ ((own : RunStatus) × EndsBefore before.written after.written before.write_faults
     after.write_faults own exit)
 
+-- What the objects that a run is over report: the answers of its source of entries, what its
+-- antenna was sent, what its doors showed, the calls of its doors' links, the readings of its
+-- clocks, and how often each has failed. An object that reports no content still counts its faults.
+pub record Senses (F A G L C : Type 0) : Type 0 where
+  pub answers : F → Option (List Answer)
+  pub source_faults : F → ℕ
+  pub sent : A → Option (List (List ℕ))
+  pub antenna_faults : A → ℕ
+  pub shown : G → Option Shown
+  pub door_faults : G → ℕ
+  pub calls : L → Option (List LinkCall)
+  pub link_faults : L → ℕ
+  pub readings : C → Option (List Cds)
+
+abbrev pub senses : {F A G L C : Type 0} → (F → Option (List Answer)) → (F → ℕ)
+    → (A → Option (List (List ℕ))) → (A → ℕ) → (G → Option Shown) → (G → ℕ)
+    → (L → Option (List LinkCall)) → (L → ℕ) → (C → Option (List Cds)) → Senses F A G L C
+senses answers source_faults sent antenna_faults shown door_faults calls link_faults readings =
+    record {
+      answers = answers;
+      source_faults = source_faults;
+      sent = sent;
+      antenna_faults = antenna_faults;
+      shown = shown;
+      door_faults = door_faults;
+      calls = calls;
+      link_faults = link_faults;
+      readings = readings;
+    }
+
 module _ {D F A G L C : Type 0} (pending : D → Option Pending) (disk_faults moment : D → ℕ)
     (images_since : D → ℕ → List ℕ → Type 0) (makes fails : D → DiskCall → D → Type 0)
-    (fails_to_read : D → D → Type 0) (answers : F → Option (List Answer)) (source_faults : F → ℕ)
-    (sent : A → Option (List (List ℕ))) (antenna_faults : A → ℕ) (shown : G → Option Shown)
-    (door_faults : G → ℕ) (calls : L → Option (List LinkCall)) (link_faults : L → ℕ)
-    (readings : C → Option (List Cds)) where
-  -- A run of the valid site that its input configures, whose workers were started: its text and its
-  -- exit code are those of its report, which says what they did; its closed pass is handed out; no
-  -- reply in it is Lost, and, over a disk that tells, none is Foreign. Over such a disk it is a list
-  -- of events of each world in which nothing goes on and for one of whose file's lists the disk's
-  -- content stands: all may come, and the headline holds behind each front of them; the same with
-  -- what its sessions make of STARTs in their places.
+    (fails_to_read : D → D → Type 0) (by : Senses F A G L C) where
+  -- A run of the valid site that its input configures, whose workers were started. Its text and its
+  -- exit code are those of its report, which says what they did. Its closed pass is given: no reply
+  -- in it is Lost, and, over a disk that reports its content, none is Foreign. Over such a disk the
+  -- run is a list of events of each world in which nothing goes on and for one of whose file's lists
+  -- the disk's content stands. All of these events may come. After each prefix of them the headline
+  -- holds, whatever may come later, and what was done stays. The same holds with what its sessions
+  -- make of STARTs in their places, and of what each session sent.
   pub record Started (run : RunPlan) (draw : ℕ) (disk disk_now : D) (old new : Around F A G C)
       (pass : PassState Event Opening) (before after : Outside) (exit : ℕ) : Type 0 where
     pub site : Site
@@ -64,14 +101,16 @@ module _ {D F A G L C : Type 0} (pending : D → Option Pending) (disk_faults mo
     pub configures : Configures before.left site
     pub ends : EndsBehind before.written after.written before.write_faults after.write_faults report
         exit
-    pub ran : RanOver pending disk_faults moment images_since makes fails fails_to_read answers
-        source_faults sent antenna_faults shown door_faults calls link_faults readings site
-        run.turns run.links draw disk disk_now old new report
+    pub ran : RanOver pending disk_faults moment images_since makes fails fails_to_read by.answers
+        by.source_faults by.sent by.antenna_faults by.shown by.door_faults by.calls by.link_faults
+        by.readings site run.turns run.links draw disk disk_now old new report
     pub lossless : IsLossless (pending disk) report
     pub events : RunIsEvents pending disk_faults moment images_since makes fails fails_to_read
-        answers source_faults sent antenna_faults shown door_faults calls link_faults readings ran
+        by.answers by.source_faults by.sent by.antenna_faults by.shown by.door_faults by.calls
+        by.link_faults by.readings ran
     pub rounds : RunHasRounds pending disk_faults moment images_since makes fails fails_to_read
-        answers source_faults sent antenna_faults shown door_faults calls link_faults readings ran
+        by.answers by.source_faults by.sent by.antenna_faults by.shown by.door_faults by.calls
+        by.link_faults by.readings ran
 
   abbrev pub StartedOn : RunPlan → ℕ → Option D → Option D → Around F A G C → Around F A G C
       → Option (PassState Event Opening) → Outside → Outside → ℕ → Type 0
@@ -85,22 +124,35 @@ module _ {D F A G L C : Type 0} (pending : D → Option Pending) (disk_faults mo
       (run : RunPlan) → plan ≡ Some (Run run)
       → StartedOn run draw disk disk_now old new passes before after exit
 
-module _ {D : Type 0} (pending : D → Option Pending) (disk_faults : D → ℕ) where
-  -- A run whose workers weren't started: its text and its exit code say why.
-  pub record Unstarted (disk disk_now : D) (before after : Outside) (exit : ℕ) : Type 0 where
+module _ {D F A G C : Type 0} (pending : D → Option Pending) (disk_faults moment : D → ℕ)
+    (images_since : D → ℕ → List ℕ → Type 0) (makes fails : D → DiskCall → D → Type 0)
+    (fails_to_read : D → D → Type 0) where
+  -- A run whose workers weren't started. Its text and its exit code say why. Its source, its
+  -- antenna, its doors and its clocks are as they were.
+  pub record Unstarted (disk disk_now : D) (old new : Around F A G C) (before after : Outside)
+      (exit : ℕ) : Type 0 where
     pub own : RunStatus
     pub ends : EndsBefore before.written after.written before.write_faults after.write_faults own
         exit
-    pub cause : NotStarted pending disk_faults before.left before.read_faults after.read_faults disk
-        disk_now own
+    pub cause : NotStarted pending disk_faults moment images_since makes fails fails_to_read
+        before.left before.read_faults after.read_faults disk disk_now own
+    pub untouched : new ≡ old
 
-  abbrev pub NotStartedOn : {P : Type 0} → Option D → Option D → Option P → Outside → Outside → ℕ
-      → Type 0
-  NotStartedOn disk disk_now passes before after exit =
+  abbrev pub NotStartedOn : {P : Type 0} → Option D → Option D → Around F A G C → Around F A G C
+      → Option P → Outside → Outside → ℕ → Type 0
+  NotStartedOn disk disk_now old new passes before after exit =
       IfSome disk (λ found. IfNone passes (IsSomeAnd disk_now
-      (λ left. Unstarted found left before after exit)))
+      (λ left. Unstarted found left old new before after exit)))
 
-  abbrev pub HasNotStarted : {P : Type 0} → Option Plan → Option D → Option D → Option P → Outside
-      → Outside → ℕ → Type 0
-  HasNotStarted plan disk disk_now passes before after exit =
-      (run : RunPlan) → plan ≡ Some (Run run) → NotStartedOn disk disk_now passes before after exit
+  abbrev pub HasNotStarted : {P : Type 0} → Option Plan → Option D → Option D → Around F A G C
+      → Around F A G C → Option P → Outside → Outside → ℕ → Type 0
+  HasNotStarted plan disk disk_now old new passes before after exit =
+      (run : RunPlan) → plan ≡ Some (Run run)
+      → NotStartedOn disk disk_now old new passes before after exit
+
+-- A command other than a run leaves a station's source, antenna, doors and clocks, the draw and the
+-- passes as they were.
+abbrev pub IsUntouched : {F A G C P : Type 0} → Option Plan → Around F A G C → Around F A G C → ℕ
+    → ℕ → Option P → Option P → Type 0
+IsUntouched plan old new draw draw_now passes passes_now =
+    ¬ IsRun plan → (new ≡ old) × (draw_now ≡ draw) × (passes_now ≡ passes)

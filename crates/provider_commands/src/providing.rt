@@ -2,12 +2,12 @@
 ghost use Rattle.std.specs.Prelude.{◌≡◌, None, Some, IfOk, IfErr, OnErr, IsSome};
 ghost use Rattle.std.specs.IoError.{error_kind};
 ghost use Rattle.run_plan.specs.RunPlan.{IsInRange};
-ghost use Rattle.station_run.specs.Ran.{outside};
 ghost use Rattle.command_ends.specs.Outside.{showing};
 ghost use Rattle.command_words.specs.Command.{asked, NeedsDisk};
 ghost use Rattle.provider_commands.specs.Provided.{IsProvided, IsNoDisk};
 ghost use Rattle.provider_commands.specs.Running.{AreReady, HasStarted, HasNotStarted, IsRan};
-ghost use Rattle.provider_commands.specs.Running.{IsReady, NotStartedOn, StartedOn};
+ghost use Rattle.provider_commands.specs.Running.{IsReady, NotStartedOn, StartedOn, IsUntouched};
+ghost use Rattle.provider_commands.specs.Running.{around, senses};
 
 use crate::equipment::Equipment;
 use antenna_core::Antenna;
@@ -24,6 +24,7 @@ use run_command::run;
 use run_events::laws::a_run_is_events;
 use run_plan::RunPlan;
 use run_rounds::laws::sessions_make_starts;
+use script_commands::laws::every_script_is_lawful;
 use script_commands::{drill, rehearse};
 use std::alloc::Global;
 use std::io::ErrorKind;
@@ -61,30 +62,34 @@ pub fn provide_on<
         (O.written kit.new.output) (O.faults kit.new.output))
         result) }
     ensures started { IfOk opening (λ disk. HasStarted D.pending D.faults D.moment D.images_since
-        D.makes D.fails D.fails_to_read F.answers F.faults A.sent A.faults G.shown G.faults
-        G.Link.calls G.Link.faults C.readings
+        D.makes D.fails D.fails_to_read
+        (senses F.answers F.faults A.sent A.faults G.shown G.faults G.Link.calls G.Link.faults
+        C.readings)
         (asked words.now) kit.old.draw disk kit.new.disk
-        (outside kit.old.frames kit.old.antenna kit.old.antenna_clock kit.old.doors.items
-        kit.old.clocks.items)
-        (outside kit.new.frames kit.new.antenna kit.new.antenna_clock kit.new.doors.items
-        kit.new.clocks.items)
-        kit.new.passes
+        (around kit.old) (around kit.new) kit.new.passes
         (showing (I.left kit.old.input) (I.faults kit.old.input)
         (O.written kit.old.output) (O.faults kit.old.output))
         (showing (I.left kit.new.input) (I.faults kit.new.input)
         (O.written kit.new.output) (O.faults kit.new.output))
         result) }
-    ensures not_started { IfOk opening (λ disk. HasNotStarted D.pending D.faults
-        (asked words.now) disk kit.new.disk kit.new.passes
+    ensures not_started { IfOk opening (λ disk. HasNotStarted D.pending D.faults D.moment
+        D.images_since D.makes D.fails D.fails_to_read
+        (asked words.now) disk kit.new.disk
+        (around kit.old) (around kit.new) kit.new.passes
         (showing (I.left kit.old.input) (I.faults kit.old.input)
         (O.written kit.old.output) (O.faults kit.old.output))
         (showing (I.left kit.new.input) (I.faults kit.new.input)
         (O.written kit.new.output) (O.faults kit.new.output))
         result) }
+    ensures untouched { IfOk opening (λ _. IsUntouched (asked words.now)
+        (around kit.old) (around kit.new) kit.old.draw kit.new.draw kit.old.passes kit.new.passes) }
     ensures told { IfErr opening (λ error. IsNoDisk (error_kind error)
         (O.written kit.old.output) (O.written kit.new.output)
         (O.faults kit.old.output) (O.faults kit.new.output) result) }
-    ensures unread { OnErr opening (kit.new.input ≡ kit.old.input) }
+    ensures unread { OnErr opening ((kit.new.input ≡ kit.old.input)
+        × (kit.new.disk ≡ kit.old.disk) × (kit.new.passes ≡ kit.old.passes)
+        × (around kit.new
+        ≡ around kit.old)) }
 {
     match opening {
         Ok(disk) => {
@@ -131,28 +136,30 @@ pub fn provide<
         (O.written kit.new.output) (O.faults kit.new.output))
         result }
     ensures started { HasStarted D.pending D.faults D.moment D.images_since D.makes D.fails
-        D.fails_to_read F.answers F.faults A.sent A.faults G.shown G.faults G.Link.calls
-        G.Link.faults C.readings
+        D.fails_to_read
+        (senses F.answers F.faults A.sent A.faults G.shown G.faults G.Link.calls G.Link.faults
+        C.readings)
         (asked words.now) kit.old.draw kit.old.disk kit.new.disk
-        (outside kit.old.frames kit.old.antenna kit.old.antenna_clock kit.old.doors.items
-        kit.old.clocks.items)
-        (outside kit.new.frames kit.new.antenna kit.new.antenna_clock kit.new.doors.items
-        kit.new.clocks.items)
-        kit.new.passes
+        (around kit.old) (around kit.new) kit.new.passes
         (showing (I.left kit.old.input) (I.faults kit.old.input)
         (O.written kit.old.output) (O.faults kit.old.output))
         (showing (I.left kit.new.input) (I.faults kit.new.input)
         (O.written kit.new.output) (O.faults kit.new.output))
         result }
-    ensures not_started { HasNotStarted D.pending D.faults
-        (asked words.now) kit.old.disk kit.new.disk kit.new.passes
+    ensures not_started { HasNotStarted D.pending D.faults D.moment D.images_since D.makes D.fails
+        D.fails_to_read
+        (asked words.now) kit.old.disk kit.new.disk
+        (around kit.old) (around kit.new) kit.new.passes
         (showing (I.left kit.old.input) (I.faults kit.old.input)
         (O.written kit.old.output) (O.faults kit.old.output))
         (showing (I.left kit.new.input) (I.faults kit.new.input)
         (O.written kit.new.output) (O.faults kit.new.output))
         result }
+    ensures untouched { IsUntouched (asked words.now)
+        (around kit.old) (around kit.new) kit.old.draw kit.new.draw kit.old.passes kit.new.passes }
 {
     a_rehearsal_is_a_script();
+    every_script_is_lawful();
     disk_model::laws::images_at_a_moment::<D>();
     match plan(alloc, words) {
         Ok(Some(Plan::Drill)) => drill(alloc, &mut kit.input, &mut kit.output),
@@ -188,21 +195,20 @@ fn run_on<
     requires disk { IsSome kit.old.disk }
     requires ready { IsReady kit.old.doors.items kit.old.clocks.items kit.old.passes }
     ensures started { StartedOn D.pending D.faults D.moment D.images_since D.makes D.fails
-        D.fails_to_read F.answers F.faults A.sent A.faults G.shown G.faults G.Link.calls
-        G.Link.faults C.readings
+        D.fails_to_read
+        (senses F.answers F.faults A.sent A.faults G.shown G.faults G.Link.calls G.Link.faults
+        C.readings)
         plan.now kit.old.draw kit.old.disk kit.new.disk
-        (outside kit.old.frames kit.old.antenna kit.old.antenna_clock kit.old.doors.items
-        kit.old.clocks.items)
-        (outside kit.new.frames kit.new.antenna kit.new.antenna_clock kit.new.doors.items
-        kit.new.clocks.items)
-        kit.new.passes
+        (around kit.old) (around kit.new) kit.new.passes
         (showing (I.left kit.old.input) (I.faults kit.old.input)
         (O.written kit.old.output) (O.faults kit.old.output))
         (showing (I.left kit.new.input) (I.faults kit.new.input)
         (O.written kit.new.output) (O.faults kit.new.output))
         result }
-    ensures not_started { NotStartedOn D.pending D.faults
-        kit.old.disk kit.new.disk kit.new.passes
+    ensures not_started { NotStartedOn D.pending D.faults D.moment D.images_since D.makes D.fails
+        D.fails_to_read
+        kit.old.disk kit.new.disk
+        (around kit.old) (around kit.new) kit.new.passes
         (showing (I.left kit.old.input) (I.faults kit.old.input)
         (O.written kit.old.output) (O.faults kit.old.output))
         (showing (I.left kit.new.input) (I.faults kit.new.input)

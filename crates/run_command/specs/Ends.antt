@@ -5,7 +5,8 @@ use Rattle.octet_core.specs.Fault.{count_up}
 use Rattle.octet_core.specs.Written.{Gains, GainsFront}
 use Rattle.disk_model.specs.Images.{Pending}
 use Rattle.station_config.specs.declared.site.Site.{Site}
-use Rattle.station_run.specs.Ran.{RefusesStart}
+use Rattle.disk_model.specs.declared.call.Call.{Call as DiskCall}
+use Rattle.station_run.specs.Ran.{RefusesStart, LeavesDisk}
 use Rattle.station_run.specs.declared.report.RunReport.{RunReport}
 use Rattle.station_run.specs.declared.report.StartFault.{StartFault}
 use Rattle.run_command.specs.Configured.{NoSite, Configures}
@@ -46,11 +47,14 @@ EndsBehind before after faults_before faults_after report exit =
 
 -- Why the workers of a run weren't started: its input, with so much left and these counts of faults
 -- before and after, configures no site, and the disk is as it was; or the station of its site
--- doesn't start over the disk.
-abbrev pub NotStarted : {D : Type 0} → (D → Option Pending) → (D → ℕ) → Option (List ℕ) → ℕ → ℕ
-    → D → D → RunStatus → Type 0
-NotStarted pending faults left before after disk disk_now own =
+-- doesn't start over the disk, of which no image is another one than before.
+abbrev pub NotStarted : {D : Type 0} → (D → Option Pending) → (D → ℕ) → (D → ℕ)
+    → (D → ℕ → List ℕ → Type 0) → (D → DiskCall → D → Type 0) → (D → DiskCall → D → Type 0)
+    → (D → D → Type 0) → Option (List ℕ) → ℕ → ℕ → D → D → RunStatus → Type 0
+NotStarted pending faults moment images_since makes fails fails_to_read left before after disk
+    disk_now own =
     (NoSite own left before after × (disk_now ≡ disk))
     ⊎ ((site : Site) × (fault : StartFault) × Configures left site × (after ≡ before)
     × (own ≡ started_with fault)
-    × RefusesStart fault (pending disk) (faults disk) (faults disk_now))
+    × RefusesStart fault (pending disk) (faults disk) (faults disk_now)
+    × LeavesDisk pending moment images_since makes fails fails_to_read fault disk disk_now)

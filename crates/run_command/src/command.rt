@@ -3,7 +3,7 @@ ghost use Rattle.std.specs.Prelude.{◌≡◌, ◌^◌, ◌≤◌, IfSome, IfNon
 ghost use Rattle.station_config.specs.Validity.{IsSite};
 ghost use Rattle.station_run.specs.declared.report.RunReport.{RunReport};
 ghost use Rattle.station_run.specs.declared.report.StartFault.{StartFault};
-ghost use Rattle.station_run.specs.Ran.{RanOver, RefusesStart, outside};
+ghost use Rattle.station_run.specs.Ran.{RanOver, RefusesStart, LeavesDisk, outside};
 ghost use Rattle.station_config.specs.declared.site.Site.{Site};
 ghost use Rattle.run_laws.specs.Lossless.{IsLossless};
 ghost use Rattle.run_command.specs.Configured.{Configures};
@@ -70,7 +70,12 @@ fn run_site<
     ensures not_started { IfNone result.2 ((fault : StartFault)
         × EndsBefore (O.written output.old) (O.written output.new) (O.faults output.old)
         (O.faults output.new) (started_with fault) result.0
-        × RefusesStart fault (D.pending disk) (D.faults disk) (D.faults result.1)) }
+        × RefusesStart fault (D.pending disk) (D.faults disk) (D.faults result.1)
+        × LeavesDisk D.pending D.moment D.images_since D.makes D.fails D.fails_to_read fault disk
+        result.1) }
+    ensures untouched { IfNone result.2
+        (outside frames.new antenna.new antenna_clock.new doors.new clocks.new
+        ≡ outside frames.old antenna.old antenna_clock.old doors.old clocks.old) }
 {
     a_run_loses_nothing::<D, F, A, G, C>();
     let (ran, disk) = run_station(
@@ -140,8 +145,11 @@ pub fn run<
         × IsLossless (D.pending disk) report) }
     ensures not_started { IfNone result.2 ((own : RunStatus) × EndsBefore (O.written output.old)
         (O.written output.new) (O.faults output.old) (O.faults output.new) own result.0
-        × NotStarted D.pending D.faults (I.left input.old) (I.faults input.old)
-        (I.faults input.new) disk result.1 own) }
+        × NotStarted D.pending D.faults D.moment D.images_since D.makes D.fails D.fails_to_read
+        (I.left input.old) (I.faults input.old) (I.faults input.new) disk result.1 own) }
+    ensures untouched { IfNone result.2
+        (outside frames.new antenna.new antenna_clock.new doors.new clocks.new
+        ≡ outside frames.old antenna.old antenna_clock.old doors.old clocks.old) }
 {
     match read_site(alloc, input) {
         Ok(site) => run_site(

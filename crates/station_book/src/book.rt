@@ -163,6 +163,13 @@ impl Book {
         reading.max(self.moment)
     }
 
+    /// How many entries are published.
+    pub fn front(&self) -> u64
+        ensures { result ≡ length self.now.published }
+    {
+        self.entries.len() as u64
+    }
+
     /// What a look at the published entries gives. They are an archive of fewer than 2^64 entries, so
     /// that a delivery may step on it. It goes over the index from the wanted place on, and shares
     /// the octets of what it gives.

@@ -1,12 +1,12 @@
 -- What came of a station's run. This product's own.
-use Rattle.std.specs.Prelude.{◌≡◌, ℕ, ◌+◌, ◌-◌, List, [], ◌∷◌, All, length, Option, IfSome}
+use Rattle.std.specs.Prelude.{◌≡◌, ◌⊎◌, ℕ, ◌+◌, ◌-◌, List, [], ◌∷◌, All, length, Option, IfSome}
 use Rattle.archive_terms.specs.Archive.{Entry}
 use Rattle.cds_time.specs.declared.cds.Cds.{Cds}
 use Rattle.disk_model.specs.Images.{Pending}
 use Rattle.disk_model.specs.Moments.{IsImageOf, HoldsThroughout}
 use Rattle.disk_model.specs.Calls.{AllMade}
 use Rattle.disk_model.specs.declared.call.Call.{Call as DiskCall}
-use Rattle.gate_journal.specs.JournalState.{recovering}
+use Rattle.gate_journal.specs.JournalState.{recovering, FailsToRecover}
 use Rattle.frame_archive.specs.Acknowledges.{Acknowledges, Uses}
 use Rattle.frame_archive.specs.Faults.{RefusesDisk}
 use Rattle.frame_archive.specs.State.{ArchiveState, at_rest}
@@ -128,3 +128,13 @@ RefusesStart (Damaged place) pending before after =
 RefusesStart DiskFault pending before after =
     RefusesDisk archives.DiskFault pending before after
 RefusesStart Memory pending before after = Unit {0}
+
+-- What a station that doesn't start leaves of its disk: at every moment each image is one that the
+-- disk had at first, so that a power failure leaves no more than before. Its calls were those of a
+-- recovery, all of them, or, where the disk failed, those up to the one that failed.
+pub record LeavesDisk {D : Type 0} (pending : D → Option Pending) (moment : D → ℕ)
+    (images_since : D → ℕ → List ℕ → Type 0) (makes fails : D → DiskCall → D → Type 0)
+    (fails_to_read : D → D → Type 0) (fault : StartFault) (disk disk_now : D) : Type 0 where
+  pub any_moment : HoldsThroughout moment images_since disk disk_now (IsImageOf (pending disk))
+  pub calls : (fault ≡ DiskFault) ⊎ AllMade makes disk recovering disk_now
+  pub failed_calls : fault ≡ DiskFault → FailsToRecover makes fails fails_to_read disk disk_now

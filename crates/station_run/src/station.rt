@@ -1,16 +1,18 @@
 // A station, from the opening of its archive to the closing of its lock.
-ghost use Rattle.std.specs.Prelude.{◌≡◌, ℕ, ◌+◌, ◌*◌, ◌^◌, ◌≤◌, ◌⊎◌, [], ◌∷◌, false, Option, All};
-ghost use Rattle.std.specs.Prelude.{IfOk, IfErr, IsErrOf, length, vec_len, vec_capacity};
+ghost use Rattle.std.specs.Prelude.{◌≡◌, ℕ, ◌+◌, ◌*◌, ◌^◌, ◌≤◌, [], ◌∷◌, false, Option, All};
+ghost use Rattle.std.specs.Prelude.{IfOk, IfErr, OnErr, length, vec_len, vec_capacity};
+ghost use Rattle.archive_terms.specs.Archive.{IsArchive};
 ghost use Rattle.disk_model.specs.Images.{Pending};
 ghost use Rattle.frame_archive.specs.Faults.{RefusesDisk};
 ghost use Rattle.station_config.specs.Validity.{IsSite};
 ghost use Rattle.station_book.specs.State.{opened};
 ghost use Rattle.station_book.specs.Origin.{opening_of};
 ghost use Rattle.station_seats.specs.Seats.{IsMain, IsSingle, owns_of, reports_of, turns_of};
+ghost use Rattle.frame_archive.specs.declared.fault.ArchiveFault.TheVariants as ArchiveFault;
 ghost use Rattle.station_run.specs.declared.report.StartFault.TheVariants as StartFault;
 ghost use Rattle.station_run.specs.Workers.{HasEnded};
 ghost use Rattle.station_run.specs.Ran.{Ran, RanOver, RefusesStart, IsHistory, published_count};
-ghost use Rattle.station_run.specs.Ran.{outside};
+ghost use Rattle.station_run.specs.Ran.{outside, LeavesDisk};
 
 use crate::crew::Crew;
 use crate::report::{RunReport, StartFault};
@@ -20,8 +22,6 @@ use cds_time::Clock;
 use disk_model::Disk;
 use door_model::Door;
 use frame_archive::{ArchiveFault, FrameArchive, open_archive};
-use frame_select::Want;
-use gate_journal::follows;
 use octet_core::Memory;
 use record_form::Entries;
 use recorder::FrameSource;
@@ -69,9 +69,11 @@ pub fn run_station<
         (outside frames.new antenna.new antenna_clock.new doors.new clocks.new) report) }
     ensures refused { IfErr result.0 (λ fault. RefusesStart fault (D.pending disk) (D.faults disk)
         (D.faults result.1)) }
-    ensures untouched { IfErr result.0 (λ fault. (fault ≡ StartFault.Memory)
-        ⊎ (outside frames.new antenna.new antenna_clock.new doors.new clocks.new
-        ≡ outside frames.old antenna.old antenna_clock.old doors.old clocks.old)) }
+    ensures disk { IfErr result.0 (λ fault. LeavesDisk D.pending D.moment D.images_since D.makes
+        D.fails D.fails_to_read fault disk result.1) }
+    ensures untouched { OnErr result.0
+        (outside frames.new antenna.new antenna_clock.new doors.new clocks.new
+        ≡ outside frames.old antenna.old antenna_clock.old doors.old clocks.old) }
 {
     match open_archive(alloc, disk, site.capacity) {
         Ok((mut archive, entries)) => {
@@ -98,8 +100,10 @@ pub fn run_station<
 
 // Why a station doesn't start whose archive was refused.
 fn start_fault(fault: ArchiveFault) -> StartFault
-    ensures { (pending : Option Pending) → (before after : ℕ)
+    ensures cause { (pending : Option Pending) → (before after : ℕ)
         → RefusesDisk fault pending before after → RefusesStart result pending before after }
+    ensures disk { (fault ≡ ArchiveFault.DiskFault → result ≡ StartFault.DiskFault)
+        × (result ≡ StartFault.DiskFault → fault ≡ ArchiveFault.DiskFault) }
 {
     match fault {
         ArchiveFault::NotJournal { place } => StartFault::NotJournal { place },
@@ -108,20 +112,6 @@ fn start_fault(fault: ArchiveFault) -> StartFault
         ArchiveFault::Stale | ArchiveFault::Changed { .. } | ArchiveFault::Memory => {
             StartFault::Memory
         }
-    }
-}
-
-// A book over the entries of an archive. Entries that are no archive count as refused memory: no
-// journal gives such.
-fn open_book(alloc: Global, site: &Site, entries: Entries, workers: u32) -> Result<Book, Memory>
-    requires workers { workers ≤ 31 }
-    ensures origin { IfOk result (λ book. book.opening ≡ opening_of site.now entries workers) }
-    ensures new { IfOk result (λ book. book ≡ opened book.opening) }
-{
-    if follows(&Entries::new(alloc), &entries) {
-        Book::new(alloc, site, entries, workers)
-    } else {
-        Err(Memory)
     }
 }
 
@@ -150,6 +140,7 @@ fn run_opened<
 ) -> Result<RunReport, StartFault>
     requires rests { archive.old.waiting ≡ [] }
     requires opened { archive.old.is_stale ≡ false }
+    requires archive { IsArchive entries }
     requires turns { (1 ≤ turns) × (turns ≤ 2 ^ 40) }
     requires doors { (1 ≤ length doors.old) × (length doors.old ≤ 16)
         × (length clocks.old ≡ length doors.old) }
@@ -160,11 +151,15 @@ fn run_opened<
         (outside frames.old antenna.old antenna_clock.old doors.old clocks.old)
         (outside frames.new antenna.new antenna_clock.new doors.new clocks.new) report) }
     ensures fault { IfErr result (λ fault. fault ≡ StartFault.Memory) }
+    ensures kept { OnErr result (archive.new ≡ archive.old) }
+    ensures untouched { OnErr result
+        (outside frames.new antenna.new antenna_clock.new doors.new clocks.new
+        ≡ outside frames.old antenna.old antenna_clock.old doors.old clocks.old) }
 {
     let count = doors.len();
     let number = count as u32;
     let opening = entries.len() as u64;
-    let book = open_book(alloc, site, entries, number + 1)?;
+    let book = Book::new(alloc, site, entries, number + 1)?;
     let (station, mut pass) = locked(alloc, book, (count as u64 + 2) * turns)?;
     let mut crew = Crew::seated(alloc, &station, &mut pass, count, turns)?;
     run_crew(
@@ -186,8 +181,7 @@ fn run_opened<
         draw,
         turns,
     );
-    let report = finish(station, pass, crew, opening, turns)?;
-    Ok(report)
+    Ok(finish(station, pass, crew, opening, turns))
 }
 
 // A book under the station's lock, and the pass that has all its turns.
@@ -210,7 +204,7 @@ fn finish(
     crew: Crew,
     opening: u64,
     turns: u64,
-) -> Result<RunReport, Memory>
+) -> RunReport
     requires main { IsMain station pass }
     requires recorder { HasEnded station turns crew.recorder.pass
         × (crew.recorder.pass.joined ≡ []) }
@@ -220,13 +214,12 @@ fn finish(
     requires room { (crew.reports.items ≡ []) × (vec_len crew.doors ≤ vec_capacity crew.reports) }
     requires whole { pass.left + turns + turns + turns_of crew.doors.items ≡ station.turns }
     requires opening { opening ≡ length station.origin.entries }
-    ensures history { IfOk result (λ report. IsHistory station report.pass.seen
-        ([] ∷ crew.recorder.pass.own ∷ crew.antenna.pass.own ∷ [] ∷ owns_of crew.doors.items)) }
-    ensures published { IfOk result (λ report. report.published
-        ≡ published_count station.origin report.pass.seen) }
-    ensures ended { IfOk result (λ report. (report.recording ≡ crew.recorder.ended)
-        × (report.radiating ≡ crew.antenna.ended)) }
-    ensures reports { IfOk result (λ report. report.doors.items ≡ reports_of crew.doors.items) }
+    ensures history { IsHistory station result.pass.seen
+        ([] ∷ crew.recorder.pass.own ∷ crew.antenna.pass.own ∷ [] ∷ owns_of crew.doors.items) }
+    ensures published { result.published ≡ published_count station.origin result.pass.seen }
+    ensures ended { (result.recording ≡ crew.recorder.ended)
+        × (result.radiating ≡ crew.antenna.ended) }
+    ensures reports { result.doors.items ≡ reports_of crew.doors.items }
 {
     let Crew {
         recorder,
@@ -243,12 +236,11 @@ fn finish(
         &mut reports,
     );
     let (book, pass) = close(station, pass);
-    let front = book.look(&Want::Front)?.front;
-    Ok(RunReport {
+    RunReport {
         pass,
-        published: front.saturating_sub(opening),
+        published: book.front().saturating_sub(opening),
         recording: recorder.ended,
         radiating: antenna.ended,
         doors: reports,
-    })
+    }
 }

@@ -193,9 +193,11 @@ const MOMENTS: &str = "\
 // whether the stop is closed. Frames at odd times are erred, and looks want good ones. A door is
 // given the same in an answer.
 const LOOKS: &str = "\
+0 0 count=Count(0)
 0 0 publish 10 11=Fine
 0 0 publish 20 20=Fine
 0 0 publish 30 31=Fine
+0 0 count=Count(6)
 0 0 nowhere=Seen(6, 0, 0, false, false)
 0 1 nowhere=Seen(6, 0, 0, false, false)
 0 0 front=Seen(6, 0, 0, false, false)
@@ -215,6 +217,7 @@ const FOREIGN: &str = "\
 0 0 publish 15 30=Foreign(2)
 0 0 publish 26 24=Foreign(2)
 0 0 front=Seen(2, 0, 0, false, false)
+0 0 count=Count(2)
 0 0 publish 20 22=Fine
 0 0 front=Seen(4, 0, 0, false, false)
 40 0 look 0 9=Seen(4, 4, 4, false, false)

@@ -206,6 +206,7 @@ impl BookDesk {
             What::Nowhere | What::Front | What::Look => look(&mut self.book, call),
             What::Take => Ok(take(&mut self.book, call)),
             What::View => Ok(view(&self.book)),
+            What::Count => Ok(Answer::Count(self.book.front())),
             What::Quit | What::Done | What::Interrupted | What::Uplink => {
                 tell(&mut self.book, call);
                 Ok(Answer::Fine)

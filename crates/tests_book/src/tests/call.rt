@@ -22,6 +22,7 @@ pub enum What {
     Interrupted,
     Uplink,
     View,
+    Count,
 }
 
 // A call: its reading and its door, where it has such, and its numbers.
@@ -52,6 +53,8 @@ pub enum Answer {
     Radiates(u64, u32),
     // The latest moment, the free octets and the production status.
     Queue(u128, u32, CltuProductionStatus),
+    // How many entries are published.
+    Count(u64),
 }
 
 fn number(word: Option<&str>) -> u32 {
@@ -62,7 +65,7 @@ fn number(word: Option<&str>) -> u32 {
 }
 
 // Each call by its word.
-const WORDS: [(&str, What); 17] = [
+const WORDS: [(&str, What); 18] = [
     ("nothing", What::Nothing),
     ("quiet", What::Quiet),
     ("bind", What::Bind),
@@ -80,6 +83,7 @@ const WORDS: [(&str, What); 17] = [
     ("interrupted", What::Interrupted),
     ("uplink", What::Uplink),
     ("view", What::View),
+    ("count", What::Count),
 ];
 
 fn what_of(word: &str) -> What {

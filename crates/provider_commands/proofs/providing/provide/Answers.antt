@@ -6,8 +6,8 @@ pub returns-clause-provided : goal.returns-clause-provided
 returns-clause-provided g c =
     unprovided g.D.Disk.pending g.D.Disk.extent g.D.Disk.moment g.D.Disk.images_since
     g.D.Disk.faults
-    c.images_at_a_moment.ensures.only_now _ c.args.kit.now.disk _ c.code.result c.code.ensures
-    c.in-Err.ensures.memory
+    c.images_at_a_moment.ensures.only_now c.every_script_is_lawful.ensures _ c.args.kit.now.disk _
+    c.code.result c.code.ensures c.in-Err.ensures.memory
 
 pub returns-clause-started : goal.returns-clause-started
 returns-clause-started g c = λ run is.
@@ -17,5 +17,6 @@ returns-clause-started g c = λ run is.
 
 pub returns-clause-not_started : goal.returns-clause-not_started
 returns-clause-not_started g c = λ run is.
-    given_up g.D.Disk.pending g.D.Disk.faults c.args.kit.now.disk c.args.kit.now.passes _
+    given_up g.D.Disk.pending g.D.Disk.faults g.D.Disk.moment g.D.Disk.images_since g.D.Disk.makes
+    g.D.Disk.fails g.D.Disk.fails_to_read c.args.kit.now.disk _ c.args.kit.now.passes _
     c.code.result c.code.ensures

@@ -1,5 +1,5 @@
 use Rattle.std.proofs.Common.{◌∙◌, ap, inl, inr, length}
-use Rattle.provider_commands.proofs.Ran.{by_passes, made_of, put_back, started_on}
+use Rattle.provider_commands.proofs.Ran.{by_passes, made_of, not_started_on, put_back, started_on}
 use Rattle.provider_commands.proofs.providing.run_on.Goals as goal
 
 pub returns-clause-started : goal.returns-clause-started
@@ -32,3 +32,22 @@ pub returns-clause-ran : goal.returns-clause-ran
 returns-clause-ran g c =
     by_passes c.run-exit.result.2 _ _ _ c.run-exit.ensures.started c.run-exit.ensures.not_started
     (λ pass told. inl (told.1, told.5)) (λ told. inr (told.0, told.1))
+
+pub returns-clause-not_started : goal.returns-clause-not_started
+returns-clause-not_started g c =
+    let doors = put_back c.args.kit.now.doors.len c.run-exit.new.doors c.args.kit.now.doors.items
+    (c.run-exit.auto.doors ∙ c.as_mut_slice.ensures.len)
+    (c.run-exit.auto.doors ∙ ap length c.as_mut_slice.ensures.value) in
+    let clocks = put_back c.args.kit.now.clocks.len c.run-exit.new.clocks
+    c.args.kit.now.clocks.items (c.run-exit.auto.clocks ∙ c.as_mut_slice-2.ensures.len)
+    (c.run-exit.auto.clocks ∙ ap length c.as_mut_slice-2.ensures.value) in
+    not_started_on c.args.kit.now.disk c.taken.result c.run-exit.result.2 _ _ _ c.taken.ensures
+    (λ told untouched. record {
+      own = told.0;
+      ends = told.1;
+      cause = told.2;
+      untouched =
+          rw (doors, clocks)
+          (rw (c.as_mut_slice.ensures.value, c.as_mut_slice-2.ensures.value) at untouched);
+    })
+    c.run-exit.ensures.not_started c.run-exit.ensures.untouched
