@@ -5,15 +5,17 @@
 // the whole program wasn't proved yet. To it other words are no command.
 #![tactic(auto)]
 
-ghost use Rattle.std.specs.Prelude.{IfOk, OnErr, map, string_bytes};
+ghost use Rattle.std.specs.Prelude.{IfOk, OnErr, ℕ, List, map, string_bytes};
 ghost use Rattle.command_ends.specs.Ends.{IsUntold};
 ghost use Rattle.command_ends.specs.Outside.{showing};
 ghost use Rattle.command_words.specs.Command.{asked, plan_of};
+ghost use Rattle.script_commands.specs.Lawful.{IsLawful};
 ghost use Rattle.drill_cli.specs.Served.{IsAnswered, IsServed};
 
 use command_ends::{Status, tell};
 use command_words::{Plan, plan, texts_of, words_of};
 use octet_core::{ReaderSource, Sink, Source, WriterSink};
+use script_commands::laws::every_script_is_lawful;
 use script_commands::{drill, rehearse};
 use std::alloc::{AllocError, Global};
 use std::process::ExitCode;
@@ -41,7 +43,9 @@ fn exit_of<I: Source, O: Sink>(
         result) }
     ensures memory { OnErr words (IsUntold (O.written output.old) (O.written output.new)
         (O.faults output.old) (O.faults output.new) result) }
+    ensures lawful { (script : List ℕ) → IsLawful script }
 {
+    every_script_is_lawful();
     let Ok(words) = words else {
         return Status::Memory.code();
     };

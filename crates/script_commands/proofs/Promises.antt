@@ -19,25 +19,22 @@ use Rattle.station_law.specs.State.{start as new_world}
 use Rattle.script_store.specs.Said.{handed, texts}
 use Rattle.station_law.specs.Lines.{step_text}
 use Rattle.station_law.specs.Runs.{IsTold, transcript, transcript_from}
-use Rattle.script_world.specs.Script.{origin, script_events, world_behind}
+use Rattle.script_world.specs.Script.{script_events, world_behind}
 use Rattle.command_ends.specs.declared.status.Status.{Status}
 use Rattle.command_ends.specs.declared.status.Status.TheVariants.{Done, Usage, BadLine, BadSite}
 use Rattle.command_ends.specs.declared.status.Status.TheVariants.{ReadFault, WriteFault, Full}
 use Rattle.command_ends.specs.declared.status.Status.TheVariants.{InputTooLong, Memory}
 use Rattle.command_ends.specs.declared.status.Status.TheVariants.{ArchiveRefused, DiskFault}
-use Rattle.script_commands.specs.Drilled.{GainsAll, GainsSome, HasText, text_by, status_by, ended}
-use Rattle.script_commands.specs.Drilled.{DrillOutcome, ran, cut_off, given_up, unread, too_long}
-use Rattle.script_commands.specs.Drilled.{never}
-use Rattle.script_commands.specs.Drilled.{Drilled, Completes}
-use Rattle.script_commands.specs.Headline.{HasTranscript, HasWorld, HasRun, IsSent, sent}
+use Rattle.script_commands.specs.Drilled.{status_by, Drilled, Completes}
+use Rattle.script_commands.specs.Headline.{HasTranscript, HasWorld, IsPlaced, sent}
 use Rattle.script_commands.specs.Headline.{IsStreamed, IsReadOf}
 use Rattle.script_commands.specs.Laws.{Laws}
 use Rattle.script_head.specs.Lines.{lines_of}
 use Rattle.command_ends.specs.Outside.{Outside}
 use Rattle.script_head.specs.Lines.{most_octets}
 use Rattle.script_commands.specs.Script.{script_of, script_text}
-use Rattle.script_commands.specs.Start.{Start, IsStartOf, EachStart, world_at, archive_at}
-use Rattle.script_commands.specs.Start.{told_by, messages_of}
+use Rattle.script_commands.specs.Start.{Start, IsStartOf, world_at, archive_at, told_by}
+use Rattle.script_commands.specs.Start.{messages_of}
 
 -- ---- a START's line
 
@@ -56,9 +53,9 @@ module _ (laws : Laws) (script : List ℕ) (s : Start) (is : IsStartOf script s)
   archive_now : IsArchive (archive_at s)
   archive_now =
       let here = laws.world s.site s.earlier [] in
-      let come = subst (AllCome (origin s.site) before_all) here.begins.1 here.come in
-      let kept = (here.headline (script_events reading s.site s.earlier) here.begins.0 here.begins
-      come).recovery (acknowledged (world_behind reading s.site s.earlier).file) (inl refl) in
+      let come = subst (AllCome before_all) here.begins.1 here.come in
+      let kept = (here.headline [] (script_events reading s.site s.earlier) here.begins.0 tt refl
+      here.begins come).recovery (acknowledged (world_behind reading s.site s.earlier).file) (inl refl) in
       subst IsArchive (ap (λ (w : World). acknowledged w.file) here.shows.is
       ∙ here.shows.acknowledges) kept.archive
 
@@ -86,10 +83,8 @@ module _ (laws : Laws) (script : List ℕ) (s : Start) (is : IsStartOf script s)
       (ap (λ text. text ++ transcript_from step_text (number + 1) (world_at s) s.later)
       (messages_sent (told_by (archive_at s) s)))
 
-  pub stands_sent : script_text (script_of (lines_of script))
-      ≡ transcript step_text (new_world s.site) s.earlier ++ flat_map sent (messages_of s)
-      ++ transcript_from step_text (length s.earlier + 2) (world_at s) s.later
-  stands_sent =
+  pub placed : IsPlaced script s
+  placed =
       let before = transcript step_text (new_world s.site) s.earlier in
       let count : length s.earlier + 1 + 1 ≡ length s.earlier + 2 = omega arith in
       ap script_text is.stands ∙ (at_line laws script s is).text
@@ -100,44 +95,11 @@ module _ (laws : Laws) (script : List ℕ) (s : Start) (is : IsStartOf script s)
       ∙ sym (append_assoc before (flat_map sent (messages_of s))
       (transcript_from step_text (length s.earlier + 2) (world_at s) s.later))
 
--- the exact text, as what was written where lines were run
-written_as : (script : List ℕ) (before after : Outside) (how : DrillOutcome) (text : List ℕ)
-    → before.left ≡ Some script → text_by script ≡ text
-    → HasText before after how → HasRun before after text how
-written_as script before after ran text tells is has =
-    subst (GainsAll before after) is (rw tells at has)
-written_as script before after cut_off text tells is has =
-    subst (GainsSome before after) is (rw tells at has)
-written_as script before after given_up text tells is has =
-    subst (GainsSome before after) is (rw tells at has)
-written_as script before after unread text tells is has = tt
-written_as script before after too_long text tells is has = tt
-written_as script before after never text tells is has = tt
+pub has_transcript : Laws → (script : List ℕ) → HasTranscript script
+has_transcript laws script = λ site lines _. laws.told site lines
 
--- each START of what the input has left
-pub each_sent : Laws → (before after : Outside) (status : Status)
-    → HasText before after (ended status)
-    → EachStart before.left (IsSent before after status)
-each_sent laws before after status has = by_input before.left refl
-  where
-    by_input : (left : Option (List ℕ)) → before.left ≡ left
-        → EachStart left (IsSent before after status)
-    by_input None tells = tt
-    by_input (Some script) tells = λ s is.
-        written_as script before after (ended status) _ tells (stands_sent laws script s is) has
-
-pub each_start : (input : Option (List ℕ)) (IsSo : Start → Type 0)
-    → ((script : List ℕ) (s : Start) → IsStartOf script s → IsSo s) → EachStart input IsSo
-each_start None IsSo so = tt
-each_start (Some script) IsSo so = λ s is. so script s is
-
-pub has_transcript : Laws → (input : Option (List ℕ)) → HasTranscript input
-has_transcript laws None = tt
-has_transcript laws (Some script) = λ site lines _. laws.told site lines
-
-pub has_world : Laws → (input : Option (List ℕ)) → HasWorld input
-has_world laws None = tt
-has_world laws (Some script) = λ site first more rest _. laws.world site first more
+pub has_world : Laws → (script : List ℕ) → HasWorld script
+has_world laws script = λ site first more rest _. laws.world site first more
 
 -- ---- completeness
 

@@ -1,21 +1,24 @@
 -- What is promised of each connection of a script, from the laws on connections.
 use Rattle.std.proofs.Common.{◌≡◌, ℕ, zero, suc, IsTrue, Option, Some, None, List, [], ◌∷◌}
 use Rattle.std.proofs.Common.{slice_get, set, take, refl, sym, ap, subst, ◌∙◌}
-use Rattle.station_links.specs.Connected.{Connected, opened}
+use Rattle.session_core.specs.Session.{at_first, session_end}
+use Rattle.station_links.specs.Connected.{Connected, draw, opened}
+use Rattle.station_links.specs.LinkLines.{end_of}
 use Rattle.station_law.specs.Connections.{at_door, IsOfSession}
 use Rattle.station_law.specs.Doors.{opens}
 use Rattle.station_law.specs.Lines.{connected, step_text}
 use Rattle.station_law.specs.Runs.{after}
 use Rattle.station_law.specs.Standing.{there, is_free}
 use Rattle.station_law.specs.State.{State, start as new_world}
-use Rattle.script_commands.specs.Connection.{Connection, IsConnectionOf, EachConnection}
-use Rattle.script_commands.specs.Connection.{IsSessionOf}
+use Rattle.script_commands.specs.Connection.{Connection, IsConnectionOf, IsSessionOf, IsSentBy}
+use Rattle.script_commands.specs.Connection.{octets_sent, rounds_of}
 use Rattle.script_commands.specs.Connection.{IsLosslessOf, IsDeliveredTo, AreOfWorld, HasHistory}
 use Rattle.script_commands.specs.Connection.{world_before}
 use Rattle.script_commands.specs.Connection.{world_behind}
 use Rattle.script_commands.specs.Connection.{life_of}
 use Rattle.script_commands.specs.Laws.{Laws}
 use Rattle.script_commands.proofs.OneForward.{one_forward, valid_site}
+use Rattle.script_commands.proofs.SentLines.{sent_in_session}
 
 set_there : {A : Type 0} → (xs : List A) (c : ℕ) (x y : A) → slice_get xs c ≡ Some x
     → slice_get (set xs c y) c ≡ Some y
@@ -61,6 +64,13 @@ module _ (laws : Laws) (script : List ℕ) (o : Connection) (is : IsConnectionOf
       (laws.connections.lives (world_behind o) o.c (world_before o).clock (take some o.later)
       just_opened) (laws.pieces o.c (take some o.later) (world_behind o))
 
+  pub is_sent : IsSentBy o
+  is_sent = λ some.
+      let first = at_first o.c draw (world_before o).clock in
+      ap octets_sent (is_session some).said_is
+      ∙ sent_in_session o.site first (rounds_of o some)
+      (end_of (session_end o.site first (rounds_of o some)))
+
   pub is_lossless : IsLosslessOf o
   is_lossless = λ some. laws.lossless o.site o.earlier (take some o.later) o.c
       (one_forward script o.site _ is.stands) is.free
@@ -76,13 +86,6 @@ module _ (laws : Laws) (script : List ℕ) (o : Connection) (is : IsConnectionOf
       (valid_site script o.site _ is.stands) says is.free
       (laws.pieces o.c (take some o.later) (world_behind o))
 
-pub each_connection : (input : Option (List ℕ)) (IsSo : Connection → Type 0)
-    → ((script : List ℕ) (o : Connection) → IsConnectionOf script o → IsSo o)
-    → EachConnection input IsSo
-each_connection None IsSo so = tt
-each_connection (Some script) IsSo so = λ o is. so script o is
-
-pub has_history : Laws → (input : Option (List ℕ)) → HasHistory input
-has_history laws None = tt
-has_history laws (Some script) = λ site earlier later line _.
+pub has_history : Laws → (script : List ℕ) → HasHistory script
+has_history laws script = λ site earlier later line _.
     laws.connections.history (after step_text (new_world site) earlier) line

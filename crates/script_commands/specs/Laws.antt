@@ -1,5 +1,5 @@
--- The laws that a drill's promise rests on: of scripts and their connections, of buffers and what a
--- user reads of them, and of streams.
+-- The laws that those on scripts rest on: on scripts and their connections, on buffers and what a
+-- user reads of them, and on streams.
 use Rattle.std.specs.Prelude.{ℕ, List, [], map, None}
 use Rattle.std.specs.List.{AllByRecursion}
 use Rattle.cds_time.specs.declared.cds.Cds.{Cds}

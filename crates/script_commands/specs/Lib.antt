@@ -5,4 +5,5 @@ pub mod Headline
 pub mod Connection
 pub mod Laws
 pub mod Promise
+pub mod Lawful
 pub mod Rehearsals

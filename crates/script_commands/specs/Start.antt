@@ -1,5 +1,5 @@
 -- The STARTs of a script, and what each one hands over.
-use Rattle.std.specs.Prelude.{◌≡◌, ℕ, ◌≤◌, IsTrue, IfSome, Option, Some, None, List, ◌∷◌}
+use Rattle.std.specs.Prelude.{◌≡◌, ℕ, ◌≤◌, IsTrue, Some, None, List, ◌∷◌}
 use Rattle.std.specs.Prelude.{◌++◌, map}
 use Rattle.cds_time.specs.declared.cds.Cds.{Cds}
 use Rattle.isp1_tml.specs.Message.{Content}
@@ -20,7 +20,7 @@ use Rattle.station_law.specs.Runs.{after, in_order}
 use Rattle.script_head.specs.Lines.{lines_of}
 use Rattle.script_commands.specs.Script.{script_of, runs}
 
--- a START: the site at which it is taken, the lines before it and those behind it, and the times
+-- a START: the site at which it is taken, the lines before it and those after it, and the times
 -- and the quality that it asks for
 pub record Start : Type 0 where
   pub site : Site
@@ -34,8 +34,8 @@ pub record Start : Type 0 where
 abbrev pub world_at : Start → State
 world_at s = after step_text (new_world s.site) s.earlier
 
--- it is one of the lines that a script runs, behind lines in order, and its stop doesn't lie before
--- its start
+-- it is one of the lines that a script runs, after lines in order, and its stop isn't before its
+-- start
 pub record IsStartOf (script : List ℕ) (s : Start) : Type 0 where
   pub line : List ℕ
   pub stands : script_of (lines_of script) ≡ runs s.site (s.earlier ++ line ∷ s.later)
@@ -43,9 +43,9 @@ pub record IsStartOf (script : List ℕ) (s : Start) : Type 0 where
   pub says : reading line ≡ Some (Desk s.start s.stop s.quality)
   pub ordered : moment s.start ≤ moment s.stop
 
--- each START of the script that an input has left, where it tells, is so
-abbrev pub EachStart : Option (List ℕ) → (Start → Type 0) → Type 0
-EachStart input IsSo = IfSome input (λ script. (s : Start) → IsStartOf script s → IsSo s)
+-- each START of a script is so
+abbrev pub EachStart : List ℕ → (Start → Type 0) → Type 0
+EachStart script IsSo = (s : Start) → IsStartOf script s → IsSo s
 
 -- the archived entries when it is taken
 abbrev pub archive_at : Start → List Entry

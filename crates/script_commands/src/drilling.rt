@@ -1,50 +1,31 @@
 // `drill`: runs a script, and writes what a user would be handed.
+ghost use Rattle.std.specs.Prelude.{ℕ, List};
 ghost use Rattle.command_ends.specs.Outside.{showing};
 ghost use Rattle.script_commands.specs.Drilled.{Drilled};
+ghost use Rattle.script_commands.specs.Lawful.{IsLawful};
 ghost use Rattle.script_commands.specs.Promise.{IsDrill};
-ghost use Rattle.script_commands.specs.Laws.{Laws};
 
+use crate::laws::every_script_is_lawful;
 use crate::run::run_script;
 use command_ends::{Status, put_line};
-use connection_events::laws::starts_are_in_the_world;
-use connection_laws::laws::{connections_lose_nothing, each_start_is_delivered};
-use isp1_tml::laws::spelled_is_read;
 use octet_core::{Sink, Source};
-use piece_laws::laws::pieces_are_octets;
 use script_store::Stop;
-use script_world::laws::a_script_is_events;
-use station_desk::laws::a_start_is_read;
-use station_law::laws::{connections_are_sessions, transcript_law};
 use std::alloc::Global;
 use whole_input::{InputFault, read_input};
 
 /// Runs the script on the input, writes its transcript and the line of a status that has one, and
 /// answers the status's exit code.
 pub fn drill<I: Source, O: Sink>(alloc: Global, input: &mut I, output: &mut O) -> u8
-    ensures { IsDrill
+    ensures drilled { IsDrill
         (showing (I.left input.old) (I.faults input.old)
         (O.written output.old) (O.faults output.old))
         (showing (I.left input.new) (I.faults input.new)
         (O.written output.new) (O.faults output.new))
         result }
+    ensures lawful { (script : List ℕ) → IsLawful script }
 {
-    laws();
+    every_script_is_lawful();
     read_and_run(alloc, input, output).code()
-}
-
-// The laws that the promise of each START and each connection rests on.
-fn laws()
-    ensures { Laws }
-{
-    transcript_law();
-    a_script_is_events();
-    connections_are_sessions();
-    connections_lose_nothing();
-    each_start_is_delivered();
-    starts_are_in_the_world();
-    a_start_is_read();
-    pieces_are_octets();
-    spelled_is_read();
 }
 
 // Reads the script, and runs it.

@@ -5,10 +5,12 @@
 // writes the transfer buffers that a user would be handed and what a connection's user hears.
 // `rehearse` makes a pass of frames from a number, and writes what a START over all of it comes to.
 //
-// `specs/Promise.antt` says what a drill promises, and `specs/Rehearsals.antt` what a rehearsal does.
+// `specs/Promise.antt` says what a drill promises, `specs/Lawful.antt` what holds for the text of every
+// script, and `specs/Rehearsals.antt` what a rehearsal promises.
 #![tactic(auto)]
 
 mod drilling;
+pub mod laws;
 mod put;
 mod rehearsing;
 mod run;
