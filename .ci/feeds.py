@@ -51,13 +51,13 @@ def reset(peer):
 
 
 def ended(name, running, place, lines, report):
-    """The rest of what a program tells, and how it ends; a report stands once for a connection, for
-    its end, and for each answer that is a fault."""
+    """The rest of what a program tells, and how it ends; a report has a line for each connection and
+    for its end."""
     told, complaint = running.communicate(timeout=PATIENCE)
     check(name, (running.returncode, told.split(b"\n")[:-1]), (0, lines))
     expected = [f"feed {place}: {text}" for text in report]
     # (the system chooses the front end's port)
-    found = re.sub(r"127\.0\.0\.1:\d+ (connected|ended)", r"PEER \1", complaint.decode())
+    found = re.sub(r"127\.0\.0\.1:\d+ (connected|ended|closed)", r"PEER \1", complaint.decode())
     check(f"{name}, report", found.split("\n")[:-1], expected)
 
 
@@ -72,15 +72,18 @@ def lines_and_an_end():
                 if name == "in pieces" and number == 1:
                     # the first line is whole, and the second isn't
                     check("a whole line", running.stdout.readline(), b"frame\n")
-        rest = [b"loss", b"production", b"mark", b"end", b"end"]
-        ended(f"lines {name}", running, place,
-              rest if name == "in pieces" else [b"frame", *rest],
-              ["PEER connected", "PEER ended behind line 6"])
+        if name == "in pieces":
+            # (what has no line end is no line)
+            ended(f"lines {name}", running, place, [b"loss", b"production", b"end", b"end"],
+                  ["PEER connected", "PEER ended after line 5; line 6 was cut short and isn't stored"])
+        else:
+            ended(f"lines {name}", running, place,
+                  [b"frame", b"loss", b"production", b"mark", b"end", b"end"],
+                  ["PEER connected", "PEER ended after line 6"])
 
 
 def resets():
     reset_by_peer = f"{os.strerror(errno.ECONNRESET)} (os error {errno.ECONNRESET:d})"
-    broken = [reset_by_peer, "not connected"]
     for name, sent, line in [("in the midst of a line", FRAME + LOSS[:9], 2),
                              ("between lines", FRAME + LOSS, 3), ("before a line", b"", 1)]:
         running, place = started()
@@ -90,7 +93,7 @@ def resets():
         reset(peer)
         check(f"a reset {name}, lines", told, [b"frame\n", b"loss\n"][:len(told)])
         ended(f"a reset {name}", running, place, [b"failed", b"failed"],
-              ["PEER connected", *(f"line {line}: {text}" for text in broken)])
+              ["PEER connected", f"PEER ended at line {line}: {reset_by_peer}"])
 
 
 def a_second_connection():
@@ -99,19 +102,23 @@ def a_second_connection():
         first.sendall(FRAME)
         check("a first connection", running.stdout.readline(), b"frame\n")
         with peer_of(place) as second:
-            check("a second connection is closed", second.recv(1), b"")
+            second.sendall(FRAME)
+            try:
+                found = second.recv(1)
+            except ConnectionResetError:
+                # (it was closed with what it had sent unread)
+                found = b""
+            check("a second connection is closed", found, b"")
         first.sendall(MARK)
-    ended("behind a second connection", running, place, [b"mark", b"end", b"end"],
-          ["PEER connected", "PEER ended behind line 2"])
+    ended("after a second connection", running, place, [b"mark", b"end", b"end"],
+          ["PEER connected", "PEER closed: another source is heard", "PEER ended after line 2"])
 
 
 def a_port_that_is_taken():
     with socket.create_server(("127.0.0.1", 0)) as other:
         place = "127.0.0.1:%d" % other.getsockname()[1]
-        running, told = started(place.encode())
-        check("a port that is taken, place", told, place)
-        ended("a port that is taken", running, place, [b"failed", b"failed"],
-              ["line 1: address in use"] * 2)
+        found = subprocess.run([FEED, place, PAUSES], capture_output=True, timeout=PATIENCE)
+        check("a port that is taken", (found.returncode != 0, found.stdout), (True, b""))
 
 
 lines_and_an_end()

@@ -7,7 +7,7 @@ Six of eight doors are visited by strangers and by users who send what a seeded 
 invocations: changed in a bit, an octet, a length or a tag, cut, glued, too long, empty, octet by octet;
 contexts out of range; heartbeats by the thousand; BINDs of strangers, with wrong credentials, with
 replayed ones; connections that are silent, reset or closed on one side. The stop's port hears other
-words, and by the part `feed` sources send lines that are changed alike. An honest user hears all frames meanwhile, and one
+words, and sources send lines that are changed alike. An honest user hears all frames meanwhile, and one
 has telecommands radiated. In the end the process lives and has grown by less than 8 MiB beside what is
 stored; the first user heard exactly what was stored, once and in order; each telecommand was radiated
 once and in order; `list` shows what was fed; and a stop ends the run with 0. Then 10,000 connections in
@@ -444,7 +444,7 @@ def turns(folder):
 
 
 if __name__ == "__main__":
-    wanted = sys.argv[4:] or ["doors", "stop", "turns"]
+    wanted = sys.argv[4:] or ["doors", "stop", "feed", "turns"]
     for part in [lambda folder: attacked(folder, wanted)] * ("doors" in wanted) + [turns] * ("turns" in wanted):
         with tempfile.TemporaryDirectory() as folder:
             try:

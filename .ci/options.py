@@ -7,13 +7,16 @@ PROVIDER and USER are the launchers. A station runs on another address of the lo
 file by times of ISO 8601, ends in good order at a signal, and is told in words what was wrong. The last line says how
 many checks passed.
 """
+import fcntl
 import os
 import pathlib
 import signal
 import socket
+import struct
 import subprocess
 import sys
 import tempfile
+import termios
 import time
 
 sys.dont_write_bytecode = True
@@ -110,6 +113,12 @@ WRONG_USER = [
     ([*RAF, "--until", "2016-12-31T23:59:60Z"], ["leap"]),
     ([*RAF, "--quality", "godo"], ["`godo`", "did you mean `good`"]),
     ([*RAF, "--for", "1week"], ["`1week`", "10min"]),
+    ([*RAF, "--report", "1"], ["`1`", "2 to 600"]),
+    (["cltu", *RAF[1:], "--first", "7", "--report", "601"], ["`601`", "2 to 600"]),
+    (["raf", *f"1 MOC none {ONLINE} none none 2 9 1".split()], ["REPORT is `1`", "2 to 600"]),
+    (["rcf", *f"1 MOC none {CHANNEL} none none 1/2/3 9 02".split()], ["REPORT is `02`", "2 to 600"]),
+    (["cltu", *f"1 MOC none {CLTU} 7 9 601".split()], ["REPORT is `601`", "2 to 600"]),
+    (["show", "raf", "30"], ["SERVICE", "2 were given"]),
     ([*RAF, "--turns", "0"], ["`0`", "1099511627776"]),
     ([*RAF, "--frames", "-", "--lines"], ["--frames - and --lines"]),
     ([*RAF, "more"], ["`more`"]),
@@ -127,6 +136,7 @@ WRONG_PROVIDER = [
     (["rehearse", "0"], ["1 to 20000"]),
     (["run", "9", "1", "a", "1", "c", "5101"], ["TURNS is `9`", "1099511627776"]),
     (["run", "10", "1", "a", "1", "c", "65536"], ["PORT is `65536`"]),
+    (["run", "--config", "x", "--archive", "x", "--cltus", "x", "--door", "1", "--feed", "run/feed"], ["`run/feed`"]),
     (["run", "10"], ["TURNS LINKS ARCHIVE FEED CLTUS PORT..", "--help"]),
     (["run", "--config", "x"], ["--archive", "--feed", "--cltus", "--door"]),
     (["run", "--confg", "x"], ["`--confg`", "did you mean `--config`"]),
@@ -168,10 +178,11 @@ def sections(folder):
 # ---- a station and its users
 
 class Station:
-    """A station by options, on another address."""
+    """A station by options, on another address, with Unix sockets for its source and its stop."""
 
     def __init__(self, folder):
-        self.folder, (self.door, self.feed, self.stop) = folder, free_ports(3)
+        self.folder, [self.door] = folder, free_ports(1)
+        self.feed, self.stop = str(folder / "feed"), str(folder / "stop")
         self.manager = socket.socket(socket.AF_UNIX, socket.SOCK_DGRAM)
         self.manager.bind(str(folder / "notify"))
         self.manager.settimeout(PATIENCE)
@@ -180,8 +191,8 @@ class Station:
         self.log = open(folder / "log", "wb")
         self.process = subprocess.Popen(
             [PROVIDER, "run", "--config", TOP / "examples/station.conf", "--archive", self.archive, "--feed",
-             str(self.feed), "--cltus", folder / "cltus", "--door", str(self.door), "--address", ADDRESS, "--stop",
-             str(self.stop)], stdin=subprocess.DEVNULL, stdout=subprocess.PIPE, stderr=self.log,
+             self.feed, "--cltus", folder / "cltus", "--door", str(self.door), "--address", ADDRESS, "--stop",
+             self.stop], stdin=subprocess.DEVNULL, stdout=subprocess.PIPE, stderr=self.log,
             env={**os.environ, "NOTIFY_SOCKET": str(folder / "notify")})
         check("systemd is told that it serves", self.manager.recv(100), b"READY=1")
         self.wait("station: began")
@@ -196,7 +207,8 @@ class Station:
         check(f"the log: {word}", self.told().count(word) >= count, True)
 
     def send(self, text):
-        with socket.create_connection(("127.0.0.1", self.feed)) as peer:
+        with socket.socket(socket.AF_UNIX) as peer:
+            peer.connect(self.feed)
             peer.sendall(text)
 
     def end(self, sent):
@@ -250,6 +262,70 @@ def the_station(folder):
     check("its files' modes", [(folder / name).stat().st_mode & 0o077 for name in ["cltus"]], [0])
 
 
+def session_lines():
+    """The commands of README's session with a station, each with the lines that follow it."""
+    text = (TOP / "README.md").read_text().split("A station runs over an archive file", 1)[1].split("\n## ", 1)[0]
+    typed = []
+    for line in text.split("\n"):
+        if line.startswith("    $ "):
+            typed.append([line[6:], []])
+        elif line.startswith("    ") and typed[-1][0].endswith("\\"):
+            typed[-1][0] = typed[-1][0][:-1] + line.strip()
+        elif line.startswith("    "):
+            typed[-1][1].append(line[4:])
+    return typed
+
+
+def reach(address, process):
+    """Waits until somebody listens there."""
+    end = time.monotonic() + PATIENCE
+    while time.monotonic() < end and process.poll() is None:
+        try:
+            return socket.create_connection(address, 1).close()
+        except OSError:
+            time.sleep(0.05)
+    check(f"somebody listens at {address}", False, True)
+
+
+def first_session(folder):
+    """README's session, as it stands there, but for its ports, and its files' folder."""
+    [door] = free_ports(1)
+    with socket.create_server(("127.0.0.1", 0)) as listener:
+        feed = listener.getsockname()[1]
+
+    def begin(line):
+        for said, so in [("bin/provider prove && bin/user prove && ", ""), ("5101", str(door)), ("5100", str(feed)),
+                         ("/tmp/", f"{folder}/"), ("bin/provider", PROVIDER), ("bin/user", USER)]:
+            line = line.replace(said, so)
+        return subprocess.Popen(["bash", "-c", f"exec {line}"], cwd=TOP, stdin=subprocess.DEVNULL, stdout=subprocess.PIPE,
+                                stderr=subprocess.PIPE, text=True)
+
+    def ends(name, process, code, wanted):
+        output, errors = process.communicate(timeout=PATIENCE)
+        check(f"{name}, exit code {errors!r}", process.returncode, code)
+        for line in wanted:
+            check(f"{name}: `{line}` in {output + errors!r}", line.split("…")[0] in output + errors, True)
+
+    typed = session_lines()
+    check("README's steps", [line.split()[:2] for line, _ in typed],
+          [["bin/provider", "prove"], ["bin/provider", "run"], ["bin/user", "raf"], ["cat", "examples/pass.feed"],
+           ["bin/user", "raf"], ["bin/user", "raf"]])
+    check("README's steps, what they say", [len(said) for _, said in typed], [1, 0, 1, 0, 1, 1])
+    (init, made), (station, _), (user, told), (source, _), *wrong = typed
+    ends("README: init", begin(init), 0, made)
+    station = begin(station)
+    reach((ADDRESS, door), station)
+    user = begin(user)
+    ends("README: the source", begin(source), 0, [])
+    ends("README: the user", user, 0, told)
+    fed = [line.split()[5] for line in (TOP / "examples/pass.feed").read_text().splitlines() if line.startswith("frame ")]
+    check("README: the file of frames", [frame.hex() for frame in frames_in(folder / "pass.frames")], fed)
+    for (line, said), code in zip(wrong, [3, 2]):
+        ends(f"README: {line[-30:]}", begin(line), code, said)
+    station.terminate()
+    ends("README: the station", station, 0, [])
+
+
 def refusals(station, folder):
     key = folder / "pass"
     key.write_text(PASS)
@@ -276,6 +352,24 @@ def refusals(station, folder):
     says("telecommands once more", run(USER, *bad[:-1], "9", str(text)), 13)
 
 
+def on_terminal(*words):
+    """What a user's run shows on a terminal that is its standard error."""
+    ours, theirs = os.openpty()
+    fcntl.ioctl(theirs, termios.TIOCSWINSZ, struct.pack("4H", 24, 200, 0, 0))
+    user = subprocess.Popen([USER, *words], stdin=subprocess.DEVNULL, stdout=subprocess.DEVNULL, stderr=theirs)
+    os.close(theirs)
+    shown = b""
+    try:
+        while piece := os.read(ours, 65536):
+            shown += piece
+    except OSError:
+        # (so ends a terminal that nobody writes to any more)
+        pass
+    os.close(ours)
+    check("a run on a terminal", user.wait(PATIENCE), 0)
+    return shown.decode()
+
+
 def live(station, folder):
     """A user who follows a pass ends in good order: at a signal, and after a while."""
     moc = ["--pass-file", str(folder / "pass")]
@@ -293,12 +387,22 @@ def live(station, folder):
     check("after a second", (found[0], found[1].endswith(b"ok 3\nok 103\n")), (0, True))
     found = run(USER, *options_of(station, "MOC", CHANNEL, *moc, "--channel", "171/0/7", "--for", "1s", command="rcf"))
     check("a channel, after a second", found[0] in (0, 3), True)
+    found = run(USER, *options_of(station, "MOC", ONLINE, *moc, "--report", "2", "--for", "5s"))
+    check("status reports", (found[0], b"\nok 5\n" in found[1], found[1].count(b"\nreport ") >= 2), (0, True, True))
+    shown = on_terminal(*options_of(station, "MOC", ONLINE, *moc, "--report", "2", "--for", "5s", "--frames",
+                                    str(folder / "live.frames")))
+    for word in ["0 frames", "production ", "delivered"]:
+        check(f"the progress line, `{word}` in {shown!r}", word in shown, True)
     says("turns spent", run(USER, *options_of(station, "MOC", ONLINE, *moc, "--turns", "9")), 10, "turns spent", "9 times")
 
 
 def retrying(folder):
     """Where nobody listens yet, a user with --retry comes again."""
     port = free_ports(1)[0]
+    began = time.monotonic()
+    says("--for counts over all tries", run(USER, "raf", "--to", f"{ADDRESS}:{port}", "--as", "MOC", "--instance", ONLINE,
+                                             "--retry", "--for", "2s"), 8, "again in 1 s", "--for is over")
+    check("it is over by then", time.monotonic() - began < 20, True)
     user = subprocess.Popen([USER, "raf", "--to", f"{ADDRESS}:{port}", "--as", "MOC", "--instance", ONLINE, "--retry"],
                             stdout=subprocess.PIPE, stderr=subprocess.PIPE, stdin=subprocess.DEVNULL)
     time.sleep(1)
@@ -355,7 +459,7 @@ def main():
     wrong_words()
     with tempfile.TemporaryDirectory() as place:
         folder = pathlib.Path(place)
-        for part in sections, the_station, retrying, package:
+        for part in sections, first_session, the_station, retrying, package:
             sub = folder / part.__name__
             sub.mkdir()
             part(sub)

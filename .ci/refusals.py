@@ -72,6 +72,12 @@ def sites(launcher, path):
     check("check, a site", (status, output), (0, b"valid\n"))
     for word in [b"2 peers: MOC, SCIENCE", b"6 instances", b"raf=offl1 (SCIENCE)", b"268435456 octets"]:
         check(f"check, a site, {word}", word in errors, True)
+    secret, none = (f"peer MOC bind sha1 60 {word}\n" for word in ("a1b2c3d4e5f6", "000000000000"))
+    for text, mode, warns in [(secret, 0o644, True), (secret, 0o640, True), (secret, 0o600, False), (none, 0o644, False)]:
+        path.write_text(text)
+        path.chmod(mode)
+        status, output, errors = run([launcher, "check", path])
+        check(f"check, mode {mode:o}: {errors}", (status, output, b"others may read" in errors), (0, b"valid\n", warns))
     for line, said in [("peer MOC bind md5 60 a1b2c3d4e5f6", "word 4 (column 15), `md5`,"),
                        ("versions 4 10", "word 3 (column 12), `10`,"), ("heartbeat 9 5 2 100", "don't fit each other"),
                        ("provder GROUND", "did you mean `provider`"), ("capacity", "`capacity N`"),

@@ -1,9 +1,10 @@
 /* Stands between a program and the system, loaded before the C library (LD_PRELOAD): fails chosen
-   calls, shifts the wall clock, and records calls.
+   calls, shifts the clocks, and records calls.
 
    SHIM names a file of 4,096 octets, which this library maps and whoever drives the program writes:
    the milliseconds by which the wall clock is ahead (8 octets of the machine's order), the number of
-   the orders (8 octets, written last), and the orders, a line each, with a zero behind them:
+   the orders (8 octets, written last), the milliseconds by which all clocks are ahead (8 octets), and
+   the orders, a line each, with a zero after them:
 
        CALL FILE FIRST TIMES ERROR
 
@@ -20,7 +21,10 @@
        pwrite PATH PLACE HEX       write PATH HEX        send PATH FD HEX
        ftruncate PATH SIZE         fsync PATH            fdatasync PATH
        accept PATH FD              connect               clock CLOCK NANOSECONDS
-       = CALL PATH ANSWER          of all but the last three; -N where it failed with the error N
+       ring NUMBER                 a write to the eventfd that was made as the one of this number
+       = CALL PATH ANSWER          of all but the last four; -N where it failed with the error N
+
+   A pread can be failed too, and isn't recorded.
 */
 #define _GNU_SOURCE
 #include <errno.h>
@@ -46,7 +50,8 @@
 struct page {
     volatile int64_t shift;
     volatile int64_t number;
-    char text[PAGE - 16];
+    volatile int64_t ahead;
+    char text[PAGE - 24];
 };
 
 struct order {
@@ -60,6 +65,8 @@ static int64_t number;
 static struct order orders[ORDERS];
 static int count;
 static char paths[FILES][128];
+/* The number of each eventfd, from 1, and how many were made. */
+static int rings[FILES], rung;
 static int record = -1;
 static char recorded[256];
 
@@ -233,6 +240,8 @@ int open(const char *path, int flags, ...)
 int close(int file)
 {
     name(file, "");
+    if (file >= 0 && file < FILES)
+        rings[file] = 0;
     return syscall(SYS_close, file);
 }
 
@@ -247,6 +256,17 @@ int accept4(int listener, struct sockaddr *address, socklen_t *length, int flags
     if (file >= 0 && is_recorded("accept")) {
         snprintf(head, sizeof head, "accept %s %d", path, file);
         note(head, 0, 0);
+    }
+    return file;
+}
+
+int eventfd(unsigned int count, int flags)
+{
+    int file = syscall(SYS_eventfd2, count, flags);
+    if (file >= 0 && file < FILES) {
+        pthread_mutex_lock(&lock);
+        rings[file] = ++rung;
+        pthread_mutex_unlock(&lock);
     }
     return file;
 }
@@ -276,6 +296,10 @@ ssize_t write(int file, const void *octets, size_t size)
 {
     const char *path = path_of(file);
     char head[256];
+    if (file >= 0 && file < FILES && rings[file] && is_recorded("ring")) {
+        snprintf(head, sizeof head, "ring %d", rings[file]);
+        note(head, 0, 0);
+    }
     if (!*path)
         return syscall(SYS_write, file, octets, size);
     if (is_recorded("write")) {
@@ -300,6 +324,13 @@ ssize_t pwrite(int file, const void *octets, size_t size, off_t place)
     if (fails(error))
         return ended("pwrite", path, -1);
     return ended("pwrite", path, syscall(SYS_pwrite64, file, octets, taken(error, size), place));
+}
+
+ssize_t pread(int file, void *octets, size_t size, off_t place)
+{
+    if (fails(ordered("pread", path_of(file), 0)))
+        return -1;
+    return syscall(SYS_pread64, file, octets, size, place);
 }
 
 int ftruncate(int file, off_t size)
@@ -342,9 +373,10 @@ int clock_gettime(clockid_t clock, struct timespec *at)
 {
     char head[64];
     int status = syscall(SYS_clock_gettime, clock, at);
-    if (!status && clock == CLOCK_REALTIME && page) {
-        int64_t nanos = at->tv_nsec + page->shift % 1000 * 1000000;
-        at->tv_sec += page->shift / 1000 + (nanos >= 1000000000) - (nanos < 0);
+    if (!status && page) {
+        int64_t millis = page->ahead + (clock == CLOCK_REALTIME ? page->shift : 0);
+        int64_t nanos = at->tv_nsec + millis % 1000 * 1000000;
+        at->tv_sec += millis / 1000 + (nanos >= 1000000000) - (nanos < 0);
         at->tv_nsec = (nanos + 1000000000) % 1000000000;
     }
     if (!status && is_recorded("clock")) {

@@ -1,25 +1,48 @@
 """A station whose log is read while it runs, with what troubles it: a module of the other scripts."""
 import atexit
 import os
+import random
 import re
 import signal
 import subprocess
 import threading
 import time
 
-from control_centre import PATIENCE, TURNS, Station, User, check, free_ports, log_lines, programs, site
+from control_centre import PATIENCE, TURNS, Station, User, check, log_lines, programs, site
 
 # The ports that were handed out, so that stations which are made at once have others.
 handed, handing = set(), threading.Lock()
 
 
+def least_of_the_system():
+    """The least port that the system chooses for a connection, which it may do at any time."""
+    try:
+        with open("/proc/sys/net/ipv4/ip_local_port_range") as file:
+            return max(12_000, min(int(file.read().split()[0]), 60_000))
+    except (OSError, ValueError):
+        return 32_768
+
+
+def taken_ports():
+    """The ports that are taken. (None is tried: a child that starts meanwhile would hold it for a while.)"""
+    taken = set()
+    for name in ("/proc/net/tcp", "/proc/net/tcp6"):
+        if os.path.exists(name):
+            with open(name) as file:
+                taken.update(int(line.split()[1].rsplit(":", 1)[1], 16) for line in file.readlines()[1:])
+    return taken
+
+
 def new_ports(count):
+    ports, most = [], least_of_the_system()
     with handing:
-        while True:
-            ports = free_ports(count)
-            if not handed.intersection(ports):
-                handed.update(ports)
-                return ports
+        taken = taken_ports()
+        while len(ports) < count:
+            port = random.randrange(10_000, most)
+            if port not in handed and port not in taken:
+                handed.add(port)
+                ports.append(port)
+    return ports
 
 
 # The stations that were started.

@@ -54,6 +54,23 @@ LINES = {
 MANY = {"versions": 4, "rcf": 8}
 
 
+# What `bench/memory` measured of a station: its memory beside the archive's, that of an entry beside its frame's
+# octets, and an entry's octets in the file beside them. An archive holds so many entries at most.
+BARE, ENTRY, IN_FILE, MOST_ENTRIES = 3_000_000, 350, 21, 4_194_304
+# A frame as most missions have it.
+USUAL_FRAME = 1115
+
+
+def memory_of(capacity, frame):
+    """The memory of a station whose archive is full of frames of so many octets, in octets."""
+    entries = min(MOST_ENTRIES, capacity // (frame + IN_FILE))
+    return BARE + entries * (ENTRY + frame)
+
+
+def size(octets):
+    return f"{-(-octets // 2**20):,} MiB"
+
+
 def place_of(parts, index):
     """A word of a line: its number, its column and itself."""
     column = sum(len(word) + 1 for word in parts[:index]) + 1
@@ -109,6 +126,9 @@ def tell_read(path):
     say(f"{len(of['peer'])} peers: {', '.join(parts[1] for parts in of['peer']) or 'none'}")
     say(f"{len(instances)} instances: {', '.join(instances) or 'none'}")
     say(f"{min(16, len(instances))} doors let all of them be bound at once; the archive's file grows to {capacity} octets")
+    usual, short = memory_of(capacity, USUAL_FRAME), memory_of(capacity, 10)
+    say(f"memory for a full archive: about {size(usual)} with frames of {USUAL_FRAME:,} octets, {size(short)} with frames of"
+        f" ten; while a run recovers it, {size(capacity)} more")
     mode = os.stat(path).st_mode
     secret = [parts for parts in of["peer"] + of["password"] if set(parts[-1]) != {"0"}]
     if secret and stat.S_ISREG(mode) and mode & 0o044:

@@ -78,10 +78,40 @@ def end_in_words(code, last, service, turns):
     }.get(code, f"it ended with exit code {code}, which isn't one of its own")
 
 
+LOCKS = ["inLock", "outOfLock", "notInUse", "unknown"]
+PRODUCTION = ["running", "interrupted", "halted"]
+CLTU_PRODUCTION = ["operational", "configured", "interrupted", "halted"]
+UPLINK = ["uplinkStatusNotAvailable", "noRfAvailable", "noBitLock", "nominal"]
+LOCKED = ["frame sync", "symbol sync", "subcarrier", "carrier"]
+
+
+def word_in(table, number):
+    return table[number] if number in range(len(table)) else str(number)
+
+
+def report_in_words(line, service):
+    """A status report: production, locks and counts; none where its numbers aren't those of the service."""
+    numbers = [int(each) for each in line.split()[1:]]
+    if service == "cltu" and len(numbers) == 6:
+        production, uplink, received, processed, radiated, free = numbers
+        return (f"production {word_in(CLTU_PRODUCTION, production)}, uplink {word_in(UPLINK, uplink)}, {received} received,"
+                f" {processed} processed, {radiated} radiated, {free} octets free")
+    error_free = numbers[:1] if len(numbers) == 7 else []
+    if len(numbers) - len(error_free) != 6:
+        return None
+    delivered, *locks, production = numbers[len(error_free):]
+    held = [word_in(LOCKS, each) for each in locks]
+    told = ", ".join(f"{name} {each}" for name, each in zip(LOCKED, held) if each != "inLock") or "all in lock"
+    good = f"{error_free[0]} error-free, " if error_free else ""
+    return f"production {word_in(PRODUCTION, production)}, {told}, {good}{delivered} delivered"
+
+
 class Counts:
-    """What the lines of a service tell of its frames."""
+    """What the lines of a service tell of its frames or its telecommands."""
 
     def __init__(self, service):
+        self.service = service
+        self.taken = 0
         self.place = 2 if service == "rcf" else 3
         self.frames = self.octets = self.lost = self.backlogs = 0
         self.first = self.last = self.report = None
@@ -100,8 +130,17 @@ class Counts:
         if line == b"backlog":
             self.backlogs += 1
         elif line.startswith(b"report "):
-            self.report = line.decode()
+            self.report = report_in_words(line.decode(), self.service)
+        elif line.startswith(b"ok 11 "):
+            self.taken += 1
         return None
+
+    def progress(self, before):
+        """A line for a terminal: what came, and what the last status report said."""
+        at = f", last {iso(self.last)}" if self.last else ""
+        came = f"{self.taken} telecommands taken" if self.service == "cltu" else (
+            f"{self.frames} frames, {self.frames - before} a second{at}")
+        return came + (f"; {self.report}" if self.report else "")
 
     def summary(self):
         span = f", from {iso(self.first)} to {iso(self.last)}" if self.frames else ""
@@ -162,12 +201,11 @@ class Progress(threading.Thread):
     def run(self):
         before = 0
         while not self.over.wait(1):
-            now = self.counts.frames
-            at = f", last {iso(self.counts.last)}" if self.counts.last else ""
-            told = f", {self.counts.report}" if self.counts.report else ""
-            sys.stderr.write(f"\r\033[K{now} frames, {now - before} a second{at}{told}")
+            line = self.counts.progress(before)
+            before = self.counts.frames
+            # (a line that is cut at the terminal's edge can be renewed)
+            sys.stderr.write(f"\r\033[K{line[:os.get_terminal_size(2).columns - 1]}")
             sys.stderr.flush()
-            before = now
 
     def end(self):
         self.over.set()

@@ -18,7 +18,8 @@ bin/ that want a POSIX shell and Python 3 (3.8 or later).
     bin/provider --help         the station's commands
     bin/user --help             the user's
     docs/OPERATING.md           how a station is run
-    examples/station.conf       a configuration; examples/station.service a unit for systemd
+    examples/station.conf       a configuration; examples/station.service a unit for systemd, and
+                                examples/stunnel.conf TLS in front of a station's doors
 
 Nothing can be proved or tested here: the sources' repository and the Rattle kit do that.
 """

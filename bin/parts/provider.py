@@ -1,5 +1,6 @@
 """`bin/provider` with options: they become today's words, and wrong words are named, with what would be right."""
 import os
+import re
 import sys
 
 import packing
@@ -7,7 +8,7 @@ import testing
 import times
 import words
 from programs import TOP
-from words import Parser, number, refuse, usage
+from words import Parser, number, refuse, usage, value
 
 words.LAUNCHER = "provider"
 HELP = os.path.join(TOP, "bin/help")
@@ -21,6 +22,20 @@ MOST_OCTETS = 1 << 25
 # ---- `run`
 
 PORT = number(1, 65_535)
+# What stands for the word FEED where the source of entries is at a Unix socket.
+UNUSED = 1
+
+
+def place_of(word):
+    """A port, or the path of a Unix socket."""
+    if word.startswith("/"):
+        return word
+    if not re.fullmatch(r"[1-9][0-9]{0,4}", word) or int(word) > 65_535:
+        raise ValueError
+    return int(word)
+
+
+PLACE = value(place_of, "a port from 1 to 65535 is wanted, or the path of a Unix socket, which begins with `/`")
 RUN = [("TURNS", number(10, MOST_TURNS)), ("LINKS", number(1, 65_536)), ("ARCHIVE", str), ("FEED", PORT),
        ("CLTUS", str)]
 
@@ -30,7 +45,7 @@ def run_parser():
     add = parser.add_argument
     add("--config", required=True, metavar="FILE")
     add("--archive", required=True, metavar="FILE")
-    add("--feed", required=True, type=PORT, metavar="PORT")
+    add("--feed", required=True, type=PLACE, metavar="PORT")
     add("--cltus", required=True, metavar="FILE")
     add("--door", required=True, type=PORT, nargs="+", action="extend", metavar="PORT")
     add("--turns", type=RUN[0][1], default=MOST_TURNS)
@@ -45,14 +60,17 @@ def run_options(given):
     said = run_parser().read(given)
     if len(said.door) > 16:
         usage(f"--door: {len(said.door)} ports are given, and 16 at most are read")
-    for name, held in [("STATION_ADDRESS", said.address), ("STATION_STOP", said.stop)]:
+    feed = said.feed if isinstance(said.feed, str) else None
+    for name, held in [("STATION_ADDRESS", said.address), ("STATION_STOP", said.stop), ("STATION_FEED", feed)]:
         if held is not None:
             os.environ[name] = held
     try:
         os.dup2(os.open(said.config, os.O_RDONLY), 0)
     except OSError as why:
-        refuse(f"{said.config} can't be read: {why.strerror}; it is a configuration, as examples/station.conf is", code=6)
-    return ["run", str(said.turns), str(said.links), said.archive, str(said.feed), said.cltus, *map(str, said.door)]
+        refuse(f"{said.config} can't be read: {why.strerror}; it is a configuration, as examples/station.conf is",
+               code=6)
+    port = str(UNUSED if feed else said.feed)
+    return ["run", str(said.turns), str(said.links), said.archive, port, said.cltus, *map(str, said.door)]
 
 
 def check_run(given):
@@ -105,7 +123,7 @@ FORMS = {
     "init": "init has one word, the path of a new archive file, in UTF-8",
     "list": "list has one word, the path of an archive file, in UTF-8",
     "explain": "explain has no words, the word raf, rcf or cltu, or `--pcap FILE`",
-    "stop": "stop has no words: the environment's STATION_STOP names the port of the station",
+    "stop": "stop has no words: the environment's STATION_STOP names the station's port or Unix socket",
     "check": "check has one word, the file of a configuration",
     "prove": "prove has no words, or the word explain, capture or picture",
     "package": "package has one word, the file that it writes",

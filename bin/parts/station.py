@@ -18,18 +18,30 @@ words.LAUNCHER = "provider"
 
 
 def stop_place():
-    """The port at which the station hears a stop; none where it hears none."""
+    """The port at which the station hears a stop, or the path of a Unix socket; none where it hears none."""
     place = os.environ.get("STATION_STOP", "5199")
     if place == "":
         return None
+    if place.startswith("/"):
+        return place
     if not re.fullmatch(r"[1-9][0-9]{0,4}", place) or int(place) > 65_535:
         raise ValueError
     return int(place)
 
 
+def connected(place):
+    """A connection to a port of the loopback, or to the Unix socket at a path."""
+    if isinstance(place, int):
+        return socket.create_connection(("127.0.0.1", place), 10)
+    peer = socket.socket(socket.AF_UNIX)
+    peer.settimeout(10)
+    peer.connect(place)
+    return peer
+
+
 def ask(place):
     """Asks the station there to stop: the connection that is closed once it has ended."""
-    peer = socket.create_connection(("127.0.0.1", place), 10)
+    peer = connected(place)
     peer.sendall(b"stop\n")
     peer.settimeout(None)
     return peer
@@ -40,7 +52,7 @@ def stop():
     try:
         place = stop_place()
     except ValueError:
-        refuse("STATION_STOP is no port, from 1 to 65535")
+        refuse("STATION_STOP is no port, from 1 to 65535, and no path of a Unix socket, which begins with `/`")
     if place is None:
         refuse("STATION_STOP is empty: a station that hears no stop is ended by SIGTERM")
     told = b""
@@ -51,7 +63,8 @@ def stop():
     except OSError:
         pass
     if told != b"stopping\n":
-        refuse(f"no station hears at port {place}; STATION_STOP names the port of one")
+        at = f"port {place}" if isinstance(place, int) else place
+        refuse(f"no station hears at {at}; STATION_STOP names the port or the socket of one")
     print("stopped")
 
 

@@ -57,6 +57,7 @@ CHANNEL = value(channel, "SPACECRAFT/VERSION/CHANNEL is wanted, as 171/0/7, or 1
 QUALITY = matching("[012]", "0 (good), 1 (erred) or 2 (all) is wanted")
 PORT = number(1, 65_535)
 FIRST = number(0, 0xffff_ffff)
+CYCLE = number(2, 600)
 # Today's words behind each command, and what reads them.
 FRONT = [("PORT", PORT), ("NAME", NAME), ("PASS", PASS), ("INSTANCE", instance)]
 WORDS = {
@@ -65,16 +66,18 @@ WORDS = {
     "cltu": [*FRONT, ("FIRST", FIRST), ("TURNS", TURNS)],
     "show": [("SERVICE", matching("raf|rcf|cltu", "raf, rcf or cltu is wanted"))],
 }
+# The word that may follow these of raf, rcf and cltu.
+FURTHER = ("REPORT", CYCLE)
 
 
 def check_words(command, given):
     """Ends with usage where today's words are wrong."""
-    table = WORDS[command]
-    names = " ".join(name for name, _ in table)
-    if len(given) != len(table):
+    table, more = WORDS[command], [] if command == "show" else [FURTHER]
+    names = " ".join([name for name, _ in table] + [f"[{name}]" for name, _ in more])
+    if len(given) not in range(len(table), len(table + more) + 1):
         options = "" if command == "show" else f", or options: `bin/user {command} --help` has them"
         usage(f"{command} has the words {names}, and {len(given)} were given{options}")
-    for (name, reads), word in zip(table, given):
+    for (name, reads), word in zip(table + more, given):
         try:
             reads(word)
         except words.argparse.ArgumentTypeError as why:
@@ -91,6 +94,7 @@ def parser_of(command):
     add("--instance", type=value(instance, ""), required=True)
     add("--pass-file")
     add("--turns", type=TURNS, default=MOST_TURNS)
+    add("--report", type=CYCLE)
     add("--retry", action="store_true")
     if command == "cltu":
         add("--first", type=FIRST, required=True)
@@ -116,7 +120,7 @@ def quality(word):
 
 # What a section of the configuration may hold: the options' names, and the command.
 KEYS = ["command", "to", "as", "instance", "pass-file", "turns", "retry", "first", "file", "from", "until", "for",
-        "frames", "lines", "quality", "channel"]
+        "frames", "lines", "quality", "channel", "report"]
 FLAGS = ["retry", "lines"]
 
 
@@ -188,7 +192,8 @@ def tell_end(code, output, line):
     if code == 13:
         say(bad_line_in_words(last[-1] if last else ""))
         return code
-    why = follow.end_in_words(code, last, line[0] if line[0] != "show" else line[1], line[-1])
+    shows = line[0] == "show"
+    why = follow.end_in_words(code, last, line[1] if shows else line[0], None if shows else line[len(WORDS[line[0]])])
     if why:
         say(why)
     return code
@@ -247,12 +252,13 @@ def run_options(command, given, named):
     if said.pass_file:
         check_pass(said.pass_file)
         env["USER_PASS_FILE"] = said.pass_file
+    more = [str(said.report)] if said.report else []
     front = [command, str(port), said.name, "file" if said.pass_file else "none", said.instance]
     if command == "cltu":
-        line = [*front, str(said.first), str(said.turns)]
+        line = [*front, str(said.first), str(said.turns), *more]
         return send(line, env, said.file or file, said.retry)
     last = said.quality if command == "raf" else said.channel
-    line = [*front, said.start or "none", said.stop or "none", last, str(said.turns)]
+    line = [*front, said.start or "none", said.stop or "none", last, str(said.turns), *more]
     return receive(line, env, said)
 
 
@@ -264,7 +270,7 @@ def send(line, env, file, retry):
             refuse(f"{file} can't be read: {why.strerror}", code=6)
     program = need_program()
     for pause in pauses(retry):
-        output = follow.Output(None, None, 1)
+        output = follow.Output(follow.Counts(line[0]), None, 1)
         code = follow.run(program, line, env, output)
         if not again(code, output, pause):
             return tell_end(code, output, line)
@@ -283,10 +289,12 @@ def receive(line, env, said):
             refuse(f"{said.frames} can't be written: {why.strerror}", code=7)
     lines = 1 if said.lines or frames is None else None
     program = need_program()
+    # --for counts from here on, over all tries and the pauses between them
+    until = time.monotonic() + said.seconds if said.seconds else None
     for pause in pauses(said.retry):
         output = follow.Output(follow.Counts(line[0]), frames, lines)
-        code = follow.run(program, line, env, output, said.seconds)
-        if output.counts.frames or not again(code, output, pause):
+        code = follow.run(program, line, env, output, left_until(until))
+        if output.counts.frames or not again(code, output, pause, until):
             tell_end(code, output, line)
             if code != 8 or output.counts.frames:
                 say(output.counts.summary())
@@ -304,11 +312,21 @@ def pauses(retry):
         pause = min(60, pause * 2)
 
 
-def again(code, output, pause):
-    """Whether a connection that couldn't be made, or broke, is tried again: not once the run was asked to end."""
+def left_until(until):
+    """The seconds until a time, where one is set."""
+    return None if until is None else max(0.001, until - time.monotonic())
+
+
+def again(code, output, pause, until=None):
+    """Whether a connection that couldn't be made, or broke, is tried again: not once the run was asked to end, nor
+    where its time is over before the next try."""
     if pause is None or output.asked or code not in (8, 11):
         return False
-    say(f"{follow.end_in_words(code, output.last_lines(), '', '')}; again in {pause} s")
+    why = follow.end_in_words(code, output.last_lines(), "", "")
+    if until is not None and until - time.monotonic() <= pause:
+        say(f"{why}; the time of --for is over before the next try")
+        return False
+    say(f"{why}; again in {pause} s")
     time.sleep(pause)
     return True
 

@@ -4,9 +4,11 @@
 // Trusted is what std and the system do: that what is written is appended to the file that was
 // named, and kept once it is synced.
 //
-// A call costs two writes and two syncs.
+// It reports each call of a file that fails, with the system's reason. A call costs two writes and
+// two syncs.
 #![tactic(auto)]
 
 mod file_antenna;
+mod kept_file;
 
 pub use file_antenna::FileAntenna;

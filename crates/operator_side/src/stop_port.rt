@@ -1,8 +1,10 @@
-// The port at which a stop is asked for.
+// The place at which a stop is asked for.
 
+use crate::{Listening, Peer, Place, is_early};
+use std::fs::Files;
 use std::io;
 use std::io::{ErrorKind, Read, Write};
-use std::net::{Net, SocketAddr, TcpListener, TcpStream};
+use std::net::{Net, TcpListener, TcpStream};
 
 // What a connection sends to ask for a stop.
 const ASKED: &[u8] = b"stop\n";
@@ -10,14 +12,14 @@ const ASKED: &[u8] = b"stop\n";
 // What it hears then.
 const HEARD: &[u8] = b"stopping\n";
 
-/// The port at which a stop is asked for, by a connection that sends the line `stop`. It hears the
-/// line `stopping`, and is closed when this port is: by that it sees that all has ended.
+/// The place at which a stop is asked for, by a connection that sends the line `stop`. It hears the
+/// line `stopping`, and is closed when this place is: by that it sees that all has ended.
 ///
 /// A connection that sends something else is closed, and so is one that has asked for nothing yet
 /// when the next one comes.
 #[derive(Drop)]
 pub struct StopPort {
-    listener: TcpListener,
+    listening: Listening,
     asking: Option<Asking>,
     is_asked: bool,
 }
@@ -26,32 +28,30 @@ pub struct StopPort {
 #[derive(Drop)]
 struct Asking {
     stream: TcpStream,
-    peer: SocketAddr,
+    peer: Peer,
     left: &'static [u8],
 }
 
 impl StopPort {
-    /// A port that listens at this address from now on.
-    pub fn open<R: Net<Stream = TcpStream, Listener = TcpListener>>(
+    /// Listens at this place from now on.
+    pub fn open<R: Net<Stream = TcpStream, Listener = TcpListener> + Files>(
         rt: &R,
-        address: SocketAddr,
+        place: Place,
     ) -> io::Result<StopPort> {
-        let listener = TcpListener::bind(rt, address)?;
-        listener.set_nonblocking(true)?;
         Ok(StopPort {
-            listener,
+            listening: Listening::open(rt, place)?,
             asking: None,
             is_asked: false,
         })
     }
 
     /// Where it listens: with the system's port where it was told port 0.
-    pub fn address(&self) -> io::Result<SocketAddr> {
-        self.listener.local_addr()
+    pub fn place(&self) -> &Place {
+        self.listening.place()
     }
 
     /// Looks, without waiting, and answers from where a stop was asked for, once.
-    pub fn look(&mut self) -> Option<SocketAddr> {
+    pub fn look(&mut self) -> Option<Peer> {
         if self.is_asked {
             return None;
         }
@@ -73,10 +73,7 @@ impl StopPort {
 
     // Takes the next connection, if one has come.
     fn accept(&mut self) {
-        let Ok((stream, peer)) = self.listener.accept() else {
-            return;
-        };
-        if stream.set_nonblocking(true).is_ok() {
+        if let Ok((stream, peer)) = self.listening.accept() {
             self.asking = Some(Asking {
                 stream,
                 peer,
@@ -107,9 +104,4 @@ impl Asking {
         let _ = self.stream.write_all(HEARD);
         Ok(true)
     }
-}
-
-// Whether nothing has come yet.
-fn is_early(error: &io::Error) -> bool {
-    matches!(error.kind(), ErrorKind::WouldBlock | ErrorKind::Interrupted)
 }

@@ -4,32 +4,42 @@ ghost use Rattle.std.specs.IoError.{error_kind};
 ghost use Rattle.std.specs.Str.{IsUtf8};
 ghost use Rattle.disk_model.specs.RawFile.{HasFile};
 
+use crate::logged_file::LoggedFile;
 use antenna_file::FileAntenna;
-use disk_model::FileDisk;
+use disk_model::DiskOver;
 use octet_core::Octets;
 use operator_side::{Stamped, report};
 use run_plan::RunPlan;
 use std::io::ErrorKind;
 use std::{io, str};
 
+/// A disk over a file whose failed calls are reported.
+pub type LoggedDisk = DiskOver<LoggedFile>;
+
 /// The files of a run.
 #[derive(Drop)]
-pub struct RunFiles {
+pub struct RunFiles<'a> {
     /// The archive's.
-    pub disk: FileDisk,
+    pub disk: LoggedDisk,
     /// The one that takes CLTUs.
-    pub antenna: FileAntenna,
+    pub antenna: FileAntenna<Stamped<'a, HostRuntime>>,
 }
 
 /// Opens the files that a plan names: the archive's, which has to be there, and the antenna's,
-/// which is made where there is none. What can't be opened is told on standard error.
-pub fn open_files(files: &HostRuntime, plan: &RunPlan) -> io::Result<RunFiles>
+/// which is made where there is none. Both are locked. What can't be opened is told on standard error.
+pub fn open_files<'a>(files: &'a HostRuntime, plan: &RunPlan) -> io::Result<RunFiles<'a>>
     ensures { IfOk result (λ opened. HasFile plan.now.path false opened.disk.file None) }
 {
     let (archive, cltus) = (text_of(&plan.path)?, text_of(&plan.antenna)?);
+    let reports = Stamped::new(files, files.alloc());
     Ok(RunFiles {
-        disk: told(files, "archive", archive, FileDisk::open(files, archive))?,
-        antenna: told(files, "CLTUs", cltus, FileAntenna::open(files, cltus))?,
+        disk: told(files, "archive", archive, LoggedDisk::open(files, archive))?,
+        antenna: told(
+            files,
+            "CLTUs",
+            cltus,
+            FileAntenna::open(files, cltus, reports),
+        )?,
     })
 }
 

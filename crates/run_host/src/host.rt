@@ -1,21 +1,22 @@
 // The sockets and the clocks of a run.
 ghost use Rattle.std.specs.Prelude.{◌≡◌, IfOk, length, vec_len};
 
-use crate::place::RunPlace;
+use crate::place::{RunPlace, loopback};
 use crate::ringing::{AtReading, StationTime};
-use crate::watching::{SocketFault, Waits, stop_of, waits_of};
+use crate::watching::{SocketFault, Waits, listening_of, port_of, stop_of, waits_of};
 use bell::{Bells, Resting, Waiter};
 use cds_time::SystemClock;
 use octet_core::Memory;
-use operator_side::{Stamped, Stop, report};
+use operator_side::{Listening, Once, Place, Stamped, SteadyTime, Stop, Uptime, report};
 use run_plan::RunPlan;
 use std::alloc::Global;
+use std::fs::Files;
 use std::io::Eprint;
-use std::net::{IpAddr, Ipv4Addr, Net, SocketAddr, TcpListener, TcpStream};
+use std::net::{IpAddr, Net, SocketAddr, TcpListener, TcpStream};
 use std::random::RandomSource;
 use std::rt;
 use std::time::Duration;
-use tcp_door::TcpDoor;
+use tcp_door::{DoorPort, Limits, TcpDoor};
 use tcp_feed::TcpFeed;
 
 // How many milliseconds a poll of a link waits at most.
@@ -27,73 +28,93 @@ pub type MachineClock<'a, R> = SystemClock<StationTime<'a, R>>;
 /// A door of the machine.
 pub type MachineDoor<'a, R> = TcpDoor<Stamped<'a, R>>;
 
-// A door at this address, which waits with this waiter, rings these bells and ends at the stop.
-fn door_of<'a, R: Net<Stream = TcpStream, Listener = TcpListener> + rt::Clock + Eprint + Sync>(
+// What each door of a run is made with.
+#[derive(Drop)]
+struct Doors<'a, R> {
     rt: &'a R,
     alloc: Global,
-    address: SocketAddr,
-    stop: Option<&Stop>,
-    waiter: Option<Waiter>,
-    bells: &Bells,
-) -> Result<MachineDoor<'a, R>, Memory> {
-    let wait = Duration::from_millis(WAIT_MILLIS);
-    let mut door = TcpDoor::open(rt, alloc, address, wait, Stamped::new(rt, alloc));
-    if let Some(stop) = stop {
-        door.end_at(stop.share()?);
-    }
-    if let Some(waiter) = waiter {
-        door.wait_with(waiter, bells.share()?);
-    }
-    Ok(door)
+    time: Uptime,
+    limits: Limits,
+    links: u64,
+    begin: Once,
+    bells: Bells,
 }
 
-// A door at this address for each port of a plan.
-fn doors_of<'a, R: Net<Stream = TcpStream, Listener = TcpListener> + rt::Clock + Eprint + Sync>(
-    rt: &'a R,
-    alloc: Global,
-    address: IpAddr,
-    ports: &[u16],
-    stop: Option<&Stop>,
-    mut waiters: Vec<Waiter>,
-    bells: &Bells,
-) -> Result<Vec<MachineDoor<'a, R>>, Memory>
-    ensures { IfOk result (λ doors. vec_len doors ≡ length ports.now) }
+impl<'a, R> Doors<'a, R>
+where
+    R: Net<Stream = TcpStream, Listener = TcpListener> + rt::Clock + Eprint + Sync,
 {
-    let mut doors = Vec::with_capacity(alloc, ports.len())?;
-    for port in ports {
-        let place = SocketAddr::new(address, *port);
-        doors.push(door_of(rt, alloc, place, stop, waiters.pop(), bells)?)?;
+    // A door at this port, which waits with this waiter and ends at the stop.
+    fn door(
+        &self,
+        port: DoorPort,
+        waiter: Waiter,
+        stop: Option<&Stop>,
+    ) -> Result<MachineDoor<'a, R>, Memory> {
+        let wait = Duration::from_millis(WAIT_MILLIS);
+        let reports = Stamped::new(self.rt, self.alloc);
+        let mut door = TcpDoor::new(self.alloc, port, waiter, wait, reports)?;
+        if let Some(stop) = stop {
+            door.end_at(stop.share()?);
+        }
+        door.ring(self.bells.share()?);
+        door.give_at_most(self.links);
+        door.tell_begin(self.begin.share()?);
+        Ok(door)
     }
-    Ok(doors)
+
+    // A door at this address for each port of a plan. Equal ports are one, which its doors share.
+    fn make(
+        &self,
+        address: IpAddr,
+        ports: &[u16],
+        stop: Option<&Stop>,
+        mut waiters: Vec<Waiter>,
+    ) -> Result<Vec<MachineDoor<'a, R>>, SocketFault>
+        ensures { IfOk result (λ doors. vec_len doors ≡ length ports.now) }
+    {
+        let mut doors = Vec::with_capacity(self.alloc, ports.len())?;
+        let mut opened = Vec::new(self.alloc);
+        for port in ports {
+            let place = SocketAddr::new(address, *port);
+            let limits = (self.time, self.limits);
+            let port = port_of(self.rt, self.alloc, place, limits, &mut opened)?;
+            let Some(waiter) = waiters.pop() else {
+                return Err(SocketFault::Memory);
+            };
+            doors.push(self.door(port, waiter, stop)?)?;
+        }
+        Ok(doors)
+    }
 }
 
 // So many clocks.
 fn clocks_of<R: rt::Clock + Eprint + Sync>(
     rt: &R,
     alloc: Global,
+    steady: Option<SteadyTime>,
     count: usize,
 ) -> Result<Vec<MachineClock<'_, R>>, Memory>
     ensures { IfOk result (λ clocks. vec_len clocks ≡ count) }
 {
     let mut clocks = Vec::with_capacity(alloc, count)?;
     for _place in 0..count {
-        clocks.push(machine_clock(rt))?;
+        clocks.push(SystemClock::new(StationTime::new(rt, steady, None)))?;
     }
     Ok(clocks)
 }
 
-// A source of entries at a port of the loopback, which waits with this waiter, rings these bells and
-// ends at the stop.
-fn frames_of<'a, R: Net<Stream = TcpStream, Listener = TcpListener> + rt::Clock + Eprint + Sync>(
+// A source of entries that listens so, which waits with this waiter, rings these bells and ends at the
+// stop.
+fn frames_of<'a, R: rt::Clock + Eprint + Sync>(
     rt: &'a R,
     alloc: Global,
-    port: u16,
+    (listening, time): (Listening, Uptime),
     stop: Option<&Stop>,
     waiter: Waiter,
     bells: &Bells,
 ) -> Result<TcpFeed<Stamped<'a, R>>, Memory> {
-    let address = SocketAddr::from((Ipv4Addr::LOCALHOST, port));
-    let mut frames = TcpFeed::open(rt, alloc, address, Stamped::new(rt, alloc))?;
+    let mut frames = TcpFeed::new(alloc, listening, time, Stamped::new(rt, alloc))?;
     if let Some(stop) = stop {
         frames.end_at(stop.share()?);
     }
@@ -105,11 +126,12 @@ fn frames_of<'a, R: Net<Stream = TcpStream, Listener = TcpListener> + rt::Clock 
 fn antenna_clock_of<'a, R: rt::Clock + Eprint + Sync>(
     rt: &'a R,
     alloc: Global,
+    steady: Option<SteadyTime>,
     stop: Option<Stop>,
     bells: &Bells,
 ) -> Result<MachineClock<'a, R>, Memory> {
     let at_reading = AtReading::new(alloc, bells.share()?, stop);
-    Ok(SystemClock::new(StationTime::new(rt, Some(at_reading))))
+    Ok(SystemClock::new(StationTime::new(rt, steady, Some(at_reading))))
 }
 
 /// Where the random numbers of sessions begin, and 0 where the machine has none.
@@ -140,40 +162,53 @@ pub struct RunSockets<'a, R: rt::Clock + Eprint + Sync> {
 
 /// A clock of the machine whose readings do nothing besides.
 pub fn machine_clock<R: rt::Clock + Eprint + Sync>(rt: &R) -> MachineClock<'_, R> {
-    SystemClock::new(StationTime::new(rt, None))
+    SystemClock::new(StationTime::new(rt, None, None))
 }
 
-// The sockets and the clocks of a plan at a place, which end at the stop and wait with these.
-fn sockets_of<'a, R: Net<Stream = TcpStream, Listener = TcpListener> + rt::Clock + Eprint + Sync>(
+/// Opens the sockets of a plan at a place: a door for each port, the source of entries, and where a
+/// stop is asked for. What can't be had is told on standard error. The station's time begins.
+pub fn open_sockets<
+    'a,
+    R: Net<Stream = TcpStream, Listener = TcpListener> + Files + rt::Clock + Eprint + Sync,
+>(
     rt: &'a R,
     alloc: Global,
+    time: Uptime,
     plan: &RunPlan,
     place: RunPlace,
-    stop: Option<Stop>,
-    waits: Waits,
-) -> Result<RunSockets<'a, R>, Memory>
+) -> Result<RunSockets<'a, R>, SocketFault>
     ensures doors { IfOk result (λ sockets. vec_len sockets.doors ≡ length plan.now.ports) }
     ensures clocks { IfOk result (λ sockets. vec_len sockets.clocks ≡ length plan.now.ports) }
 {
+    let RunPlace {
+        address,
+        feed,
+        stop,
+        limits,
+    } = place;
     let ports = plan.ports.as_slice();
+    let steady = SteadyTime::begin(rt).ok();
+    let stop = stop_of(rt, alloc, stop)?;
+    let listening = listening_of(rt, alloc, feed_of(feed, plan.feed))?;
     let Waits {
         doors: waiters,
         source,
         antenna,
         bells,
-    } = waits;
-    let doors = doors_of(
+    } = waits_of(rt, alloc, ports.len())?;
+    let making = Doors {
         rt,
         alloc,
-        place.address,
-        ports,
-        stop.as_ref(),
-        waiters,
-        &bells,
-    )?;
-    let clocks = clocks_of(rt, alloc, ports.len())?;
-    let frames = frames_of(rt, alloc, plan.feed, stop.as_ref(), source, &bells)?;
-    let antenna_clock = antenna_clock_of(rt, alloc, stop, &bells)?;
+        time,
+        limits,
+        links: u64::from(plan.links),
+        begin: Once::new(alloc)?,
+        bells: bells.share()?,
+    };
+    let doors = making.make(address, ports, stop.as_ref(), waiters)?;
+    let clocks = clocks_of(rt, alloc, steady, ports.len())?;
+    let frames = frames_of(rt, alloc, (listening, time), stop.as_ref(), source, &bells)?;
+    let antenna_clock = antenna_clock_of(rt, alloc, steady, stop, &bells)?;
     let resting = Resting::new(rt, antenna, bells.share()?);
     Ok(RunSockets {
         doors,
@@ -185,32 +220,12 @@ fn sockets_of<'a, R: Net<Stream = TcpStream, Listener = TcpListener> + rt::Clock
     })
 }
 
-/// Opens the sockets of a plan at a place: a door for each port, the source of entries, and where a
-/// stop is asked for. An address of a door or the source that can't be had is a fault of its calls.
-pub fn open_sockets<
-    'a,
-    R: Net<Stream = TcpStream, Listener = TcpListener> + rt::Clock + Eprint + Sync,
->(
-    rt: &'a R,
-    alloc: Global,
-    plan: &RunPlan,
-    place: RunPlace,
-) -> Result<RunSockets<'a, R>, SocketFault>
-    ensures doors { IfOk result (λ sockets. vec_len sockets.doors ≡ length plan.now.ports) }
-    ensures clocks { IfOk result (λ sockets. vec_len sockets.clocks ≡ length plan.now.ports) }
-{
-    let stop = stop_of(rt, alloc, place)?;
-    let waits = waits_of(rt, alloc, plan.ports.as_slice().len())?;
-    match sockets_of(rt, alloc, plan, place, stop, waits) {
-        Ok(sockets) => Ok(sockets),
-        Err(Memory) => Err(SocketFault::Memory),
+// Where the source connects: at a Unix socket, or else at a port of the loopback.
+fn feed_of(path: Option<String>, port: u16) -> Place {
+    match path {
+        Some(path) => Place::Path(path),
+        None => loopback(port),
     }
-}
-
-/// Tells on standard error that a run begins.
-pub fn tell_begin<R: Eprint + rt::Clock>(rt: &R, alloc: Global) {
-    let line = format!(in alloc; "station: began\n");
-    report(&mut Stamped::new(rt, alloc), line);
 }
 
 /// Tells on standard error which exit code a run ended with.

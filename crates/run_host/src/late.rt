@@ -1,9 +1,11 @@
 // A source of entries and an antenna that only a run has.
 
+use crate::fullness::Fullness;
 use antenna_core::Antenna;
 use antenna_file::FileAntenna;
 use bell::Bells;
 use octet_core::{Failed, Faults};
+use operator_side::Stamped;
 use recorder::{Feed, FrameSource};
 use std::io::Write;
 use tcp_feed::TcpFeed;
@@ -13,6 +15,8 @@ use tcp_feed::TcpFeed;
 pub struct LateFrames<W: Write + Send + Drop> {
     /// The source, if there is one.
     pub feed: Option<TcpFeed<W>>,
+    /// What watches the archive into which its entries go, if anything does.
+    pub fullness: Option<Fullness>,
 }
 
 impl<W: Write + Send + Drop> FrameSource for LateFrames<W> {
@@ -23,27 +27,34 @@ impl<W: Write + Send + Drop> FrameSource for LateFrames<W> {
     ghost faults = { λ frames. unwrap_or (option_map (λ feed. feed.faults) frames.feed) 0 };
 
     fn next(&mut self) -> Feed {
-        match &mut self.feed {
+        if let Some(fullness) = &mut self.fullness {
+            fullness.begin();
+        }
+        let answer = match &mut self.feed {
             Some(feed) => feed.next(),
             None => Feed::End,
+        };
+        if let Some(fullness) = &mut self.fullness {
+            fullness.end(&answer);
         }
+        answer
     }
 }
 
 /// An antenna over files, or none yet, which opens no file, and whose calls fail.
 #[derive(Drop)]
-pub struct LateAntenna {
+pub struct LateAntenna<'a> {
     /// The antenna, if there is one.
-    pub antenna: Option<FileAntenna>,
+    pub antenna: Option<FileAntenna<Stamped<'a, HostRuntime>>>,
     /// What notes that a CLTU was sent.
     pub bells: Option<Bells>,
     // How often a call has failed while there was none.
     missed: Faults,
 }
 
-impl LateAntenna {
+impl<'a> LateAntenna<'a> {
     /// No antenna yet.
-    pub fn none() -> LateAntenna {
+    pub fn none() -> LateAntenna<'a> {
         LateAntenna {
             antenna: None,
             bells: None,
@@ -52,7 +63,7 @@ impl LateAntenna {
     }
 
     /// This antenna.
-    pub fn over(antenna: FileAntenna) -> LateAntenna {
+    pub fn over(antenna: FileAntenna<Stamped<'a, HostRuntime>>) -> LateAntenna<'a> {
         LateAntenna {
             antenna: Some(antenna),
             bells: None,
@@ -61,7 +72,7 @@ impl LateAntenna {
     }
 }
 
-impl Antenna for LateAntenna {
+impl Antenna for LateAntenna<'_> {
     ghost use Rattle.std.specs.Prelude.{None, option_map, unwrap_or};
 
     ghost sent = { λ _. None };

@@ -19,18 +19,23 @@
 // may have asked for one, and all at a stop.
 #![tactic(auto)]
 
+mod capacity;
 mod files;
+mod fullness;
 mod host;
 mod late;
+mod logged_file;
 mod place;
 mod ringing;
 mod watching;
 
-pub use files::{RunFiles, open_files, text_of};
+pub use capacity::{Capacity, KeptInput};
+pub use files::{LoggedDisk, RunFiles, open_files, text_of};
+pub use fullness::Fullness;
 pub use host::{
-    MachineClock, MachineDoor, RunSockets, draw_of, machine_clock, open_sockets, tell_begin,
-    tell_end,
+    MachineClock, MachineDoor, RunSockets, draw_of, machine_clock, open_sockets, tell_end,
 };
 pub use late::{LateAntenna, LateFrames};
+pub use logged_file::LoggedFile;
 pub use place::RunPlace;
 pub use watching::SocketFault;

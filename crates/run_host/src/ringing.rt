@@ -3,7 +3,7 @@ ghost use Rattle.std.specs.Prelude.{None};
 
 use bell::Bells;
 use cds_time::UnixTime;
-use operator_side::{Stamped, Stop};
+use operator_side::{ClockWatch, Stamped, SteadyTime, Stop};
 use std::alloc::Global;
 use std::io::Eprint;
 use std::rt::Clock;
@@ -22,6 +22,8 @@ pub(crate) struct AtReading {
     stop: Option<Stop>,
     // When it was looked for last.
     looked: Option<Duration>,
+    // What compares the machine's clock with the station's time then.
+    watch: ClockWatch,
 }
 
 /// The machine's Unix time. It shows nothing: what the machine says is trusted.
@@ -29,10 +31,12 @@ pub(crate) struct AtReading {
 /// The antenna's worker reads its time before each take and after each send, and sleeps after a take
 /// that found nothing. So a reading with neither a sleep nor a send before it comes after a turn that
 /// told of a radiation or discarded CLTUs, and rings the doors. Its readings also look for a stop, each
-/// 50 ms at most, and ring all once it is asked for.
+/// 50 ms at most, and ring all once it is asked for, and report where the machine's clock was set.
 #[derive(Drop)]
 pub struct StationTime<'a, R> {
     rt: &'a R,
+    // A run's time, which goes on whatever the machine's clock is set to.
+    steady: Option<SteadyTime>,
     at_reading: Option<AtReading>,
 }
 
@@ -44,11 +48,17 @@ impl AtReading {
             bells,
             stop,
             looked: None,
+            watch: ClockWatch::new(),
         }
     }
 
     // Does what a reading of this time does.
-    fn act<R: Eprint + Clock>(&mut self, rt: &R, now: Option<Duration>) {
+    fn act<R: Eprint + Clock>(
+        &mut self,
+        rt: &R,
+        now: Option<Duration>,
+        steady: Option<&SteadyTime>,
+    ) {
         let (has_slept, has_sent) = (self.bells.take_slept(), self.bells.take_sent());
         if !has_slept && !has_sent {
             self.bells.ring_radiated();
@@ -56,6 +66,7 @@ impl AtReading {
         if self.is_due(now) {
             self.looked = now;
             self.look(rt);
+            self.compare(rt, steady);
         }
     }
 
@@ -64,6 +75,14 @@ impl AtReading {
         match (now, self.looked) {
             (Some(now), Some(looked)) => now.abs_diff(looked) >= Duration::from_millis(LOOK_MILLIS),
             _ => true,
+        }
+    }
+
+    // Reports where the machine's clock isn't at a run's time.
+    fn compare<R: Eprint + Clock>(&mut self, rt: &R, steady: Option<&SteadyTime>) {
+        if let Some(steady) = steady {
+            let mut reports = Stamped::new(rt, self.alloc);
+            self.watch.look(rt, self.alloc, steady, &mut reports);
         }
     }
 
@@ -81,9 +100,17 @@ impl AtReading {
 }
 
 impl<'a, R> StationTime<'a, R> {
-    // This machine's time, whose readings do this besides.
-    pub(crate) fn new(rt: &'a R, at_reading: Option<AtReading>) -> StationTime<'a, R> {
-        StationTime { rt, at_reading }
+    // This machine's time, or a run's, whose readings do this besides.
+    pub(crate) fn new(
+        rt: &'a R,
+        steady: Option<SteadyTime>,
+        at_reading: Option<AtReading>,
+    ) -> StationTime<'a, R> {
+        StationTime {
+            rt,
+            steady,
+            at_reading,
+        }
     }
 }
 
@@ -91,9 +118,12 @@ impl<R: Eprint + Clock + Sync> UnixTime for StationTime<'_, R> {
     ghost shown = { λ _. None };
 
     fn since_1970(&mut self) -> Option<Duration> {
-        let now = self.rt.since_1970().ok();
+        let now = match &self.steady {
+            Some(steady) => steady.since_1970(self.rt),
+            None => self.rt.since_1970().ok(),
+        };
         if let Some(at_reading) = &mut self.at_reading {
-            at_reading.act(self.rt, now);
+            at_reading.act(self.rt, now, self.steady.as_ref());
         }
         now
     }

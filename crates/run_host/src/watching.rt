@@ -1,24 +1,37 @@
 // What a run can't go without: the port of its stop, and what its workers wait with.
 
-use crate::place::RunPlace;
 use bell::{Bells, Waiter};
 use octet_core::Memory;
-use operator_side::{Stamped, Stop, StopPort, report};
-use std::alloc::{AllocError, Global};
+use operator_side::{Listening, Place, Stamped, Stop, StopPort, Uptime, report};
+use std::alloc::{AllocError, AllocFailed, Global};
+use std::fs::Files;
 use std::io;
 use std::io::{Eprint, ErrorKind};
-use std::net::{Ipv4Addr, Net, SocketAddr, TcpListener, TcpStream};
+use std::net::{Net, SocketAddr, TcpListener, TcpStream};
 use std::rt::Clock;
+use tcp_door::{DoorPort, Limits};
 
 /// Why the sockets of a run can't be had.
 #[derive(Clone, Copy, Debug, PartialEq, Eq)]
 pub enum SocketFault {
-    /// The port at which a stop is asked for can't be had.
+    /// A port of a door, the source or the stop can't be had.
     Port,
     /// The system refuses what the workers wait with.
     Wait,
     /// Memory was refused.
     Memory,
+}
+
+impl<T: Drop> From<AllocFailed<T>> for SocketFault {
+    fn from(_error: AllocFailed<T>) -> SocketFault {
+        SocketFault::Memory
+    }
+}
+
+impl From<AllocError> for SocketFault {
+    fn from(_error: AllocError) -> SocketFault {
+        SocketFault::Memory
+    }
 }
 
 impl From<Memory> for SocketFault {
@@ -76,23 +89,72 @@ pub(crate) fn waits_of<R: Net + Clock + Eprint>(
     }
 }
 
-// The stop of a run, if its place has a port for that. A port that can't be had is told on standard
+// The stop of a run, if one may be asked for somewhere. A place that can't be had is told on standard
 // error.
-pub(crate) fn stop_of<R: Net<Stream = TcpStream, Listener = TcpListener> + Clock + Eprint>(
+pub(crate) fn stop_of<R: Net<Stream = TcpStream, Listener = TcpListener> + Files + Clock + Eprint>(
     rt: &R,
     alloc: Global,
-    place: RunPlace,
+    place: Option<Place>,
 ) -> Result<Option<Stop>, SocketFault> {
-    let Some(port) = place.stop else {
+    let Some(place) = place else {
         return Ok(None);
     };
-    let address = SocketAddr::from((Ipv4Addr::LOCALHOST, port));
-    match StopPort::open(rt, address) {
+    let name = format!(in alloc; "{place}")?;
+    match StopPort::open(rt, place) {
         Ok(port) => Ok(Some(Stop::at(alloc, port)?)),
-        Err(error) => {
-            let why = error.kind();
-            tell(rt, alloc, format!(in alloc; "stop {address}: {why}\n"));
-            Err(SocketFault::Port)
+        Err(error) => Err(refused(rt, alloc, "stop", name.as_str(), &error)),
+    }
+}
+
+// What listens for the source of entries. A place that can't be had is told on standard error.
+pub(crate) fn listening_of<
+    R: Net<Stream = TcpStream, Listener = TcpListener> + Files + Clock + Eprint,
+>(rt: &R, alloc: Global, place: Place) -> Result<Listening, SocketFault> {
+    let name = format!(in alloc; "{place}")?;
+    match Listening::open(rt, place) {
+        Ok(listening) => Ok(listening),
+        Err(error) => Err(refused(rt, alloc, "feed", name.as_str(), &error)),
+    }
+}
+
+// The port of doors at this address, the one that is opened already if it is. An address that can't be
+// had is told on standard error.
+pub(crate) fn port_of<R: Net<Stream = TcpStream, Listener = TcpListener> + Clock + Eprint>(
+    rt: &R,
+    alloc: Global,
+    address: SocketAddr,
+    (time, limits): (Uptime, Limits),
+    opened: &mut Vec<DoorPort>,
+) -> Result<DoorPort, SocketFault> {
+    for port in opened.iter() {
+        if port.address() == address {
+            return Ok(port.share()?);
         }
     }
+    match DoorPort::open(rt, alloc, address, time, limits) {
+        Ok(port) => {
+            opened.push(port.share()?)?;
+            Ok(port)
+        }
+        Err(error) => {
+            let name = format!(in alloc; "{address}")?;
+            Err(refused(rt, alloc, "door", name.as_str(), &error))
+        }
+    }
+}
+
+// A place that can't be had, which is told on standard error.
+fn refused<R: Clock + Eprint>(
+    rt: &R,
+    alloc: Global,
+    what: &str,
+    name: &str,
+    error: &io::Error,
+) -> SocketFault {
+    let why = error.kind();
+    if why == ErrorKind::OutOfMemory {
+        return SocketFault::Memory;
+    }
+    tell(rt, alloc, format!(in alloc; "{what} {name}: {why}\n"));
+    SocketFault::Port
 }

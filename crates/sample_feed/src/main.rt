@@ -5,6 +5,7 @@
 // fault it asks once more.
 #![tactic(auto)]
 
+use operator_side::{Listening, Place, Uptime};
 use record_form::Entry;
 use recorder::{Feed, FrameSource};
 use std::net::SocketAddr;
@@ -62,10 +63,11 @@ fn main(rt: HostRuntime) -> io::Result<ExitCode> {
     let (Ok(address), Ok(pauses)) = (address.parse::<SocketAddr>(), pauses.parse::<u32>()) else {
         return Err(io::ErrorKind::InvalidInput.into());
     };
-    let Ok(mut feed) = TcpFeed::open(&rt, rt.alloc(), address, rt.stderr()) else {
+    let listening = Listening::open(&rt, Place::Port(address))?;
+    let Ok(mut feed) = TcpFeed::new(rt.alloc(), listening, Uptime::new(&rt), rt.stderr()) else {
         return Ok(ExitCode::FAILURE);
     };
-    eprintln!(rt; "feed at {}", feed.address())?;
+    eprintln!(rt; "feed at {}", feed.place())?;
     tell(&rt, &mut feed, pauses)?;
     Ok(ExitCode::SUCCESS)
 }

@@ -4,26 +4,42 @@ ghost use Rattle.link_model.specs.declared.call.Call.TheVariants.{Offered};
 ghost use Rattle.link_model.specs.Calls.{Tells};
 ghost use Rattle.link_model.specs.Counts.{CountsWhere, offer_failed, offer_stalled};
 
-use bell::{Bells, Waiter};
+use crate::doorway::Keep;
+use crate::hearing::Hearing;
+use bell::Bells;
 use link_model::{Link, Poll};
 use octet_core::{Faults, Offer};
 use operator_side::Stop;
 use std::marker::Model;
+use std::time::Duration;
 use tcp_link::TcpLink;
 
 /// A link that a door gave, over a TCP stream. It tells none of its calls.
 ///
-/// Once the station is to stop, its polls hear that the peer has closed, though it hasn't, and an
-/// offer that would stall fails: so whoever serves the link comes to an end.
+/// Once the station is to stop, or its user was silent for too long, its polls hear that the peer has
+/// closed, though it hasn't, and an offer that would stall fails: so whoever serves the link comes to
+/// an end.
 #[derive(Drop)]
 pub struct DoorLink {
     link: TcpLink,
     stop: Option<Stop>,
     bells: Option<Bells>,
+    hearing: Hearing,
     // True from a poll that heard octets until one that heard nothing: then all of them are handled.
     is_asked: bool,
     faults: Faults,
     stalls: u64,
+}
+
+/// Why a link came to an end, where that wasn't its serving's matter.
+#[derive(Clone, Copy, Debug, PartialEq, Eq)]
+pub(crate) enum Reason {
+    /// It was.
+    None,
+    /// The station is to stop.
+    Stop,
+    /// Nothing was heard for so long.
+    Silence(Duration),
 }
 
 impl Model for DoorLink {
@@ -35,14 +51,20 @@ impl Model for DoorLink {
 }
 
 impl DoorLink {
-    // A link over this one, which ends at this stop and rings these bells.
-    pub(crate) fn new(link: TcpLink, stop: Option<Stop>, bells: Option<Bells>) -> DoorLink
+    // A link over this one, which ends at this stop, rings these bells, and hears so.
+    pub(crate) fn new(
+        link: TcpLink,
+        stop: Option<Stop>,
+        bells: Option<Bells>,
+        hearing: Hearing,
+    ) -> DoorLink
         ensures { result ≡ record { faults = 0; stalls = 0 } }
     {
         DoorLink {
             link,
             stop,
             bells,
+            hearing,
             is_asked: false,
             faults: Faults::new(),
             stalls: 0,
@@ -50,15 +72,33 @@ impl DoorLink {
     }
 
     // Whether the station is to stop.
-    pub(crate) fn is_stopped(&self) -> bool {
+    fn is_stopped(&self) -> bool {
         self.stop.as_ref().is_some_and(Stop::is_asked)
     }
 
-    // Sends what is left, closes the stream, and returns the waiter.
-    pub(crate) fn finish(self) -> Waiter {
-        let DoorLink { mut link, .. } = self;
+    // Why it came to an end.
+    pub(crate) fn reason(&self) -> Reason {
+        match self.hearing.passed() {
+            Some(limit) => Reason::Silence(limit),
+            None if self.is_stopped() => Reason::Stop,
+            None => Reason::None,
+        }
+    }
+
+    // Sends what is left, closes the stream, and returns what the door keeps.
+    pub(crate) fn finish(self) -> Keep {
+        let DoorLink {
+            mut link,
+            stop,
+            bells,
+            ..
+        } = self;
         link.finish();
-        link.into_waiter()
+        Keep {
+            gear: link.into_gear(),
+            stop,
+            bells,
+        }
     }
 
     // Rings if a block answers what the user sent: that may have been a CLTU, and the book has it by
@@ -95,13 +135,21 @@ impl Link for DoorLink {
     ghost stalls = { λ link. link.stalls };
 
     fn poll(&mut self, into: &mut [u8]) -> Poll {
-        if self.is_stopped() {
+        if self.is_stopped() || self.hearing.is_over() {
             return Poll::Closed;
         }
         let answer = self.link.poll(into);
         match answer {
-            Poll::Arrived(_) => self.is_asked = true,
-            Poll::Nothing => self.is_asked = false,
+            Poll::Arrived(count) => {
+                self.is_asked = true;
+                self.hearing.hear(into.get(..count).unwrap_or(&[]));
+            }
+            Poll::Nothing => {
+                self.is_asked = false;
+                if self.hearing.look() {
+                    return Poll::Closed;
+                }
+            }
             Poll::Closed => {}
             Poll::Failed => {
                 let _ = self.faults.fail::<()>();
@@ -120,7 +168,7 @@ impl Link for DoorLink {
                 self.ring_asked();
                 Offer::Whole
             }
-            Offer::Stalled if !self.is_stopped() => {
+            Offer::Stalled if !self.is_stopped() && !self.hearing.is_over() => {
                 self.stalls = self.stalls.saturating_add(1);
                 Offer::Stalled
             }

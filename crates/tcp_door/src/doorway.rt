@@ -1,160 +1,127 @@
-// Where connections come in.
+// Where a door's connections come in.
 
+use crate::callers::{Caller, Found};
 use crate::door_link::DoorLink;
-use bell::{Bells, Waiter};
-use operator_side::Stop;
-use std::alloc::Global;
-use std::io::ErrorKind;
-use std::net::{Net, SocketAddr, TcpListener, TcpStream};
-use std::os::fd::AsRawFd;
+use crate::door_port::{DoorPort, Taken};
+use crate::hearing::Hearing;
+use bell::Bells;
+use operator_side::{Stop, Uptime};
+use std::io;
+use std::io::{ErrorKind, Write};
+use std::net::SocketAddr;
 use std::time::Duration;
-use std::{io, mem};
-use tcp_link::TcpLink;
-
-// For how many milliseconds a call waits at most before it looks for a stop again.
-const LOOK_MILLIS: u64 = 500;
+use tcp_link::{LinkGear, TcpLink};
 
 // How often a call waits at most: for more years than anybody counts.
 const WAITS: u64 = u64::MAX;
 
-// A listener, what its links are made of, and the stop at which it ends.
+/// What a door has that its links need too.
 #[derive(Drop)]
-pub(crate) struct Doorway {
-    pub alloc: Global,
-    pub address: SocketAddr,
-    pub listener: io::Result<TcpListener>,
-    pub wait: Duration,
+pub(crate) struct Keep {
+    pub gear: LinkGear,
     pub stop: Option<Stop>,
-    // What it and its next link wait with: not connected while a link is out.
-    pub waiter: io::Result<Waiter>,
     pub bells: Option<Bells>,
 }
 
-impl Doorway {
-    // A doorway that listens at this address from now on, whose links wait at most so long in a call.
-    pub fn open<R: Net<Stream = TcpStream, Listener = TcpListener>>(
-        rt: &R,
-        alloc: Global,
-        address: SocketAddr,
-        wait: Duration,
-    ) -> Doorway {
-        let mut way = Doorway {
-            alloc,
-            address,
-            listener: listen(rt, address),
-            wait,
-            stop: None,
-            waiter: Err(ErrorKind::NotConnected.into()),
-            bells: None,
-        };
-        way.wait_with(Waiter::new(rt, alloc));
-        way
-    }
-
-    // Has it and its links wait with this waiter.
-    pub fn wait_with(&mut self, waiter: io::Result<Waiter>) {
-        self.waiter = match (&self.listener, waiter) {
-            (Ok(listener), Ok(waiter)) => match waiter.watch(listener.as_raw_fd()) {
-                Ok(()) => Ok(waiter),
-                Err(error) => Err(error),
-            },
-            (_, waiter) => waiter,
-        };
-    }
-
-    // Where it listens: with the system's port where it was told port 0.
-    pub fn address(&self) -> SocketAddr {
-        match &self.listener {
-            Ok(listener) => listener.local_addr().unwrap_or(self.address),
-            Err(_) => self.address,
-        }
-    }
-
+impl Keep {
     // True once the station is to stop.
-    fn is_stopped(&self) -> bool {
+    pub fn is_stopped(&self) -> bool {
         self.stop.as_ref().is_some_and(Stop::is_asked)
     }
+}
 
-    // The next connection's link, and where it comes from; none once the station is to stop.
-    pub fn accept_link(&mut self) -> io::Result<Option<(DoorLink, SocketAddr)>> {
-        let Some((stream, peer)) = self.accept()? else {
+// A port, what the door's links are made of, and how many may still be given.
+#[derive(Drop)]
+pub(crate) struct Doorway {
+    // None once the door has given its last link.
+    pub port: Option<DoorPort>,
+    // None while a link is out, which has it.
+    pub keep: Option<Keep>,
+    pub wait: Duration,
+    pub left: u64,
+}
+
+/// A connection, and how many of its port's doors are taken by now.
+#[derive(Drop)]
+pub(crate) struct Given {
+    pub link: DoorLink,
+    pub peer: SocketAddr,
+    pub taken: Taken,
+}
+
+impl Doorway {
+    // The next connection's link, for which it waits; none once the station is to stop, or after the
+    // last one.
+    pub fn next<W: Write>(&mut self, reports: &mut W) -> io::Result<Option<Given>> {
+        let Some(caller) = self.wait_for_caller(reports)? else {
             return Ok(None);
         };
-        let link = TcpLink::new(self.alloc, stream, self.take_waiter()?, self.wait)?;
-        let link = DoorLink::new(link, shared(&self.stop)?, shared_bells(&self.bells)?);
-        Ok(Some((link, peer)))
+        let (Some(port), Some(keep)) = (&self.port, self.keep.take()) else {
+            return Err(ErrorKind::NotConnected.into());
+        };
+        let (time, limits) = port.limits();
+        let taken = port.take();
+        let Caller { stream, peer, .. } = caller;
+        let Keep { gear, stop, bells } = keep;
+        let link = TcpLink::over(stream, gear, self.wait);
+        self.left = self.left.saturating_sub(1);
+        if self.left == 0 {
+            self.port = None;
+        }
+        Ok(Some(Given {
+            link: DoorLink::new(link, stop, bells, Hearing::new(time, limits)),
+            peer,
+            taken,
+        }))
     }
 
-    // The next connection, for which it waits; none once the station is to stop.
-    fn accept(&mut self) -> io::Result<Option<(TcpStream, SocketAddr)>> {
+    // Takes back what a link had.
+    pub fn take_back(&mut self, keep: Keep) {
+        self.keep = Some(keep);
+        if let Some(port) = &self.port {
+            port.free();
+        }
+    }
+
+    // Waits for a connection that speaks.
+    fn wait_for_caller<W: Write>(&mut self, reports: &mut W) -> io::Result<Option<Caller>> {
         for _ in 0..WAITS {
-            if self.is_stopped() {
-                return Ok(None);
-            }
-            match self.accept_now() {
-                Ok(made) => return Ok(Some(made)),
-                Err(error) if is_early(&error) => self.rest()?,
-                Err(error) => return Err(error),
+            match self.look(reports)? {
+                Look::Caller(caller) => return Ok(Some(caller)),
+                Look::Wait(millis) => self.rest(millis)?,
+                Look::End => return Ok(None),
             }
         }
-        Err(ErrorKind::TimedOut.into())
+        Ok(None)
     }
 
-    // The connection that has come.
-    fn accept_now(&self) -> io::Result<(TcpStream, SocketAddr)> {
-        match &self.listener {
-            Ok(listener) => listener.accept(),
-            Err(error) => Err(error.kind().into()),
+    // Looks once.
+    fn look<W: Write>(&self, reports: &mut W) -> io::Result<Look> {
+        let (Some(port), Some(keep)) = (&self.port, &self.keep) else {
+            return Ok(Look::End);
+        };
+        if keep.is_stopped() {
+            return Ok(Look::End);
+        }
+        match port.look(reports)? {
+            Found::Caller(caller) => Ok(Look::Caller(caller)),
+            Found::None(millis) => Ok(Look::Wait(millis)),
         }
     }
 
-    // Waits for a connection or the stop.
-    fn rest(&mut self) -> io::Result<()> {
-        match &mut self.waiter {
-            Ok(waiter) => waiter.wait(Duration::from_millis(LOOK_MILLIS)),
-            Err(error) => Err(error.kind().into()),
+    // Waits for a connection, a ring, or so long.
+    fn rest(&mut self, millis: u64) -> io::Result<()> {
+        match &mut self.keep {
+            Some(keep) => keep.gear.wait(Duration::from_millis(millis)),
+            None => Ok(()),
         }
     }
-
-    // What the next link waits with.
-    fn take_waiter(&mut self) -> io::Result<Waiter> {
-        mem::replace(&mut self.waiter, Err(ErrorKind::NotConnected.into()))
-    }
 }
 
-// A listener whose calls don't wait.
-fn listen<R: Net<Stream = TcpStream, Listener = TcpListener>>(
-    rt: &R,
-    address: SocketAddr,
-) -> io::Result<TcpListener> {
-    let listener = TcpListener::bind(rt, address)?;
-    listener.set_nonblocking(true)?;
-    Ok(listener)
-}
-
-// True if no connection has come yet, or one that is gone.
-fn is_early(error: &io::Error) -> bool {
-    matches!(
-        error.kind(),
-        ErrorKind::WouldBlock | ErrorKind::ConnectionAborted | ErrorKind::Interrupted
-    )
-}
-
-// The same stop once more.
-fn shared(stop: &Option<Stop>) -> io::Result<Option<Stop>> {
-    let Some(stop) = stop else {
-        return Ok(None);
-    };
-    match stop.share() {
-        Ok(same) => Ok(Some(same)),
-        Err(_) => Err(ErrorKind::OutOfMemory.into()),
-    }
-}
-
-// The same bells once more.
-fn shared_bells(bells: &Option<Bells>) -> io::Result<Option<Bells>> {
-    match bells {
-        Some(bells) => Ok(Some(bells.share()?)),
-        None => Ok(None),
-    }
+// What a look comes to.
+#[derive(Drop)]
+enum Look {
+    Caller(Caller),
+    Wait(u64),
+    End,
 }

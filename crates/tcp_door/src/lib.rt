@@ -5,16 +5,23 @@
 // where it is told to, that a connection which was accepted is a user's, and that what it reports is
 // written.
 //
-// It reports each connection and how its serving ended, in a line each. Once its station is to stop
-// (`Stop`), no further link comes, and the link that is out comes to an end.
+// It reports each connection and how its serving ended, in a line each. A connection that hasn't
+// spoken yet is given to nobody; one that is silent for too long is closed. Doors may share a port
+// (`DoorPort`). Once its station is to stop (`Stop`), no further link comes, and the link that is out
+// comes to an end.
 //
-// A call costs what the system takes to accept a connection, and the memory of a link.
+// A call costs what the system takes to accept a connection. Memory is taken when a door is made.
 #![tactic(auto)]
 
+mod callers;
 mod door_link;
+mod door_port;
 mod doorway;
+mod hearing;
 mod log;
 mod tcp_door;
 
 pub use door_link::DoorLink;
+pub use door_port::DoorPort;
+pub use hearing::Limits;
 pub use tcp_door::TcpDoor;

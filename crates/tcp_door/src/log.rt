@@ -1,31 +1,71 @@
 // What a door reports, in lines.
 
+use crate::door_link::Reason;
+use crate::door_port::Taken;
 use door_model::Served;
 use sle_numbers::{Numbered, PeerAbortDiagnostic};
 use std::alloc::{AllocError, Global};
 use std::io;
 use std::net::SocketAddr;
+use std::time::Duration;
 
-// That a connection was made.
+// That a connection was given, and how many of its port's doors are taken, if it has several.
 pub(crate) fn connected(
     alloc: Global,
     door: SocketAddr,
     peer: SocketAddr,
+    taken: Taken,
 ) -> Result<String, AllocError> {
-    format!(in alloc; "door {door}: {peer} connected\n")
+    let Taken { taken, doors } = taken;
+    if doors < 2 {
+        return format!(in alloc; "door {door}: {peer} connected\n");
+    }
+    format!(in alloc; "door {door}: {peer} connected, {taken} of {doors} doors taken\n")
 }
 
-// How the serving of a connection ended, and whether the station is to stop.
+// That a connection said nothing for so long.
+pub(crate) fn never_heard(
+    alloc: Global,
+    door: SocketAddr,
+    peer: SocketAddr,
+    silence: Duration,
+) -> Result<String, AllocError> {
+    let seconds = silence.as_secs();
+    format!(in alloc; "door {door}: {peer} closed: nothing heard for {seconds} s\n")
+}
+
+// That a connection can't be accepted now.
+pub(crate) fn not_accepted(
+    alloc: Global,
+    door: SocketAddr,
+    error: &io::Error,
+) -> Result<String, AllocError> {
+    format!(in alloc; "door {door}: can't accept a connection: {error}; it tries again\n")
+}
+
+// That a door has given its last link.
+pub(crate) fn spent(alloc: Global, door: SocketAddr) -> Result<String, AllocError> {
+    format!(in alloc; "door {door}: gave the last of its connections, and takes no more\n")
+}
+
+// How the serving of a connection ended, and why, where that wasn't its user's matter.
 pub(crate) fn ended(
     alloc: Global,
     door: SocketAddr,
     peer: SocketAddr,
-    is_stopped: bool,
+    reason: Reason,
     served: Served,
 ) -> Result<String, AllocError> {
     let how = ending(alloc, served)?;
-    let why = if is_stopped { "stopped, " } else { "" };
-    format!(in alloc; "door {door}: {peer} ended: {why}{how}\n")
+    match reason {
+        Reason::None => format!(in alloc; "door {door}: {peer} ended: {how}\n"),
+        Reason::Stop if is_cut(served) => format!(in alloc; "door {door}: {peer} ended: stopped\n"),
+        Reason::Stop => format!(in alloc; "door {door}: {peer} ended: stopped, {how}\n"),
+        Reason::Silence(limit) => {
+            let seconds = limit.as_secs();
+            format!(in alloc; "door {door}: {peer} ended: nothing heard for {seconds} s\n")
+        }
+    }
 }
 
 // Why a call failed.
@@ -35,6 +75,11 @@ pub(crate) fn failed(
     error: &io::Error,
 ) -> Result<String, AllocError> {
     format!(in alloc; "door {door}: {error}\n")
+}
+
+// True if a serving ended as it does when the door cuts it off.
+fn is_cut(served: Served) -> bool {
+    matches!(served, Served::PeerClosed | Served::LinkFault)
 }
 
 // How a serving ended, in words.

@@ -1,27 +1,33 @@
 // A door over a TCP listener.
-ghost use Rattle.std.specs.Prelude.{◌≡◌, false};
+ghost use Rattle.std.specs.Prelude.{◌≡◌, false, IfOk};
 
 use crate::door_link::DoorLink;
-use crate::doorway::Doorway;
-use crate::log::{connected, ended, failed};
+use crate::door_port::DoorPort;
+use crate::doorway::{Doorway, Keep};
+use crate::log::{connected, ended, failed, spent};
 use bell::{Bells, Waiter};
 use door_model::{Door, Served};
-use octet_core::{Failed, Faults};
-use operator_side::{Stop, report};
+use octet_core::{Failed, Faults, Memory};
+use operator_side::{Once, Stop, report};
 use std::alloc::Global;
 use std::io::Write;
 use std::marker::Model;
-use std::net::{Net, SocketAddr, TcpListener, TcpStream};
+use std::net::SocketAddr;
 use std::time::Duration;
+use tcp_link::LinkGear;
 
-/// A door over a TCP listener. It shows nothing. It answers that no link comes only where its station
-/// is to stop.
+/// A door over a TCP listener, which other doors may share. It shows nothing. It answers that no link
+/// comes only where its station is to stop, or after its last link.
 ///
 /// Each connection, how its serving ended, and what fails is reported in a line of text.
 #[derive(Drop)]
 pub struct TcpDoor<W: Write + Send + Drop> {
+    alloc: Global,
+    address: SocketAddr,
     way: Doorway,
     reports: W,
+    // What is reported at the first call of the first door.
+    begin: Option<Once>,
     // Where the last connection came from.
     peer: SocketAddr,
     is_out: bool,
@@ -37,45 +43,78 @@ impl<W: Write + Send + Drop> Model for TcpDoor<W> {
 }
 
 impl<W: Write + Send + Drop> TcpDoor<W> {
-    /// A door that listens at this address from now on, whose links wait at most so long in a call,
-    /// and which reports to this writer. Where the address can't be had, its calls fail.
-    pub fn open<R: Net<Stream = TcpStream, Listener = TcpListener>>(
-        rt: &R,
+    /// A door at this port, which waits with this waiter, whose links wait at most so long in a call,
+    /// and which reports to this writer.
+    pub fn new(
         alloc: Global,
-        address: SocketAddr,
+        port: DoorPort,
+        waiter: Waiter,
         wait: Duration,
         reports: W,
-    ) -> TcpDoor<W>
-        ensures { result ≡ record { is_out = false; faults = 0 } }
+    ) -> Result<TcpDoor<W>, Memory>
+        ensures { IfOk result (λ door. door ≡ record { is_out = false; faults = 0 }) }
     {
-        TcpDoor {
-            way: Doorway::open(rt, alloc, address, wait),
+        let gear = LinkGear::new(alloc, waiter)?;
+        let _ = gear.watch(port.descriptor());
+        port.add_door()?;
+        let address = port.address();
+        let keep = Keep {
+            gear,
+            stop: None,
+            bells: None,
+        };
+        Ok(TcpDoor {
+            alloc,
+            address,
+            way: Doorway {
+                port: Some(port),
+                keep: Some(keep),
+                wait,
+                left: u64::MAX,
+            },
             reports,
+            begin: None,
             peer: address,
             is_out: false,
             faults: Faults::new(),
-        }
+        })
     }
 
     /// Has it end at this stop, which a call that waits sees within half a second, or at a ring.
     pub fn end_at(&mut self, stop: Stop)
         ensures { self.new ≡ self.old }
     {
-        self.way.stop = Some(stop);
+        if let Some(keep) = &mut self.way.keep {
+            keep.stop = Some(stop);
+        }
     }
 
-    /// Has it and its links wait with this waiter, and ring these bells if a user may have asked for a
-    /// radiation.
-    pub fn wait_with(&mut self, waiter: Waiter, bells: Bells)
+    /// Has it ring these bells if a user may have asked for a radiation.
+    pub fn ring(&mut self, bells: Bells)
         ensures { self.new ≡ self.old }
     {
-        self.way.wait_with(Ok(waiter));
-        self.way.bells = Some(bells);
+        if let Some(keep) = &mut self.way.keep {
+            keep.bells = Some(bells);
+        }
+    }
+
+    /// Has it give so many links at most.
+    pub fn give_at_most(&mut self, links: u64)
+        ensures { self.new ≡ self.old }
+    {
+        self.way.left = links;
+    }
+
+    /// Has it report that the station began, at its first call, if it is the first door to do so.
+    pub fn tell_begin(&mut self, begin: Once)
+        ensures { self.new ≡ self.old }
+    {
+        self.begin = Some(begin);
     }
 
     /// Where it listens: with the system's port where it was told port 0.
     pub fn address(&self) -> SocketAddr {
-        self.way.address()
+        self.address
     }
 
     /// How often a call has failed.
@@ -91,6 +130,22 @@ impl<W: Write + Send + Drop> TcpDoor<W> {
     }
 }
 
+// Reports that the station began, if that is due.
+fn tell_begin<W: Write>(alloc: Global, begin: &mut Option<Once>, reports: &mut W) {
+    if let Some(begin) = begin.take()
+        && begin.come()
+    {
+        report(reports, format!(in alloc; "station: began\n"));
+    }
+}
+
+// Reports that the door has given its last link, if it has.
+fn tell_last<W: Write>(alloc: Global, door: SocketAddr, way: &Doorway, reports: &mut W) {
+    if way.port.is_none() {
+        report(reports, spent(alloc, door));
+    }
+}
+
 impl<W: Write + Send + Drop> Door for TcpDoor<W> {
     ghost use Rattle.std.specs.Prelude.{None};
 
@@ -102,20 +157,25 @@ impl<W: Write + Send + Drop> Door for TcpDoor<W> {
 
     ghost faults = { λ door. door.faults };
 
-    /// Accepts the next connection, and waits for it. It fails where the address can't be had, the
-    /// system accepts none, or memory for the link is refused, and reports why.
+    /// Gives the next connection that speaks, and waits for it. With its last link the door leaves its
+    /// port, which is closed once no door has it. It fails where the system accepts none
+    /// and no further try helps, and reports why.
     fn next_link(&mut self) -> Result<Option<DoorLink>, Failed> {
-        let (alloc, door) = (self.way.alloc, self.way.address);
-        match self.way.accept_link() {
-            Ok(Some((link, peer))) => {
+        tell_begin(self.alloc, &mut self.begin, &mut self.reports);
+        match self.way.next(&mut self.reports) {
+            Ok(Some(given)) => {
                 self.is_out = true;
-                self.peer = peer;
-                report(&mut self.reports, connected(alloc, door, peer));
-                Ok(Some(link))
+                self.peer = given.peer;
+                report(
+                    &mut self.reports,
+                    connected(self.alloc, self.address, given.peer, given.taken),
+                );
+                tell_last(self.alloc, self.address, &self.way, &mut self.reports);
+                Ok(Some(given.link))
             }
             Ok(None) => Ok(None),
             Err(error) => {
-                report(&mut self.reports, failed(alloc, door, &error));
+                report(&mut self.reports, failed(self.alloc, self.address, &error));
                 self.faults.fail()
             }
         }
@@ -123,12 +183,11 @@ impl<W: Write + Send + Drop> Door for TcpDoor<W> {
 
     /// Has the link send what is left, closes it, and reports how its serving ended.
     fn give_back(&mut self, link: DoorLink, served: Served) {
-        let (alloc, door, peer) = (self.way.alloc, self.way.address, self.peer);
-        let is_stopped = link.is_stopped();
-        self.way.waiter = Ok(link.finish());
+        let reason = link.reason();
+        self.way.take_back(link.finish());
         report(
             &mut self.reports,
-            ended(alloc, door, peer, is_stopped, served),
+            ended(self.alloc, self.address, self.peer, reason, served),
         );
         self.is_out = false;
     }

@@ -1,352 +1,258 @@
-// The octets of the source's lines, as they come.
-ghost use Rattle.std.specs.Prelude.{◌≡◌, ◌≤◌, false, IfOk, IfSome, length};
-ghost use Rattle.recorder.specs.Feeds.{IsValidFeed, is_failed};
+// What is heard of sources.
+ghost use Rattle.std.specs.Prelude.{IfSome};
+ghost use Rattle.recorder.specs.Feeds.{IsValidFeed};
 
-use bell::{Bells, Waiter};
+use crate::line_buffer::LineBuffer;
+use crate::log;
+use crate::log::Fault;
+use crate::pacing::Pacing;
+use crate::sources::{Accepted, Source, Sources};
 use drill_text::{LineFault, ScriptLine, parse_line};
-use memchr::memchr;
 use octet_core::Memory;
-use operator_side::Stop;
+use operator_side::{Listening, Stop, Uptime, is_early, report};
 use recorder::Feed;
 use std::alloc::Global;
 use std::io;
-use std::io::{ErrorKind, Read, Write};
-use std::marker::Model;
-use std::net::{SocketAddr, TcpListener, TcpStream};
-use std::os::fd::{AsRawFd, RawFd};
-use std::time::Duration;
+use std::io::Write;
+use std::os::fd::AsRawFd;
 
-// How often a call waits at most while nothing has come yet, and for how many seconds each time. A
-// stop is looked for after each.
-const WAITS: u32 = 5;
+// For how many milliseconds a call waits at most, and after an error of accepting a connection.
+const WAIT_MILLIS: u64 = 1_000;
 
-const WAIT_SECONDS: u64 = 1;
-
-// How many entries a recorder takes at most before it stores and publishes them.
-const LONGEST_BATCH: u32 = 256;
+const RETRY_MILLIS: u64 = 100;
 
 // The octets of the longest line, a frame's, with its end: a time of 25 characters with
 // picoseconds, a quality of 1, an antenna of 32, a count of 8, and 65,536 octets of two characters
 // each, the word `frame` and a blank before each.
 const LONGEST_LINE: usize = 5 + 26 + 2 + 33 + 9 + 131_073 + 1;
 
-/// The lines of the first connection to a listener, or of one after the other until a stop.
+/// The lines of one source after the other.
 #[derive(Drop)]
-pub struct Heard {
+pub(crate) struct Heard {
     alloc: Global,
-    address: SocketAddr,
-    listener: io::Result<TcpListener>,
-    stop: Option<Stop>,
-    stream: Option<TcpStream>,
-    /// From where a connection came, and at which the stream ended, until these are told.
-    pub came: Option<SocketAddr>,
-    pub ended: Option<SocketAddr>,
-    // Where the connection came from.
-    peer: SocketAddr,
-    // What came of the stream, from `taken` to `end`.
-    octets: Vec<u8>,
-    taken: usize,
-    end: usize,
-    is_over: bool,
-    // Whether the stream broke.
-    is_broken: bool,
-    // How many lines were taken.
-    lines: u64,
-    // What a call waits with, if it may wait, and what is rung after entries were published.
-    waiter: Option<Waiter>,
-    bells: Option<Bells>,
-    // How many entries were given since the recorder began its batch, and whether the next call begins
-    // a batch.
-    given: u32,
-    is_new_batch: bool,
-    // How often the call may still wait.
-    waits: u32,
+    pub sources: Sources,
+    pub pacing: Pacing,
+    /// The stop at which it ends. Without one it ends with its first source.
+    pub stop: Option<Stop>,
+    lines: LineBuffer,
+    // How many lines of the source were taken.
+    count: u64,
+    // What each further call answers, once it has ended.
+    ending: Ending,
 }
 
-impl Model for Heard {
-    ghost use Rattle.std.specs.Prelude.{ℕ, ◌≤◌, length};
+// How it has ended, if it has.
+#[derive(Clone, Copy, PartialEq, Eq)]
+enum Ending {
+    Open,
+    End,
+    Failed,
+}
 
-    ghost Value = { ℕ };
-
-    ghost view = { λ heard. heard.lines };
-
-    ghost invariant = { λ heard. (heard.taken ≤ heard.end)
-        × (heard.end ≤ length heard.octets.items) };
+// What a read came to.
+#[derive(Drop)]
+enum Read {
+    Octets,
+    Nothing,
+    End,
+    NoSource,
+    Broken(io::Error),
 }
 
 impl Heard {
     /// Nothing has come yet.
-    pub fn new(
-        alloc: Global,
-        address: SocketAddr,
-        listener: io::Result<TcpListener>,
-    ) -> Result<Heard, Memory> {
-        let mut octets = Vec::new(alloc);
-        octets.resize(LONGEST_LINE, 0)?;
+    pub fn new(alloc: Global, listening: Listening, time: Uptime) -> Result<Heard, Memory> {
         Ok(Heard {
             alloc,
-            address,
-            listener,
+            sources: Sources::new(alloc, listening, time),
+            pacing: Pacing::new(),
             stop: None,
-            stream: None,
-            came: None,
-            ended: None,
-            peer: address,
-            octets,
-            taken: 0,
-            end: 0,
-            is_over: false,
-            is_broken: false,
-            lines: 0,
-            waiter: None,
-            bells: None,
-            given: 0,
-            is_new_batch: true,
-            waits: 0,
+            lines: LineBuffer::new(alloc, LONGEST_LINE)?,
+            count: 0,
+            ending: Ending::Open,
         })
     }
 
-    /// Has it wait with this waiter if a recorder's step begins and nothing has come yet, and ring
-    /// these bells after entries that it gave were published.
-    pub fn wait_with(&mut self, waiter: Waiter, bells: Bells)
-        ensures { self.new ≡ self.old }
+    /// Takes the next line, or hears more where none is whole: what is answered, or nothing yet. What
+    /// ends a connection is reported.
+    pub fn go_on<W: Write>(&mut self, reports: &mut W) -> Option<Feed>
+        ensures { IfSome result IsValidFeed }
     {
-        if let Ok(listener) = &self.listener
-            && let Err(error) = waiter.watch(listener.as_raw_fd())
-        {
-            self.listener = Err(error);
+        if self.lines.line().is_some() {
+            return self.take_line(reports);
         }
-        self.waiter = Some(waiter);
-        self.bells = Some(bells);
-    }
-
-    /// A call begins. If it is a batch's first, what was given before is published by now, and the
-    /// call may wait.
-    pub fn begin(&mut self)
-        ensures { self.new ≡ self.old }
-    {
-        self.waits = 0;
-        if !self.is_new_batch {
-            return;
+        match self.ending {
+            Ending::Open => {}
+            Ending::End => return Some(Feed::End),
+            Ending::Failed => return Some(Feed::Failed),
         }
-        self.waits = WAITS;
-        if self.given > 0
-            && let Some(bells) = &self.bells
-        {
-            bells.ring_published();
+        if self.is_stopped(reports) {
+            return Some(Feed::End);
         }
-        self.given = 0;
-        self.is_new_batch = false;
-    }
-
-    /// A call ends: with an entry, or without.
-    pub fn end_call(&mut self, is_entry: bool)
-        ensures { self.new ≡ self.old }
-    {
-        self.given = self.given.saturating_add(u32::from(is_entry));
-        self.is_new_batch = !is_entry || self.given >= LONGEST_BATCH;
-    }
-
-    // Waits if it may, and answers whether it did.
-    fn wait(&mut self) -> io::Result<bool>
-        ensures { self.new ≡ self.old }
-    {
-        let (Some(waiter), Some(waits)) = (&mut self.waiter, self.waits.checked_sub(1)) else {
-            return Ok(false);
-        };
-        self.waits = waits;
-        waiter.wait(Duration::from_secs(WAIT_SECONDS))?;
-        Ok(true)
-    }
-
-    // Has it wait for this socket too, if it waits.
-    fn watch(&self, socket: RawFd) -> io::Result<()> {
-        match &self.waiter {
-            Some(waiter) => waiter.watch(socket),
-            None => Ok(()),
+        if self.lines.is_full() {
+            return Some(self.refuse(&Fault::Long, reports));
         }
+        self.hear(reports)
     }
 
-    // Nothing has come yet: waits if it may, and else answers so.
-    fn not_yet(&mut self) -> io::Result<Option<Feed>>
-        ensures valid { IfOk result (λ found. IfSome found IsValidFeed) }
-        ensures sound { IfOk result (λ found. IfSome found (λ feed. is_failed feed ≡ false)) }
-    {
-        if self.wait()? {
-            return Ok(None);
-        }
-        Ok(Some(Feed::NotYet))
-    }
-
-    /// Has it end at this stop, and not where a stream does.
-    pub fn end_at(&mut self, stop: Stop)
-        ensures { self.new ≡ self.old }
-    {
-        self.stop = Some(stop);
-    }
-
-    /// Where it listens: with the system's port where it was told port 0.
-    pub fn address(&self) -> SocketAddr {
-        match &self.listener {
-            Ok(listener) => listener.local_addr().unwrap_or(self.address),
-            Err(_) => self.address,
-        }
-    }
-
-    /// How many lines were taken.
-    pub fn lines(&self) -> u64
-        ensures { result ≡ self.now }
-    {
-        self.lines
-    }
-
-    /// Takes the next line, or hears more where none is whole: what is answered, or nothing yet.
-    pub fn go_on(&mut self) -> io::Result<Option<Feed>>
-        ensures valid { IfOk result (λ found. IfSome found IsValidFeed) }
-        ensures sound { IfOk result (λ found. IfSome found (λ feed. is_failed feed ≡ false)) }
-    {
-        match memchr(b'\n', &self.octets[self.taken..self.end]) {
-            Some(size) => self.take_line(size),
-            None if self.is_over && self.taken < self.end => self.take_line(self.end - self.taken),
-            None if self.is_over => Ok(Some(self.end())),
-            None if self.is_stopped() => Ok(Some(Feed::End)),
-            None => self.hear(),
-        }
-    }
-
-    /// Looks for the stop where no whole line is held, and reports it where it is asked for now.
-    pub fn look<W: Write>(&self, reports: &mut W) {
+    // Looks whether it is to stop.
+    fn is_stopped<W: Write>(&self, reports: &mut W) -> bool {
         match &self.stop {
-            Some(stop) if !self.holds_line() => stop.look(self.alloc, reports),
-            _ => {}
+            Some(stop) => {
+                stop.look(self.alloc, reports);
+                stop.is_asked()
+            }
+            None => false,
         }
     }
 
-    // Whether a whole line is held.
-    fn holds_line(&self) -> bool {
-        memchr(b'\n', &self.octets[self.taken..self.end]).is_some()
-    }
-
-    // Whether it is to stop.
-    fn is_stopped(&self) -> bool {
-        self.stop.as_ref().is_some_and(Stop::is_asked)
-    }
-
-    // What the end of a stream is: the end, or where that is a stop's, nothing yet. The next
-    // connection goes on then.
-    fn end(&mut self) -> Feed
-        ensures valid { IsValidFeed result }
-        ensures sound { is_failed result ≡ false }
+    // What the next line says. It is taken unless memory was refused.
+    fn take_line<W: Write>(&mut self, reports: &mut W) -> Option<Feed>
+        ensures { IfSome result IsValidFeed }
     {
-        if self.stop.is_none() {
-            return Feed::End;
-        }
-        self.stream = None;
-        self.is_over = false;
-        Feed::NotYet
-    }
-
-    // What a line of so many octets says. It is taken unless memory was refused or it is at fault.
-    fn take_line(&mut self, size: usize) -> io::Result<Option<Feed>>
-        ensures valid { IfOk result (λ found. IfSome found IsValidFeed) }
-        ensures sound { IfOk result (λ found. IfSome found (λ feed. is_failed feed ≡ false)) }
-    {
-        let held = &self.octets[self.taken..self.end];
-        let Some(line) = held.get(..size) else {
-            return Ok(None);
-        };
+        let line = self.lines.line()?;
+        let size = line.len();
         let found = match parse_line(self.alloc, line) {
             Ok(ScriptLine::Offer(entry)) => Some(Feed::Entry(entry)),
             Ok(ScriptLine::Skip) => None,
-            Ok(_) | Err(LineFault::Bad) => return Err(ErrorKind::InvalidData.into()),
-            Err(LineFault::Memory) => return Ok(Some(Feed::Memory)),
+            Ok(_) | Err(LineFault::Bad) => return Some(self.refuse(&Fault::Line, reports)),
+            Err(LineFault::Memory) => return Some(Feed::Memory),
         };
-        self.taken = (self.taken + size).saturating_add(1).min(self.end);
-        self.lines = self.lines.saturating_add(1);
-        Ok(found)
+        self.lines.take_line(size);
+        self.count = self.count.saturating_add(1);
+        found
     }
 
-    // Reads what has come behind the octets that are held.
-    fn hear(&mut self) -> io::Result<Option<Feed>>
-        ensures valid { IfOk result (λ found. IfSome found IsValidFeed) }
-        ensures sound { IfOk result (λ found. IfSome found (λ feed. is_failed feed ≡ false)) }
+    // Reads what has come, and answers if there is nothing.
+    fn hear<W: Write>(&mut self, reports: &mut W) -> Option<Feed>
+        ensures { IfSome result IsValidFeed }
     {
-        self.make_room();
-        if self.end == self.octets.len() {
-            return Err(ErrorKind::InvalidData.into());
+        match self.read() {
+            Read::Octets => None,
+            Read::NoSource => self.accept(reports),
+            Read::Nothing => self.look_beside(reports),
+            Read::End => Some(self.end(reports)),
+            Read::Broken(error) => Some(self.refuse(&Fault::Stream(error), reports)),
         }
-        if self.is_broken {
-            return Err(ErrorKind::NotConnected.into());
-        }
-        let Some(stream) = &mut self.stream else {
-            return self.accept();
+    }
+
+    // Reads once.
+    fn read(&mut self) -> Read {
+        let now = self.sources.time.now();
+        let Some(source) = &mut self.sources.heard else {
+            return Read::NoSource;
         };
-        match stream.read(&mut self.octets[self.end..]) {
-            Ok(0) => {
-                self.is_over = true;
-                self.ended = Some(self.peer);
+        match self.lines.read(&mut source.stream) {
+            Ok(0) => Read::End,
+            Ok(_) => {
+                source.last = now;
+                Read::Octets
             }
-            Ok(count) => self.end += count,
-            Err(error) if error.kind() == ErrorKind::Interrupted => {}
-            Err(error) if error.kind() == ErrorKind::WouldBlock => {
-                if self.turn_away() {
-                    return Ok(None);
-                }
-                return self.not_yet();
-            }
-            Err(error) => {
-                self.is_broken = true;
-                return Err(error);
-            }
+            Err(error) if is_early(&error) => Read::Nothing,
+            Err(error) => Read::Broken(error),
         }
-        Ok(None)
     }
 
-    // Moves what is held to the front.
-    fn make_room(&mut self) {
-        let (taken, end) = (self.taken, self.end);
-        self.octets.copy_within(taken..end, 0);
-        self.end = end - taken;
-        self.taken = 0;
-    }
-
-    // Takes the connection that came first, if one did.
-    fn accept(&mut self) -> io::Result<Option<Feed>>
-        ensures valid { IfOk result (λ found. IfSome found IsValidFeed) }
-        ensures sound { IfOk result (λ found. IfSome found (λ feed. is_failed feed ≡ false)) }
+    // Takes the next source, if one has come.
+    fn accept<W: Write>(&mut self, reports: &mut W) -> Option<Feed>
+        ensures { IfSome result IsValidFeed }
     {
-        let listener = match &self.listener {
-            Ok(listener) => listener,
-            Err(error) => return Err(error.kind().into()),
-        };
-        match listener.accept() {
-            Ok((stream, peer)) => {
-                stream.set_nonblocking(true)?;
-                self.watch(stream.as_raw_fd())?;
-                self.stream = Some(stream);
-                self.peer = peer;
-                self.came = Some(peer);
-                self.lines = 0;
-                Ok(None)
+        match self.sources.accept(reports) {
+            Accepted::Source => {
+                self.begin(None, reports);
+                None
             }
-            Err(error) if is_early(&error) => self.not_yet(),
-            Err(error) => Err(error),
+            Accepted::None => self.not_yet(WAIT_MILLIS),
+            Accepted::Passing => self.not_yet(RETRY_MILLIS),
+            Accepted::Never(error) => {
+                let place = self.sources.listening.place();
+                report(reports, log::never(self.alloc, place, &error));
+                self.ending = Ending::Failed;
+                Some(Feed::NotYet)
+            }
         }
     }
 
-    // Closes a connection that came behind the first, and answers whether one did.
-    fn turn_away(&self) -> bool {
-        match &self.listener {
-            Ok(listener) => listener.accept().is_ok(),
-            Err(_) => false,
+    // A source begins, perhaps in place of another.
+    fn begin<W: Write>(&mut self, older: Option<Source>, reports: &mut W) {
+        self.count = 0;
+        let Some(source) = &self.sources.heard else {
+            return;
+        };
+        self.pacing.watch(source.stream.as_raw_fd());
+        let place = self.sources.listening.place();
+        let line = match older {
+            Some(older) => log::follows(self.alloc, place, source.peer, older.peer),
+            None => log::connected(self.alloc, place, source.peer),
+        };
+        report(reports, line);
+    }
+
+    // Nothing has come of the source: another may take its place.
+    fn look_beside<W: Write>(&mut self, reports: &mut W) -> Option<Feed>
+        ensures { IfSome result IsValidFeed }
+    {
+        if !self.sources.has_follower(reports) {
+            return self.not_yet(WAIT_MILLIS);
+        }
+        let older = self.close(reports);
+        if let Accepted::Source = self.sources.accept(reports) {
+            self.begin(older, reports);
+        }
+        None
+    }
+
+    // Nothing has come yet: waits if it may, and else answers so.
+    fn not_yet(&mut self, millis: u64) -> Option<Feed>
+        ensures { IfSome result IsValidFeed }
+    {
+        if self.pacing.wait(millis) {
+            None
+        } else {
+            Some(Feed::NotYet)
         }
     }
-}
 
-// Whether no connection has come yet, or one that is gone.
-fn is_early(error: &io::Error) -> bool {
-    matches!(
-        error.kind(),
-        ErrorKind::WouldBlock | ErrorKind::ConnectionAborted | ErrorKind::Interrupted
-    )
+    // The source's stream has ended: that is the end, or where a stop is, nothing yet.
+    fn end<W: Write>(&mut self, reports: &mut W) -> Feed
+        ensures { IsValidFeed result }
+    {
+        let _ = self.close(reports);
+        if self.stop.is_some() {
+            return Feed::NotYet;
+        }
+        self.ending = Ending::End;
+        Feed::End
+    }
+
+    // Closes the source, and reports that it ended.
+    fn close<W: Write>(&mut self, reports: &mut W) -> Option<Source> {
+        let is_cut = self.lines.clear();
+        let source = self.sources.heard.take()?;
+        let place = self.sources.listening.place();
+        report(
+            reports,
+            log::ended(self.alloc, place, source.peer, self.count, is_cut),
+        );
+        Some(source)
+    }
+
+    // Ends the source's connection at its next line, and reports why. What came before it is stored,
+    // since nothing more has come yet. Without a stop each further call fails.
+    fn refuse<W: Write>(&mut self, fault: &Fault, reports: &mut W) -> Feed
+        ensures { IsValidFeed result }
+    {
+        let _ = self.lines.clear();
+        if let Some(source) = self.sources.heard.take() {
+            let place = self.sources.listening.place();
+            report(
+                reports,
+                log::refused(self.alloc, place, source.peer, self.count, fault),
+            );
+        }
+        if self.stop.is_none() {
+            self.ending = Ending::Failed;
+        }
+        Feed::NotYet
+    }
 }

@@ -10,6 +10,10 @@
 #![tactic(auto)]
 
 mod heard;
+mod line_buffer;
+mod log;
+mod pacing;
+mod sources;
 mod tcp_feed;
 
 pub use tcp_feed::TcpFeed;

@@ -8,9 +8,9 @@
 // ends its wait at a ring.
 //
 // A call costs a system call or two, and one copy of the octets that the system didn't take at
-// once. Memory is taken when a link is made, for the longest block.
+// once. Memory is taken for the longest block: with `LinkGear`, once for one link after the other.
 #![tactic(auto)]
 
 mod tcp_link;
 
-pub use tcp_link::{LONGEST_BLOCK, TcpLink};
+pub use tcp_link::{LONGEST_BLOCK, LinkGear, TcpLink};

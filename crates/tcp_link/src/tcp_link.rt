@@ -11,12 +11,12 @@ ghost use Rattle.tcp_link.specs.LinkState.{unsent_now, IsStillLeft};
 use bell::Waiter;
 use link_model::{Link, Poll};
 use octet_core::{Faults, Offer};
-use std::alloc::Global;
+use std::alloc::{AllocError, Global};
 use std::io;
 use std::io::{ErrorKind, Read, Write};
 use std::marker::Model;
 use std::net::{Shutdown, TcpStream};
-use std::os::fd::AsRawFd;
+use std::os::fd::{AsRawFd, RawFd};
 use std::time::Duration;
 
 /// The octets of the longest block that a link takes: a message of the transport with its head.
@@ -31,6 +31,34 @@ const OFFER_MILLIS: u64 = 5;
 const LAST_WAITS: u32 = 300;
 
 const LAST_MILLIS: u64 = 10;
+
+/// What a link has besides its stream: what it waits with, and room for the longest block. One link
+/// after the other may have it.
+#[derive(Drop)]
+pub struct LinkGear {
+    waiter: Waiter,
+    kept: Vec<u8>,
+}
+
+impl LinkGear {
+    /// Gear with this waiter.
+    pub fn new(alloc: Global, waiter: Waiter) -> Result<LinkGear, AllocError> {
+        Ok(LinkGear {
+            waiter,
+            kept: Vec::with_capacity(alloc, LONGEST_BLOCK)?,
+        })
+    }
+
+    /// Has its waits end at this socket too, until the socket is closed.
+    pub fn watch(&self, socket: RawFd) -> io::Result<()> {
+        self.waiter.watch(socket)
+    }
+
+    /// Waits for a socket or a ring, and at most so long.
+    pub fn wait(&mut self, limit: Duration) -> io::Result<()> {
+        self.waiter.wait(limit)
+    }
+}
 
 /// A link over a TCP stream. It tells none of its calls.
 ///
@@ -99,10 +127,31 @@ impl TcpLink {
         })
     }
 
-    /// Closes the stream, and returns the waiter.
-    pub fn into_waiter(self) -> Waiter {
-        let TcpLink { waiter, .. } = self;
-        waiter
+    /// A link over this stream, whose calls don't wait, with this gear; its polls wait at most so
+    /// long. If the system refuses the stream's settings, a block takes longer to arrive.
+    pub fn over(stream: TcpStream, gear: LinkGear, wait: Duration) -> TcpLink
+        ensures { result ≡ record { unsent = 0; faults = 0; stalls = 0 } }
+    {
+        let LinkGear { waiter, mut kept } = gear;
+        kept.clear();
+        let _ = stream.set_nodelay(true);
+        let _ = waiter.watch(stream.as_raw_fd());
+        TcpLink {
+            stream,
+            waiter,
+            wait,
+            kept,
+            sent: 0,
+            is_busy: false,
+            faults: Faults::new(),
+            stalls: 0,
+        }
+    }
+
+    /// Closes the stream, and returns the gear.
+    pub fn into_gear(self) -> LinkGear {
+        let TcpLink { waiter, kept, .. } = self;
+        LinkGear { waiter, kept }
     }
 
     // Sends of the kept octets what the system takes now, and answers whether all of them are sent.

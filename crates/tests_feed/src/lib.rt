@@ -4,6 +4,8 @@
 #[cfg(test)]
 mod loopback;
 #[cfg(test)]
+mod places;
+#[cfg(test)]
 mod ports;
 #[cfg(test)]
 mod rows;

@@ -1,23 +1,35 @@
 // A source on a port of the system's, and what it answers.
-use octet_core::Memory;
+use operator_side::{Listening, Place, Uptime};
 use record_form::Entry;
 use recorder::{Feed, FrameSource};
-use std::alloc::{AllocError, Global};
+use std::alloc::AllocError;
 use std::io;
 use std::io::Write;
-use std::net::{Net, SocketAddr, TcpListener, TcpStream};
+use std::net::{SocketAddr, TcpStream};
+use std::test::Fail;
 use tcp_feed::TcpFeed;
 
 // How often a source is called at most until what was sent has come.
 const PATIENCE: u32 = 1_000_000;
 
-/// A source that reports to octets.
-pub fn open<R: Net<Stream = TcpStream, Listener = TcpListener>>(
-    rt: &R,
-    alloc: Global,
-    address: SocketAddr,
-) -> Result<TcpFeed<Vec<u8>>, Memory> {
-    TcpFeed::open(rt, alloc, address, Vec::new(alloc))
+// What listens on a port of the system's, and its address.
+fn listen(rt: &HostRuntime) -> Result<(Listening, SocketAddr), Fail> {
+    let listening = Listening::open(rt, Place::Port("127.0.0.1:0".parse()?))?;
+    match listening.place() {
+        Place::Port(address) => {
+            let address = *address;
+            Ok((listening, address))
+        }
+        Place::Path(_) => Err("no port".into()),
+    }
+}
+
+/// A source on a port of the system's, which reports to octets, and its address.
+pub fn open(rt: &HostRuntime) -> Result<(TcpFeed<Vec<u8>>, SocketAddr), Fail> {
+    let (listening, address) = listen(rt)?;
+    let alloc = rt.alloc();
+    let feed = TcpFeed::new(alloc, listening, Uptime::new(rt), Vec::new(alloc))?;
+    Ok((feed, address))
 }
 
 fn word(feed: &Feed) -> &'static str {
@@ -46,14 +58,14 @@ fn hear<F: FrameSource>(feed: &mut F, calls: u32, words: &mut String) -> Result<
 
 /// Sends two pieces to a source, calls it behind each, and closes: what it answers until the end
 /// or a fault, and at one call more.
-pub fn answers<R: Net<Stream = TcpStream, Listener = TcpListener>>(
-    rt: &R,
-    alloc: Global,
+pub fn answers(
+    rt: &HostRuntime,
     feed: &mut TcpFeed<Vec<u8>>,
+    address: SocketAddr,
     pieces: (&[u8], &[u8]),
 ) -> io::Result<String> {
-    let mut words = String::new(alloc);
-    let mut peer = TcpStream::connect(rt, feed.address())?;
+    let mut words = String::new(rt.alloc());
+    let mut peer = TcpStream::connect(rt, address)?;
     peer.write_all(pieces.0)?;
     hear(feed, 10, &mut words)?;
     peer.write_all(pieces.1)?;
@@ -61,4 +73,21 @@ pub fn answers<R: Net<Stream = TcpStream, Listener = TcpListener>>(
     hear(feed, PATIENCE, &mut words)?;
     words.push_str(word(&feed.next()))?;
     Ok(words)
+}
+
+/// The connection of a peer that says this.
+pub fn user(rt: &HostRuntime, address: SocketAddr, said: &[u8]) -> io::Result<TcpStream> {
+    let mut peer = TcpStream::connect(rt, address)?;
+    peer.write_all(said)?;
+    Ok(peer)
+}
+
+/// Whether nothing has come yet.
+pub fn is_early<F: FrameSource>(feed: &mut F) -> bool {
+    matches!(feed.next(), Feed::NotYet)
+}
+
+/// Whether an entry has come.
+pub fn is_entry<F: FrameSource>(feed: &mut F) -> bool {
+    matches!(feed.next(), Feed::Entry(_))
 }

@@ -65,8 +65,8 @@ password 5e6f70819293
 # The archive's file grows to at most this many octets.
 capacity 268435456
 
-# A control centre may ask for heartbeats every 5 to 3600 seconds, and a dead factor of 2 to 100.
-heartbeat 5 3600 2 100
+# A control centre may ask for heartbeats every 5 to 60 seconds, and a dead factor of 2 to 5.
+heartbeat 5 60 2 5
 
 # The service versions that a BIND may ask for.
 versions 4 5
@@ -91,8 +91,8 @@ rcf sagr=1.spack=pass-1.rsl-fg=1.rcf=offl1 SCIENCE offline 1000 0 60 171/0/*
 # Forward CLTU: cltu ID OWNER ROOM LONGEST TIMEOUT. ROOM is how many octets may wait, LONGEST how
 # many a CLTU has at most. A station has one such instance at most.
 cltu sagr=1.spack=pass-1.fsl-fg=1.cltu=cltu1 MOC 1048576 2048 60
- = provider GROUND-1 [94, 111, 112, 129, 146, 147], capacity 268435456, intervals 5 to 3600,
-    factors 2 to 100, versions [4, 5];
+ = provider GROUND-1 [94, 111, 112, 129, 146, 147], capacity 268435456, intervals 5 to 60,
+    factors 2 to 5, versions [4, 5];
     peer MOC Bind SHA-256 60 [161, 178, 195, 212, 229, 246];
     peer SCIENCE Nothing SHA-1 60 [0, 0, 0, 0, 0, 0];
     return instance sagr=1.spack=pass-1.rsl-fg=1.raf=onlt1 of 0, 60 seconds:
