@@ -6,8 +6,11 @@
 // promises of the words that the system gave. No other command than `run` opens a socket.
 #![tactic(auto)]
 
-ghost use Rattle.std.specs.Prelude.{◌≡◌, true, false, None, Some, IfOk, IfSome, OnErr, IsSome, map};
-ghost use Rattle.std.specs.Prelude.{string_bytes};
+ghost use Rattle.std.specs.Prelude.{◌≡◌, true, false, None, Some, IfOk, IfErr, IfSome, OnErr};
+ghost use Rattle.std.specs.Prelude.{IsSome, map, string_bytes};
+ghost use Rattle.std.specs.IoError.{error_kind};
+ghost use Rattle.std.specs.Str.{IsUtf8};
+ghost use Rattle.std.specs.declared.io.ErrorKind.TheVariants.{InvalidInput};
 ghost use Rattle.std.specs.Process.{exit_status};
 ghost use Rattle.disk_model.specs.RawFile.{HasFile};
 ghost use Rattle.run_plan.specs.RunPlan.{IsInRange};
@@ -15,21 +18,27 @@ ghost use Rattle.command_ends.specs.Ends.{IsUntold};
 ghost use Rattle.command_ends.specs.Outside.{showing};
 ghost use Rattle.command_words.specs.Command.{plan_of, asked, NeedsDisk};
 ghost use Rattle.command_words.specs.declared.commands.Plan.TheVariants.{Run};
-ghost use Rattle.provider_commands.specs.Provided.{IsAnswered, IsFileOf, IsOnFile};
-ghost use Rattle.provider_commands.specs.Running.{AreReady};
+ghost use Rattle.provider_commands.specs.Provided.{IsAnswered, IsFileOf, IsOnFile, NamesNoText};
+ghost use Rattle.provider_commands.specs.Running.{AreReady, IsRun, around, senses};
 
+use antenna_core::Antenna;
+use cds_time::Clock;
 use command_ends::{Status, tell};
 use command_words::{Plan, plan, texts_of, words_of};
-use disk_model::FileDisk;
+use door_model::Door;
+use link_model::Link;
 use octet_core::{Octets, ReaderSource, Sink, Source, WriterSink};
-use operator_side::Stamped;
+use operator_side::{Stamped, Uptime};
 use provider_commands::{Equipment, provide_on};
+use recorder::FrameSource;
 use run_host::{
-    LateAntenna, LateFrames, MachineClock, MachineDoor, RunFiles, RunPlace, RunSockets,
-    SocketFault, draw_of, machine_clock, open_files, open_sockets, tell_begin, tell_end, text_of,
+    Capacity, Fullness, KeptInput, LateAntenna, LateFrames, LoggedDisk, MachineClock, MachineDoor,
+    RunFiles, RunPlace, RunSockets, SocketFault, draw_of, machine_clock, open_files, open_sockets,
+    tell_end, text_of,
 };
 use run_plan::RunPlan;
 use std::alloc::{AllocError, Global};
+use std::fs::Files;
 use std::io::Eprint;
 use std::net::{Net, TcpListener, TcpStream};
 use std::process::ExitCode;
@@ -38,26 +47,33 @@ use std::sync::Wait;
 use std::thread::Threads;
 use std::{env, io, rt};
 
+// A source of entries of the machine.
+type MachineFrames<'a, R> = LateFrames<Stamped<'a, R>>;
+
 // What the program runs on.
 type Kit<'a, R, I, O> = Equipment<
     I,
     O,
-    FileDisk,
+    LoggedDisk,
     MachineDoor<'a, R>,
     MachineClock<'a, R>,
-    LateFrames<Stamped<'a, R>>,
-    LateAntenna,
+    MachineFrames<'a, R>,
+    LateAntenna<'a>,
 >;
 
 fn main(rt: HostRuntime) -> ExitCode {
     let alloc = rt.alloc();
+    let capacity = Capacity::new(alloc).ok();
     let mut kit = Equipment {
-        input: ReaderSource::new(rt.reader()),
+        input: KeptInput::new(alloc, ReaderSource::new(rt.reader()), shared(&capacity)),
         output: WriterSink::new(io::writer(&rt)),
         disk: None,
         doors: Vec::new(alloc),
         clocks: Vec::new(alloc),
-        frames: LateFrames { feed: None },
+        frames: LateFrames {
+            feed: None,
+            fullness: None,
+        },
         antenna: LateAntenna::none(),
         antenna_clock: machine_clock(&rt),
         draw: 0,
@@ -68,22 +84,35 @@ fn main(rt: HostRuntime) -> ExitCode {
         files: &rt,
         rt: &rt,
         alloc,
+        capacity,
     };
     host.exit_of(words, &mut kit)
 }
 
+// The same capacity, for another that sees it.
+fn shared(capacity: &Option<Capacity>) -> Option<Capacity> {
+    match capacity {
+        Some(capacity) => capacity.share().ok(),
+        None => None,
+    }
+}
+
 // The disk over a new file at this path.
-fn made(files: &HostRuntime, path: &Octets) -> io::Result<FileDisk>
-    ensures { IfOk result (λ disk. HasFile path.now true disk.file None) }
+fn made(files: &HostRuntime, path: &Octets) -> io::Result<LoggedDisk>
+    ensures file { IfOk result (λ disk. HasFile path.now true disk.file None) }
+    ensures no_text { IfErr result (λ error. ¬ IsUtf8 path.now
+        → error_kind error ≡ InvalidInput) }
 {
-    FileDisk::create(files, text_of(path)?)
+    LoggedDisk::create(files, text_of(path)?)
 }
 
 // The disk over the file at this path.
-fn opened(files: &HostRuntime, path: &Octets) -> io::Result<FileDisk>
-    ensures { IfOk result (λ disk. HasFile path.now false disk.file None) }
+fn opened(files: &HostRuntime, path: &Octets) -> io::Result<LoggedDisk>
+    ensures file { IfOk result (λ disk. HasFile path.now false disk.file None) }
+    ensures no_text { IfErr result (λ error. ¬ IsUtf8 path.now
+        → error_kind error ≡ InvalidInput) }
 {
-    FileDisk::open(files, text_of(path)?)
+    LoggedDisk::open(files, text_of(path)?)
 }
 
 // The machine that the program runs on: its files, and its threads, sockets and clock.
@@ -92,6 +121,8 @@ struct Host<'a, R> {
     files: &'a HostRuntime,
     rt: &'a R,
     alloc: Global,
+    // What a run's configuration says of its archive's capacity.
+    capacity: Option<Capacity>,
 }
 
 impl<'a, R> Host<'a, R>
@@ -99,6 +130,7 @@ where
     R: Threads
         + Wait
         + rt::Clock
+        + Files
         + Net<Stream = TcpStream, Listener = TcpListener>
         + RandomSource
         + Eprint
@@ -111,7 +143,16 @@ where
         kit: &mut Kit<'a, R, I, O>,
     ) -> ExitCode
         requires { kit.old.passes ≡ None }
-        ensures answered { IfOk words (λ words. IsAnswered (plan_of (map string_bytes words.items))
+        ensures answered { IfOk words (λ words. IsAnswered
+            (senses ⟦<MachineFrames<'a, R> as FrameSource>⟧.answers
+            ⟦<MachineFrames<'a, R> as FrameSource>⟧.faults ⟦<LateAntenna<'a> as Antenna>⟧.sent
+            ⟦<LateAntenna<'a> as Antenna>⟧.faults ⟦<MachineDoor<'a, R> as Door>⟧.shown
+            ⟦<MachineDoor<'a, R> as Door>⟧.faults
+            ⟦<<MachineDoor<'a, R> as Door>::Link as Link>⟧.calls
+            ⟦<<MachineDoor<'a, R> as Door>::Link as Link>⟧.faults
+            ⟦<MachineClock<'a, R> as Clock>⟧.readings)
+            (plan_of (map string_bytes words.items))
+            (around kit.old) (around kit.new) kit.new.disk kit.new.passes
             (showing (I.left kit.old.input) (I.faults kit.old.input)
             (O.written kit.old.output) (O.faults kit.old.output))
             (showing (I.left kit.new.input) (I.faults kit.new.input)
@@ -121,18 +162,26 @@ where
             (O.faults kit.old.output) (O.faults kit.new.output) (exit_status result)) }
         ensures unread { OnErr words (kit.new.input ≡ kit.old.input) }
     {
-        let exit = match words {
-            Ok(words) => self.answer(words.as_slice(), kit),
-            Err(_) => Status::Memory.code(),
-        };
-        ExitCode::from(exit)
+        match words {
+            Ok(words) => ExitCode::from(self.answer(words.as_slice(), kit)),
+            Err(_) => ExitCode::from(Status::Memory.code()),
+        }
     }
 
     // Runs the command of these words on the kit, and on the file that they name, and answers its exit
     // code.
     fn answer<I: Source, O: Sink>(&self, words: &[String], kit: &mut Kit<'a, R, I, O>) -> u8
         requires { kit.old.passes ≡ None }
-        ensures { IsAnswered (plan_of (map string_bytes words.now))
+        ensures { IsAnswered
+            (senses ⟦<MachineFrames<'a, R> as FrameSource>⟧.answers
+            ⟦<MachineFrames<'a, R> as FrameSource>⟧.faults ⟦<LateAntenna<'a> as Antenna>⟧.sent
+            ⟦<LateAntenna<'a> as Antenna>⟧.faults ⟦<MachineDoor<'a, R> as Door>⟧.shown
+            ⟦<MachineDoor<'a, R> as Door>⟧.faults
+            ⟦<<MachineDoor<'a, R> as Door>::Link as Link>⟧.calls
+            ⟦<<MachineDoor<'a, R> as Door>::Link as Link>⟧.faults
+            ⟦<MachineClock<'a, R> as Clock>⟧.readings)
+            (plan_of (map string_bytes words.now))
+            (around kit.old) (around kit.new) kit.new.disk kit.new.passes
             (showing (I.left kit.old.input) (I.faults kit.old.input)
             (O.written kit.old.output) (O.faults kit.old.output))
             (showing (I.left kit.new.input) (I.faults kit.new.input)
@@ -149,7 +198,16 @@ where
     // there is none, no other command does.
     fn provide_asked<I: Source, O: Sink>(&self, words: &[&str], kit: &mut Kit<'a, R, I, O>) -> u8
         requires { kit.old.passes ≡ None }
-        ensures { IsAnswered (asked words.now)
+        ensures { IsAnswered
+            (senses ⟦<MachineFrames<'a, R> as FrameSource>⟧.answers
+            ⟦<MachineFrames<'a, R> as FrameSource>⟧.faults ⟦<LateAntenna<'a> as Antenna>⟧.sent
+            ⟦<LateAntenna<'a> as Antenna>⟧.faults ⟦<MachineDoor<'a, R> as Door>⟧.shown
+            ⟦<MachineDoor<'a, R> as Door>⟧.faults
+            ⟦<<MachineDoor<'a, R> as Door>::Link as Link>⟧.calls
+            ⟦<<MachineDoor<'a, R> as Door>::Link as Link>⟧.faults
+            ⟦<MachineClock<'a, R> as Clock>⟧.readings)
+            (asked words.now)
+            (around kit.old) (around kit.new) kit.new.disk kit.new.passes
             (showing (I.left kit.old.input) (I.faults kit.old.input)
             (O.written kit.old.output) (O.faults kit.old.output))
             (showing (I.left kit.new.input) (I.faults kit.new.input)
@@ -175,14 +233,25 @@ where
     fn provide_found<I: Source, O: Sink>(
         &self,
         words: &[&str],
-        found: io::Result<FileDisk>,
+        found: io::Result<LoggedDisk>,
         kit: &mut Kit<'a, R, I, O>,
     ) -> u8
         requires needs { NeedsDisk (asked words.now) }
+        requires other { ¬ IsRun (asked words.now) }
         requires file { IfOk found (λ disk. IsFileOf (asked words.now) disk.file) }
-        requires ready { AreReady (asked words.now) kit.old.doors.items kit.old.clocks.items
-            kit.old.passes }
-        ensures { IsAnswered (asked words.now)
+        requires no_text { IfErr found (λ error. NamesNoText (asked words.now)
+            → error_kind error ≡ InvalidInput) }
+        requires first { kit.old.passes ≡ None }
+        ensures { IsAnswered
+            (senses ⟦<MachineFrames<'a, R> as FrameSource>⟧.answers
+            ⟦<MachineFrames<'a, R> as FrameSource>⟧.faults ⟦<LateAntenna<'a> as Antenna>⟧.sent
+            ⟦<LateAntenna<'a> as Antenna>⟧.faults ⟦<MachineDoor<'a, R> as Door>⟧.shown
+            ⟦<MachineDoor<'a, R> as Door>⟧.faults
+            ⟦<<MachineDoor<'a, R> as Door>::Link as Link>⟧.calls
+            ⟦<<MachineDoor<'a, R> as Door>::Link as Link>⟧.faults
+            ⟦<MachineClock<'a, R> as Clock>⟧.readings)
+            (asked words.now)
+            (around kit.old) (around kit.new) kit.new.disk kit.new.passes
             (showing (I.left kit.old.input) (I.faults kit.old.input)
             (O.written kit.old.output) (O.faults kit.old.output))
             (showing (I.left kit.new.input) (I.faults kit.new.input)
@@ -201,14 +270,24 @@ where
         &self,
         rt: &Q,
         words: &[&str],
-        disk: Option<FileDisk>,
+        disk: Option<LoggedDisk>,
         kit: &mut Kit<'a, R, I, O>,
     ) -> u8
         requires given { NeedsDisk (asked words.now) → IsSome disk }
         requires file { IfSome disk (λ disk. IsFileOf (asked words.now) disk.file) }
         requires ready { AreReady (asked words.now) kit.old.doors.items kit.old.clocks.items
             kit.old.passes }
-        ensures { IsOnFile (asked words.now)
+        requires first { kit.old.passes ≡ None }
+        ensures { IsOnFile
+            (senses ⟦<MachineFrames<'a, R> as FrameSource>⟧.answers
+            ⟦<MachineFrames<'a, R> as FrameSource>⟧.faults ⟦<LateAntenna<'a> as Antenna>⟧.sent
+            ⟦<LateAntenna<'a> as Antenna>⟧.faults ⟦<MachineDoor<'a, R> as Door>⟧.shown
+            ⟦<MachineDoor<'a, R> as Door>⟧.faults
+            ⟦<<MachineDoor<'a, R> as Door>::Link as Link>⟧.calls
+            ⟦<<MachineDoor<'a, R> as Door>::Link as Link>⟧.faults
+            ⟦<MachineClock<'a, R> as Clock>⟧.readings)
+            (asked words.now)
+            (around kit.old) (around kit.new) kit.new.disk kit.new.passes
             (showing (I.left kit.old.input) (I.faults kit.old.input)
             (O.written kit.old.output) (O.faults kit.old.output))
             (showing (I.left kit.new.input) (I.faults kit.new.input)
@@ -229,7 +308,16 @@ where
         requires asks { asked words.now ≡ Some (Run run.now) }
         requires range { IsInRange run.now }
         requires first { kit.old.passes ≡ None }
-        ensures { IsAnswered (asked words.now)
+        ensures { IsAnswered
+            (senses ⟦<MachineFrames<'a, R> as FrameSource>⟧.answers
+            ⟦<MachineFrames<'a, R> as FrameSource>⟧.faults ⟦<LateAntenna<'a> as Antenna>⟧.sent
+            ⟦<LateAntenna<'a> as Antenna>⟧.faults ⟦<MachineDoor<'a, R> as Door>⟧.shown
+            ⟦<MachineDoor<'a, R> as Door>⟧.faults
+            ⟦<<MachineDoor<'a, R> as Door>::Link as Link>⟧.calls
+            ⟦<<MachineDoor<'a, R> as Door>::Link as Link>⟧.faults
+            ⟦<MachineClock<'a, R> as Clock>⟧.readings)
+            (asked words.now)
+            (around kit.old) (around kit.new) kit.new.disk kit.new.passes
             (showing (I.left kit.old.input) (I.faults kit.old.input)
             (O.written kit.old.output) (O.faults kit.old.output))
             (showing (I.left kit.new.input) (I.faults kit.new.input)
@@ -255,7 +343,16 @@ where
         requires asks { asked words.now ≡ Some (Run run.now) }
         requires range { IsInRange run.now }
         requires first { kit.old.passes ≡ None }
-        ensures { IsAnswered (asked words.now)
+        ensures { IsAnswered
+            (senses ⟦<MachineFrames<'a, R> as FrameSource>⟧.answers
+            ⟦<MachineFrames<'a, R> as FrameSource>⟧.faults ⟦<LateAntenna<'a> as Antenna>⟧.sent
+            ⟦<LateAntenna<'a> as Antenna>⟧.faults ⟦<MachineDoor<'a, R> as Door>⟧.shown
+            ⟦<MachineDoor<'a, R> as Door>⟧.faults
+            ⟦<<MachineDoor<'a, R> as Door>::Link as Link>⟧.calls
+            ⟦<<MachineDoor<'a, R> as Door>::Link as Link>⟧.faults
+            ⟦<MachineClock<'a, R> as Clock>⟧.readings)
+            (asked words.now)
+            (around kit.old) (around kit.new) kit.new.disk kit.new.passes
             (showing (I.left kit.old.input) (I.faults kit.old.input)
             (O.written kit.old.output) (O.faults kit.old.output))
             (showing (I.left kit.new.input) (I.faults kit.new.input)
@@ -267,26 +364,47 @@ where
             Err(error) => return provide_on(self.rt, self.alloc, words, Err(error), kit),
         };
         kit.antenna = LateAntenna::over(antenna);
-        match open_sockets(self.rt, self.alloc, run, place) {
-            Ok(sockets) => self.provide_wired(words, disk, sockets, kit),
+        match open_sockets(self.rt, self.alloc, Uptime::new(self.files), run, place) {
+            Ok(sockets) => {
+                kit.frames.fullness = self.fullness_of(run);
+                self.provide_wired(words, disk, sockets, kit)
+            }
             Err(SocketFault::Port) => tell(b"read fault\n", Status::ReadFault, &mut kit.output),
             Err(SocketFault::Wait) => tell(b"read fault\n", Status::ReadFault, &mut kit.output),
             Err(SocketFault::Memory) => Status::Memory.code(),
         }
     }
 
+    // What watches a run's archive, by the capacity that its configuration will say.
+    fn fullness_of(&self, run: &RunPlan) -> Option<Fullness> {
+        let capacity = self.capacity.as_ref()?;
+        capacity.ask();
+        Fullness::new(self.files, &run.path, capacity)
+    }
+
     // Runs the station of the words over its file and its sockets.
     fn provide_wired<I: Source, O: Sink>(
         &self,
         words: &[&str],
-        disk: FileDisk,
+        disk: LoggedDisk,
         sockets: RunSockets<'a, R>,
         kit: &mut Kit<'a, R, I, O>,
     ) -> u8
+        requires runs { IsRun (asked words.now) }
         requires file { IsFileOf (asked words.now) disk.file }
         requires ready { AreReady (asked words.now) sockets.doors.items sockets.clocks.items
             kit.old.passes }
-        ensures { IsOnFile (asked words.now)
+        requires first { kit.old.passes ≡ None }
+        ensures { IsOnFile
+            (senses ⟦<MachineFrames<'a, R> as FrameSource>⟧.answers
+            ⟦<MachineFrames<'a, R> as FrameSource>⟧.faults ⟦<LateAntenna<'a> as Antenna>⟧.sent
+            ⟦<LateAntenna<'a> as Antenna>⟧.faults ⟦<MachineDoor<'a, R> as Door>⟧.shown
+            ⟦<MachineDoor<'a, R> as Door>⟧.faults
+            ⟦<<MachineDoor<'a, R> as Door>::Link as Link>⟧.calls
+            ⟦<<MachineDoor<'a, R> as Door>::Link as Link>⟧.faults
+            ⟦<MachineClock<'a, R> as Clock>⟧.readings)
+            (asked words.now)
+            (around kit.old) (around kit.new) kit.new.disk kit.new.passes
             (showing (I.left kit.old.input) (I.faults kit.old.input)
             (O.written kit.old.output) (O.faults kit.old.output))
             (showing (I.left kit.new.input) (I.faults kit.new.input)
@@ -295,13 +413,10 @@ where
     {
         kit.doors = sockets.doors;
         kit.clocks = sockets.clocks;
-        kit.frames = LateFrames {
-            feed: Some(sockets.frames),
-        };
+        kit.frames.feed = Some(sockets.frames);
         kit.antenna_clock = sockets.antenna_clock;
         kit.antenna.bells = Some(sockets.bells);
         kit.draw = draw_of(self.rt);
-        tell_begin(self.rt, self.alloc);
         self.provide_over(&sockets.resting, words, Some(disk), kit)
     }
 }
