@@ -24,7 +24,7 @@ return_pdu ReturnNumbers subcarrier|return_pdu ReturnNumbers carrier
 return_pdu ReturnNumbers production
 sle_common Parameter Mode|sle_common Parameter Cycle|sle_common Parameter Quality
 fcltu_service CltuInvocation Get|raf_service RafInvocation Get|rcf_service RcfInvocation Get
-return_service ReturnService.parameter name
+return_service ReturnInvocation Get
 user_lines Told Aborted
 explain_lines StreamLine Aborted|explain_lines StreamLine Parameter
 explain_words put_locks locks|explain_words put_statuses production
@@ -48,7 +48,9 @@ fcltu_pdu * invoke|return_pdu * invoke|fcltu_pdu Throw event
 fcltu_service CltuAnswer.returned invoke|fcltu_service CltuParameter ReportingCycle
 fcltu_service CltuParameter ReturnTimeout|fcltu_service Fcltu.new timeout
 raf_service Raf.new timeout|rcf_service Rcf.new timeout|report_cycle Schedule cycle
-return_service ReturnService.new timeout
+return_service ReturnService.new timeout|session_services ServiceState.new timeout
+session_services Invocation.invoke ->|session_services put_fcltu_answer invoke
+session_services put_return_answer invoke
 archive_commands init_archive ->|archive_commands list_archive ->|script_commands drill ->
 script_commands rehearse ->|script_commands put_bad_site cause|command_ends tell ->
 command_ends Status.code ->|provider_commands provide_on ->|provider_commands provide ->
@@ -58,9 +60,10 @@ user_lines Tag.number ->|user_lines Told invoke|user_lines Told name
 explain_cli Status.code ->|explain_lines StreamLine tag|explain_words put_name number
 explain_words put_why number|explain_words put_invoker invoke|explain_words put_performer invoke
 run_plan Ports.as_slice ->|run_plan Ports.push port|run_plan RunPlan feed|user_words Plan port
-run_host RunPlace stop|run_host tell_end exit
+run_host tell_end exit
 run_command run ->|run_command RunStatus.code ->|run_command RunStatus cause
 user_show Ending.code ->|user_task Task.put invoke|user_core Event invoke|user_core Awaited invoke
+user_task Invocation Schedule|user_task Work report|user_task Work.report ->|user_words Asked report
 capture_cli Place connection|capture_cli Status.code ->|line_meaning Ending cause
 picture_cli Status.code ->
 """

@@ -143,6 +143,83 @@ pub const ASKED_TO_SEND: &str = "\
 3 asked:=
 ";
 
+/// One who wants status reports: they are asked for once, after START's positive return, and their
+/// return decides nothing.
+pub const REPORTED: &str = "\
+0:=CONTEXT, BIND
+1: BR=START| ok 101
+2: A1=| frame 20000/1000/0 0 -1 41 0010a1
+3: SR=SCHEDULE-1| ok 1
+4: SCHEDULED-1=| ok 5
+5: a917 8000 020101 020102 020103 020100 020101 020102 020100=| report 1 2 3 0 1 2 0
+6: SR=| ok 1
+7: EOD=STOP-2| end
+8: SCHEDULED-1=| ok 5
+9: STOPPED-2=UNBIND| ok 3
+10: UNBOUND=| ok 103| Done
+new
+0:=CONTEXT, BIND
+1: BR=START| ok 101
+2: SR=SCHEDULE-1| ok 1
+3: a50a 8000 020101 a103 810102=| no 5 2
+4: A1=| frame 20000/1000/0 0 -1 41 0010a1
+5 asked:=STOP-2
+6: STOPPED-2=UNBIND| ok 3
+7: UNBOUND=| ok 103| Done
+new
+0:=CONTEXT, BIND
+1: BR=START| ok 101
+2: NO-START=| no 1 4| Refused
+new
+0:=CONTEXT, BIND
+1: BR=START| ok 101
+2: a107 8000 020101 8000=| ok 1
+3: EOD=| end
+4: SR=SCHEDULE-1, STOP-2| ok 1
+5: STOPPED-2=UNBIND| ok 3
+6: UNBOUND=| ok 103| Done
+new
+0:=CONTEXT, BIND
+1: BR=START| ok 101
+2 asked:=
+3: SR=SCHEDULE-1, STOP-2| ok 1
+4: STOPPED-2, SCHEDULED-1=UNBIND| ok 3| ok 5
+5: UNBOUND=| ok 103| Done
+";
+
+pub const REPORTED_RCF: &str = "\
+0:=CONTEXT, BIND-RCF
+1: BR=START-RCF| ok 101
+2: SR=a408 8000 020101 810102| ok 1
+3: SCHEDULED-1=| ok 5
+4: a914 8000 020102 020103 020103 020103 020103 020100=| report 2 3 3 3 3 0
+5: EOD=STOP-2| end
+";
+
+/// One who sends no telecommand, and wants status reports.
+pub const REPORTED_NO_CLTU: &str = "\
+0:=CONTEXT, BIND-CLTU
+1: BR=START-CLTU| ok 101
+2: SF=SCHEDULE-1, STOP-2| ok 1
+3: SCHEDULED-1=| ok 5
+4: STOPPED-2=UNBIND| ok 3
+5: UNBOUND=| ok 103| Done
+";
+
+/// One who sends the telecommands 7 and 8, and wants status reports: telecommands have the numbers
+/// after theirs, and what STOP waits for comes after the last of them.
+pub const REPORTED_CLTUS: &str = "\
+0:=CONTEXT, BIND-CLTU
+1: BR=START-CLTU| ok 101
+2: SF=SCHEDULE-600, TRANSFER-7-2| ok 1
+3: EMPTY-8=| notice 5
+4: ab0e 8000 020102 020108 020203e5 8000=TRANSFER-8-3| ok 11 8 997
+5: SCHEDULED-1=| ok 5
+6: ab0e 8000 020103 020109 020203e2 8000=| ok 11 9 994
+7: EMPTY-7=| notice 5
+8: EMPTY-8=a205 8000 020104| notice 5
+";
+
 /// One who receives good frames of a second.
 pub const SOME: &str = "\
 0:=CONTEXT, BIND

@@ -38,18 +38,36 @@ const ALL: Work = Work::Raf {
     start: None,
     stop: None,
     quality: RequestedFrameQuality::AllFrames,
+    report: None,
+};
+
+// All frames, and a status report each 30 seconds.
+const ALL_REPORTED: Work = Work::Raf {
+    start: None,
+    stop: None,
+    quality: RequestedFrameQuality::AllFrames,
+    report: Some(30),
 };
 
 const SOME: Work = Work::Raf {
     start: Some(EARLIEST),
     stop: Some(LATEST),
     quality: RequestedFrameQuality::GoodFramesOnly,
+    report: None,
 };
 
 const ONE_CHANNEL: Work = Work::Rcf {
     start: None,
     stop: None,
     channel: CHANNEL,
+    report: None,
+};
+
+const CHANNEL_REPORTED: Work = Work::Rcf {
+    start: None,
+    stop: None,
+    channel: CHANNEL,
+    report: Some(2),
 };
 
 // Telecommand 7 may be radiated at any time; the others not before 20000/0/0, and a notice of their
@@ -65,7 +83,7 @@ fn line_of(alloc: Global, place: u32) -> Result<CltuLine, Memory> {
     })
 }
 
-fn telecommands(alloc: Global, count: u32) -> Result<Work, Memory> {
+fn telecommands(alloc: Global, count: u32, report: Option<u16>) -> Result<Work, Memory> {
     let mut lines = Vec::new(alloc);
     for place in 0..count {
         lines.push(line_of(alloc, place)?)?;
@@ -73,6 +91,7 @@ fn telecommands(alloc: Global, count: u32) -> Result<Work, Memory> {
     Ok(Work::Cltu {
         first: 7,
         cltus: Cltus::from_lines(lines),
+        report,
     })
 }
 
@@ -81,9 +100,13 @@ fn work_of(alloc: Global, name: &str) -> Result<Work, Memory> {
         "raf" => Ok(ALL),
         "raf-some" => Ok(SOME),
         "rcf" => Ok(ONE_CHANNEL),
-        "cltu-0" => telecommands(alloc, 0),
-        "cltu-1" => telecommands(alloc, 1),
-        "cltu-2" => telecommands(alloc, 2),
+        "raf-report" => Ok(ALL_REPORTED),
+        "rcf-report" => Ok(CHANNEL_REPORTED),
+        "cltu-0" => telecommands(alloc, 0, None),
+        "cltu-1" => telecommands(alloc, 1, None),
+        "cltu-2" => telecommands(alloc, 2, None),
+        "cltu-0-report" => telecommands(alloc, 0, Some(30)),
+        "cltu-2-report" => telecommands(alloc, 2, Some(600)),
         "show-rcf" => Ok(Work::Show {
             service: ServiceType::RtnChFrames,
         }),

@@ -58,13 +58,17 @@ fn wrong_line_of<'a>(alloc: Global, task: &str, scripts: &'a str) -> Result<Opti
 }
 
 // A task and its scripts.
-const SCRIPTS: [(&str, &str); 12] = [
+const SCRIPTS: [(&str, &str); 16] = [
     ("show-raf", scripts::SHOWN),
     ("raf", scripts::RAF),
     ("raf", scripts::BEATING),
     ("raf", scripts::ASKED),
     ("show-raf", scripts::ASKED_TO_SHOW),
     ("cltu-1", scripts::ASKED_TO_SEND),
+    ("raf-report", scripts::REPORTED),
+    ("rcf-report", scripts::REPORTED_RCF),
+    ("cltu-0-report", scripts::REPORTED_NO_CLTU),
+    ("cltu-2-report", scripts::REPORTED_CLTUS),
     ("raf-some", scripts::SOME),
     ("cltu-0", scripts::NO_CLTU),
     ("cltu-1", scripts::ONE_CLTU),

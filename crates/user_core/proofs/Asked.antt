@@ -1,7 +1,7 @@
 -- Once it is asked to end, a user of frames always awaits a return.
-use Rattle.std.proofs.Common.{◌≡◌, ◌⊎◌, inl, inr, ⊎_elim, ℕ, ◌+◌, ◌==◌, Bool, true, false, Option, Some}
-use Rattle.std.proofs.Common.{None, List, [], ◌∷◌, ◌&&◌, ◌||◌, refl, sym, ap, subst, ◌∙◌}
-use Rattle.std.specs.Prelude.{if◌then◌else◌, is_some, length}
+use Rattle.std.proofs.Common.{◌≡◌, ◌⊎◌, inl, inr, ⊎_elim, ℕ, ◌+◌, ◌-◌, ◌<◌, ◌==◌, Bool, true, false, Option, Some}
+use Rattle.std.proofs.Common.{None, List, [], ◌∷◌, ◌&&◌, ◌||◌, refl, sym, ap, subst, ◌∙◌, arith}
+use Rattle.std.specs.Prelude.{if◌then◌else◌, is_some, length, slice_get}
 use Rattle.std.specs.List.{list_any}
 use Rattle.isp1_tml.specs.Fault.{capped}
 use Rattle.isp1_tml.specs.Message.{Content, spelling}
@@ -10,16 +10,20 @@ use Rattle.user_lines.specs.Told.{told_in}
 use Rattle.user_task.specs.declared.task.Task.{Task}
 use Rattle.user_task.specs.declared.work.Work.{Work}
 use Rattle.user_task.specs.declared.work.Work.TheVariants.{Show, Raf, Rcf, Cltu}
-use Rattle.user_task.specs.Invocation.{Said, bind, start, transfer, stop, unbind, invocation_at}
-use Rattle.user_task.specs.Work.{is_show, service_of, cltus_of}
+use Rattle.user_task.specs.declared.cltus.CltuLine.{CltuLine}
+use Rattle.user_task.specs.Invocation.{Said, bind, start, schedule, transfer, stop, unbind}
+use Rattle.user_task.specs.Invocation.{closing_at, forward_by, started_at, invocation_at}
+use Rattle.user_task.specs.Work.{is_show, service_of, report_of, cltus_of}
 use Rattle.user_core.specs.declared.course.Course.{Course}
 use Rattle.user_core.specs.declared.event.Event.{Event}
 use Rattle.user_core.specs.declared.event.Event.TheVariants.{Nothing, Returned, Halted, Emptied}
 use Rattle.user_core.specs.declared.event.Event.TheVariants.{EndOfData, Aborted}
 use Rattle.user_core.specs.Event.{event_of}
 use Rattle.user_core.specs.Course.{is_over, rests, after, answered, aborted, closes, finished_by}
-use Rattle.user_core.specs.Course.{is_awaited, has_begun, was_last, may_say, receives}
-use Rattle.user_core.specs.Dialogue.{Talk, said_to, next_said, went_on, told_to, heard, heard_by}
+use Rattle.user_core.specs.Course.{is_awaited, has_begun, was_last, may_say, receives, awaited_of}
+use Rattle.user_core.specs.Course.{invoke_at}
+use Rattle.user_core.specs.Dialogue.{Talk, said_to, next_said, reports_by, reporting, going_on, went_on}
+use Rattle.user_core.specs.Dialogue.{told_to, heard, heard_by}
 use Rattle.user_core.specs.Dialogue.{refused_at, closed_by, opened, begun, beats, beating, bad_at}
 use Rattle.user_core.specs.Dialogue.{asked_to, in_course}
 use Rattle.user_core.specs.Hearing.{Kept, Hearing, nothing, came, ended, heard_all, heard_in, unread_in}
@@ -55,26 +59,138 @@ finished_closing : (show : Bool) (c : Course) → show ≡ false → c.closing �
 finished_closing true c invokes is = absurd cc
 finished_closing false c invokes is = record { closing = is; rest = refl }
 
+-- what asks for reports comes at one place, and it alone awaits no return
+abbrev is_report : Option Said → Bool
+is_report (Some (schedule cycle)) = true
+is_report _ = false
+
+rests_after : (s : Said) (invoke : ℕ) → is_report (Some s) ≡ false
+    → is_some (awaited_of s invoke) ≡ true
+rests_after bind invoke other = refl
+rests_after start invoke other = refl
+rests_after (schedule cycle) invoke other = absurd cc
+rests_after (transfer line) invoke other = refl
+rests_after stop invoke other = refl
+rests_after unbind invoke other = refl
+
+closing_by_no : (a b : Bool)
+    → is_report (if a then Some stop else if b then Some unbind else None) ≡ false
+closing_by_no true b = refl
+closing_by_no false true = refl
+closing_by_no false false = refl
+
+forward_no : (left : ℕ) (line : Option CltuLine) → is_report (forward_by left line) ≡ false
+forward_no left (Some line) = refl
+forward_no left None = closing_by_no (left == 0) (left == 1)
+
+started_no : (report : Option ℕ) (cltus : List CltuLine) (place : ℕ) → (place == 0) ≡ false
+    → is_report (started_at report cltus place) ≡ false
+started_no None cltus place is = forward_no (place - length cltus) (slice_get cltus place)
+started_no (Some cycle) cltus place is =
+    rw is (forward_no (place - 1 - length cltus) (slice_get cltus (place - 1)))
+
+later_by : (work : Work) (place : ℕ) (show first second : Bool) → (place - 2 == 0) ≡ false
+    → is_report (if show then None else if first then Some bind
+    else if second then Some start
+    else started_at (report_of work) (cltus_of work) (place - 2)) ≡ false
+later_by work place true first second is = refl
+later_by work place false true second is = refl
+later_by work place false false true is = refl
+later_by work place false false false is =
+    started_no (report_of work) (cltus_of work) (place - 2) is
+
+-- not after the third place
+later_no : (work : Work) (place : ℕ) → 2 < place → is_report (invocation_at work place) ≡ false
+later_no work place late =
+    let left : (place - 2 == 0) ≡ false = grind (arith, late) in
+    later_by work place (is_show work) (place == 0) (place == 1) left
+
+early_by : (work : Work) (place : ℕ) (show first second : Bool) → (place == 0) ≡ first
+    → (place == 1) ≡ second
+    → is_report (if show then None else if first then Some bind
+    else if second then Some start
+    else started_at (report_of work) (cltus_of work) (place - 2)) ≡ true
+    → 2 < place + 1
+early_by work place true first second a b is = absurd cc
+early_by work place false true second a b is = absurd cc
+early_by work place false false true a b is = absurd cc
+early_by work place false false false a b is = grind (arith, a, b)
+
+-- nor before it
+not_early : (work : Work) (place : ℕ) → is_report (invocation_at work place) ≡ true
+    → 2 < place + 1
+not_early work place is =
+    early_by work place (is_show work) (place == 0) (place == 1) refl refl is
+
 said_closing : (task : Task) (now : ℕ) (d : Talk) (s : Said) → d.course.closing ≡ true
-    → Closing (said_to task now d s).course
+    → is_report (Some s) ≡ false → Closing (said_to task now d s).course
 unfolding said_to
-said_closing task now d s is =
-    record { closing = is; rest = or_right (is_some d.course.status) }
+said_closing task now d s is other = record {
+  closing = is;
+  rest = ap (λ b. is_some d.course.status || b) (rests_after s (invoke_at d.course.said) other)
+      ∙ or_right (is_some d.course.status);
+}
 
 may_close : (work : Work) (c : Course) (s : Said) → c.closing ≡ true → may_say work c s ≡ true
 may_close work c stop is = or_left c.closing _ is
 may_close work c bind is = refl
 may_close work c start is = refl
+may_close work c (schedule cycle) is = refl
 may_close work c (transfer line) is = refl
 may_close work c unbind is = refl
 
 next_closing : (task : Task) (now : ℕ) (d : Talk) (o : Option Said) → is_show task.work ≡ false
-    → d.course.closing ≡ true → Closing (next_said task now d o).course
-next_closing task now d None invokes is =
+    → d.course.closing ≡ true → is_report o ≡ false → Closing (next_said task now d o).course
+next_closing task now d None invokes is other =
     finished_closing (is_show task.work) d.course invokes is
-next_closing task now d (Some s) invokes is =
+next_closing task now d (Some s) invokes is other =
     subst (λ b. Closing (if b then said_to task now d s else d).course)
-    (sym (may_close task.work d.course s is)) (said_closing task now d s is)
+    (sym (may_close task.work d.course s is)) (said_closing task now d s is other)
+
+going_closing : (task : Task) (now : ℕ) (d : Talk) → is_show task.work ≡ false
+    → d.course.closing ≡ true → is_report (invocation_at task.work d.course.said) ≡ false
+    → Closing (going_on task now d).course
+unfolding going_on
+going_closing task now d invokes is other =
+    next_closing task now d (invocation_at task.work d.course.said) invokes is other
+
+reports_closing : (task : Task) (now : ℕ) (d : Talk) (o : Option Said) → d.course.closing ≡ true
+    → (reports_by task now d o).course.closing ≡ true
+unfolding said_to
+reports_closing task now d None is = is
+reports_closing task now d (Some bind) is = is
+reports_closing task now d (Some start) is = is
+reports_closing task now d (Some (schedule cycle)) is = is
+reports_closing task now d (Some (transfer line)) is = is
+reports_closing task now d (Some stop) is = is
+reports_closing task now d (Some unbind) is = is
+
+reporting_closing : (task : Task) (now : ℕ) (d : Talk) → d.course.closing ≡ true
+    → (reporting task now d).course.closing ≡ true
+unfolding reporting
+reporting_closing task now d is =
+    reports_closing task now d (invocation_at task.work d.course.said) is
+
+-- reports are asked for once
+reports_once : (task : Task) (now : ℕ) (d : Talk) (o : Option Said)
+    → invocation_at task.work d.course.said ≡ o
+    → is_report (invocation_at task.work (reports_by task now d o).course.said) ≡ false
+unfolding said_to
+reports_once task now d None at = ap is_report at
+reports_once task now d (Some bind) at = ap is_report at
+reports_once task now d (Some start) at = ap is_report at
+reports_once task now d (Some (schedule cycle)) at =
+    later_no task.work (d.course.said + 1)
+    (not_early task.work d.course.said (ap is_report at))
+reports_once task now d (Some (transfer line)) at = ap is_report at
+reports_once task now d (Some stop) at = ap is_report at
+reports_once task now d (Some unbind) at = ap is_report at
+
+reporting_once : (task : Task) (now : ℕ) (d : Talk)
+    → is_report (invocation_at task.work (reporting task now d).course.said) ≡ false
+unfolding reporting
+reporting_once task now d =
+    reports_once task now d (invocation_at task.work d.course.said) refl
 
 went_closing : (task : Task) (now : ℕ) (d : Talk) → is_show task.work ≡ false
     → d.course.closing ≡ true → Closing (went_on task now d).course
@@ -84,8 +200,9 @@ went_closing task now d invokes is = by (rests d.course) refl
     by : (b : Bool) → rests d.course ≡ b → Closing (went_on task now d).course
     by true rest = rw rest (record { closing = is; rest = rest })
     by false rest =
-        rw rest
-        (next_closing task now d (invocation_at task.work d.course.said) invokes is)
+        let e = reporting task now d in
+        rw rest (going_closing task now e invokes (reporting_closing task now d is)
+        (reporting_once task now d))
 
 -- ---- what is heard
 
@@ -111,7 +228,7 @@ after_closing work (Returned t invoke refused) c is =
 after_closing work Halted c is = closes_closing (has_begun c.said) c is
 after_closing work EndOfData c is = closes_closing (has_begun c.said) c is
 after_closing work (Emptied last_ok) c is =
-    closes_closing (was_last (cltus_of work) c.said last_ok) c is
+    closes_closing (was_last work c.said last_ok) c is
 after_closing work Aborted c is = aborted_closing (is_show work) c ∙ is
 
 told_closing : (task : Task) (d : Talk) (t : Told) → d.course.closing ≡ true
@@ -260,9 +377,9 @@ asked_in task s (t ∷ turns) same invokes is asked =
 
 invokes_by : (work : Work) → receives work ≡ true → is_show work ≡ false
 invokes_by (Show service) is = absurd cc
-invokes_by (Raf from to quality) is = refl
-invokes_by (Rcf from to channel) is = refl
-invokes_by (Cltu first cltus) is = absurd cc
+invokes_by (Raf from to quality report) is = refl
+invokes_by (Rcf from to channel report) is = refl
+invokes_by (Cltu first cltus report) is = absurd cc
 
 rests_by : (c : Course) → (is_over c ≡ true) ⊎ Closing c → rests c ≡ true
 rests_by c (inl over) = or_left (is_some c.status) (is_some c.awaited) over

@@ -9,10 +9,12 @@ use Rattle.user_lines.specs.Told.{told_in}
 use Rattle.user_lines.specs.Lines.{lines_of, bad_line}
 use Rattle.user_lines.specs.Shown.{Shown, shown, shown_by}
 use Rattle.user_task.specs.declared.task.Task.{Task}
-use Rattle.user_task.specs.Invocation.{Said, invocation_at}
+use Rattle.user_task.specs.Invocation.{Said, bind, start, schedule, transfer, stop, unbind}
+use Rattle.user_task.specs.Invocation.{invocation_at}
 use Rattle.user_task.specs.Work.{service_of}
 use Rattle.user_core.specs.Course.{is_over, rests, may_say}
-use Rattle.user_core.specs.Dialogue.{Talk, said_to, next_said, went_on, told_to, heard, heard_by}
+use Rattle.user_core.specs.Dialogue.{Talk, said_to, next_said, reports_by, reporting, going_on, went_on}
+use Rattle.user_core.specs.Dialogue.{told_to, heard, heard_by}
 use Rattle.user_core.specs.Dialogue.{refused_at, bad_at}
 use Rattle.user_core.specs.Hearing.{heard_all}
 use Rattle.user_core.specs.Laws.{Prints, PrintsInOrder}
@@ -33,11 +35,30 @@ next_lines task now d None = refl
 next_lines task now d (Some s) =
     if_lines d (said_to task now d s) d (may_say task.work d.course s) (said_lines task now d s) refl
 
+reports_lines : (task : Task) (now : ℕ) (d : Talk) (o : Option Said)
+    → (reports_by task now d o).lines ≡ d.lines
+reports_lines task now d None = refl
+reports_lines task now d (Some bind) = refl
+reports_lines task now d (Some start) = refl
+reports_lines task now d (Some (schedule cycle)) = said_lines task now d (schedule cycle)
+reports_lines task now d (Some (transfer line)) = refl
+reports_lines task now d (Some stop) = refl
+reports_lines task now d (Some unbind) = refl
+
+reporting_lines : (task : Task) (now : ℕ) (d : Talk) → (reporting task now d).lines ≡ d.lines
+unfolding reporting
+reporting_lines task now d = reports_lines task now d (invocation_at task.work d.course.said)
+
+going_lines : (task : Task) (now : ℕ) (d : Talk) → (going_on task now d).lines ≡ d.lines
+unfolding going_on
+going_lines task now d = next_lines task now d (invocation_at task.work d.course.said)
+
 pub went_lines : (task : Task) (now : ℕ) (d : Talk) → (went_on task now d).lines ≡ d.lines
 unfolding went_on
 went_lines task now d =
-    if_lines d d (next_said task now d (invocation_at task.work d.course.said)) (rests d.course)
-    refl (next_lines task now d (invocation_at task.work d.course.said))
+    let e = reporting task now d in
+    if_lines d d (going_on task now e) (rests d.course) refl
+    (going_lines task now e ∙ reporting_lines task now d)
 
 told_lines : (task : Task) (d : Talk) (t : Told) → (told_to task d t).lines ≡ d.lines ++ lines_of t
 unfolding told_to

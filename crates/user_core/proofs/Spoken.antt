@@ -9,8 +9,9 @@ use Rattle.user_lines.specs.declared.told.Told.{Told}
 use Rattle.user_lines.specs.Told.{told_in}
 use Rattle.user_task.specs.declared.task.Task.{Task}
 use Rattle.user_task.specs.declared.work.Work.{Work}
-use Rattle.user_task.specs.Invocation.{Said, invocation_at}
-use Rattle.user_task.specs.Work.{is_show, service_of, cltus_of}
+use Rattle.user_task.specs.Invocation.{Said, bind, start, schedule, transfer, stop, unbind}
+use Rattle.user_task.specs.Invocation.{invocation_at}
+use Rattle.user_task.specs.Work.{is_show, service_of}
 use Rattle.user_core.specs.declared.course.Course.{Course}
 use Rattle.user_core.specs.declared.event.Event.{Event}
 use Rattle.user_core.specs.declared.event.Event.TheVariants.{Nothing, Returned, Halted, Emptied}
@@ -18,14 +19,15 @@ use Rattle.user_core.specs.declared.event.Event.TheVariants.{EndOfData, Aborted}
 use Rattle.user_core.specs.Event.{event_of}
 use Rattle.user_core.specs.Course.{is_over, rests, after, answered, aborted, closes, finished_by}
 use Rattle.user_core.specs.Course.{is_awaited, has_begun, was_last, may_say, receives}
-use Rattle.user_core.specs.Dialogue.{Talk, front_of, message_said, said_to, next_said, went_on, told_to}
+use Rattle.user_core.specs.Dialogue.{Talk, front_of, message_said, said_to, next_said, reports_by}
+use Rattle.user_core.specs.Dialogue.{reporting, going_on, went_on, told_to}
 use Rattle.user_core.specs.Dialogue.{heard, heard_by, refused_at, closed_by, opened}
 use Rattle.user_core.specs.Dialogue.{begun, beats, beating, bad_at, asked_to, in_course}
 use Rattle.user_core.specs.Hearing.{Kept, Hearing, nothing, came, ended, heard_all, heard_in, unread_in}
 use Rattle.user_core.specs.Turn.{Standing, talk_of, talk_in, new_user}
 use Rattle.user_core.specs.Laws.{Utterance, invoked, beaten, octets_by, octets_said, place_after}
 use Rattle.user_core.specs.Laws.{latest_after, Says, Turn, after_turn, after_turns, answer_in, offers}
-use Rattle.user_core.specs.Laws.{OffersInOrder, AnswersOnce, OneAnswer}
+use Rattle.user_core.specs.Laws.{OffersInOrder, SaysNothing, SaysNext, AnswersOnce, OneAnswer}
 
 -- ---- what is said joins
 
@@ -115,7 +117,7 @@ after_said work (Returned t invoke refused) c =
     answered_said (is_awaited c.awaited t invoke) refused c
 after_said work Halted c = closes_said (has_begun c.said) c
 after_said work EndOfData c = closes_said (has_begun c.said) c
-after_said work (Emptied last_ok) c = closes_said (was_last (cltus_of work) c.said last_ok) c
+after_said work (Emptied last_ok) c = closes_said (was_last work c.said last_ok) c
 after_said work Aborted c = aborted_said (is_show work) c
 
 same_said : (task : Task) (d : Talk) → Grows task d d
@@ -149,12 +151,30 @@ next_grows task now d (Some s) is =
     if_grows task d (said_to task now d s) d (may_say task.work d.course s)
     (said_grows task now d s is) (same_said task d)
 
+reports_grows : (task : Task) (now : ℕ) (d : Talk) (o : Option Said)
+    → invocation_at task.work d.course.said ≡ o → Grows task d (reports_by task now d o)
+reports_grows task now d None is = same_said task d
+reports_grows task now d (Some bind) is = same_said task d
+reports_grows task now d (Some start) is = same_said task d
+reports_grows task now d (Some (schedule cycle)) is = said_grows task now d (schedule cycle) is
+reports_grows task now d (Some (transfer line)) is = same_said task d
+reports_grows task now d (Some stop) is = same_said task d
+reports_grows task now d (Some unbind) is = same_said task d
+
+reporting_grows : (task : Task) (now : ℕ) (d : Talk) → Grows task d (reporting task now d)
+unfolding reporting
+reporting_grows task now d = reports_grows task now d (invocation_at task.work d.course.said) refl
+
+going_grows : (task : Task) (now : ℕ) (d : Talk) → Grows task d (going_on task now d)
+unfolding going_on
+going_grows task now d = next_grows task now d (invocation_at task.work d.course.said) refl
+
 went_grows : (task : Task) (now : ℕ) (d : Talk) → Grows task d (went_on task now d)
 unfolding went_on
 went_grows task now d =
-    if_grows task d d (next_said task now d (invocation_at task.work d.course.said))
-    (rests d.course) (same_said task d)
-    (next_grows task now d (invocation_at task.work d.course.said) refl)
+    let e = reporting task now d in
+    if_grows task d d (going_on task now e) (rests d.course) (same_said task d)
+    (joins task d e (going_on task now e) (reporting_grows task now d) (going_grows task now e))
 
 told_grows : (task : Task) (d : Talk) (t : Told) → Grows task d (told_to task d t)
 unfolding told_to
@@ -322,73 +342,118 @@ offers_in_order task turns = turns_say task (new_user task) turns refl
 
 -- ---- one answer
 
-quiet : (task : Task) (now : ℕ) (d e : Talk) → e.course.said ≡ d.course.said
-    → e.offer ≡ d.offer → AnswersOnce task now d e
-quiet task now d e s o = record { answer = inl (s, o) }
+-- nothing, or the next invocation
+abbrev SaysOne : Task → ℕ → Talk → Talk → Type 0
+SaysOne task now d e = SaysNothing d e ⊎ (s : Said) × SaysNext task now s d e
+
+-- nothing, or what asks for reports
+abbrev SaysReport : Task → ℕ → Talk → Talk → Type 0
+SaysReport task now d e = SaysNothing d e ⊎ (cycle : ℕ) × SaysNext task now (schedule cycle) d e
+
+still : (d e : Talk) → e.course.said ≡ d.course.said → e.latest ≡ d.latest → e.offer ≡ d.offer
+    → SaysNothing d e
+still d e s l o = record { said = s; latest = l; offer = o }
+
+unmoved : (d : Talk) → SaysNothing d d
+unmoved d = still d d refl refl refl
+
+quiet : (task : Task) (now : ℕ) (d e : Talk) → SaysNothing d e → AnswersOnce task now d e
+quiet task now d e none = record { reported = d; report = inl (unmoved d); answer = inl none }
 
 if_once : (task : Task) (now : ℕ) (d x y : Talk) (b : Bool) → AnswersOnce task now d x
     → AnswersOnce task now d y → AnswersOnce task now d (if b then x else y)
 if_once task now d x y true g h = g
 if_once task now d x y false g h = h
 
-said_once : (task : Task) (now : ℕ) (d : Talk) (s : Said)
-    → invocation_at task.work d.course.said ≡ Some s
-    → AnswersOnce task now d (said_to task now d s)
-unfolding said_to
-said_once task now d s is = record { answer = inr (s, (is, refl, refl)) }
+if_says : (task : Task) (now : ℕ) (d x y : Talk) (b : Bool) → SaysOne task now d x
+    → SaysOne task now d y → SaysOne task now d (if b then x else y)
+if_says task now d x y true g h = g
+if_says task now d x y false g h = h
 
-next_once : (task : Task) (now : ℕ) (d : Talk) (o : Option Said)
-    → invocation_at task.work d.course.said ≡ o → AnswersOnce task now d (next_said task now d o)
-next_once task now d None is =
-    quiet task now d (next_said task now d None) (finished_said (is_show task.work) d.course) refl
-next_once task now d (Some s) is =
-    if_once task now d (said_to task now d s) d (may_say task.work d.course s)
-    (said_once task now d s is) (quiet task now d d refl refl)
+said_next : (task : Task) (now : ℕ) (d : Talk) (s : Said)
+    → invocation_at task.work d.course.said ≡ Some s
+    → SaysNext task now s d (said_to task now d s)
+unfolding said_to
+said_next task now d s is = record { next = is; said = refl; latest = refl; offer = refl }
+
+next_says : (task : Task) (now : ℕ) (d : Talk) (o : Option Said)
+    → invocation_at task.work d.course.said ≡ o → SaysOne task now d (next_said task now d o)
+next_says task now d None is =
+    inl (still d (next_said task now d None) (finished_said (is_show task.work) d.course) refl refl)
+next_says task now d (Some s) is =
+    if_says task now d (said_to task now d s) d (may_say task.work d.course s)
+    (inr (s, said_next task now d s is)) (inl (unmoved d))
+
+going_says : (task : Task) (now : ℕ) (d : Talk) → SaysOne task now d (going_on task now d)
+unfolding going_on
+going_says task now d = next_says task now d (invocation_at task.work d.course.said) refl
+
+reports_says : (task : Task) (now : ℕ) (d : Talk) (o : Option Said)
+    → invocation_at task.work d.course.said ≡ o → SaysReport task now d (reports_by task now d o)
+reports_says task now d None is = inl (unmoved d)
+reports_says task now d (Some bind) is = inl (unmoved d)
+reports_says task now d (Some start) is = inl (unmoved d)
+reports_says task now d (Some (schedule cycle)) is =
+    inr (cycle, said_next task now d (schedule cycle) is)
+reports_says task now d (Some (transfer line)) is = inl (unmoved d)
+reports_says task now d (Some stop) is = inl (unmoved d)
+reports_says task now d (Some unbind) is = inl (unmoved d)
+
+reporting_says : (task : Task) (now : ℕ) (d : Talk) → SaysReport task now d (reporting task now d)
+unfolding reporting
+reporting_says task now d = reports_says task now d (invocation_at task.work d.course.said) refl
 
 went_once : (task : Task) (now : ℕ) (d : Talk) → AnswersOnce task now d (went_on task now d)
 unfolding went_on
 went_once task now d =
-    if_once task now d d (next_said task now d (invocation_at task.work d.course.said))
-    (rests d.course) (quiet task now d d refl refl)
-    (next_once task now d (invocation_at task.work d.course.said) refl)
+    let e = reporting task now d in
+    if_once task now d d (going_on task now e) (rests d.course) (quiet task now d d (unmoved d))
+    (record { reported = e; report = reporting_says task now d; answer = going_says task now e })
 
 -- what is told changes nothing of what was said
-behind_told : (task : Task) (now : ℕ) (d e f : Talk) → e.course.said ≡ d.course.said
-    → e.offer ≡ d.offer → e.latest ≡ d.latest → AnswersOnce task now e f
+nothing_then : (d e f : Talk) → SaysNothing d e → SaysNothing e f → SaysNothing d f
+nothing_then d e f n m =
+    still d f (m.said ∙ n.said) (m.latest ∙ n.latest) (m.offer ∙ n.offer)
+
+next_from : (task : Task) (now : ℕ) (s : Said) (d e f : Talk) → SaysNothing d e
+    → SaysNext task now s e f → SaysNext task now s d f
+next_from task now s d e f n m = record {
+  next = ap (invocation_at task.work) (sym n.said) ∙ m.next;
+  said = m.said ∙ ap (λ x. x + 1) n.said;
+  latest = m.latest ∙ ap next_number n.latest;
+  offer = m.offer
+      ∙ ap (λ o. (o ++ front_of s) ++ message_said task s e.course.said e.latest now) n.offer
+      ∙ ap (λ x. (d.offer ++ front_of s) ++ message_said task s x e.latest now) n.said
+      ∙ ap (λ x. (d.offer ++ front_of s) ++ message_said task s d.course.said x now) n.latest;
+}
+
+report_from : (task : Task) (now : ℕ) (d e f : Talk) → SaysNothing d e
+    → SaysReport task now e f → SaysReport task now d f
+report_from task now d e f n (inl m) = inl (nothing_then d e f n m)
+report_from task now d e f n (inr (cycle, m)) =
+    inr (cycle, next_from task now (schedule cycle) d e f n m)
+
+behind_told : (task : Task) (now : ℕ) (d e f : Talk) → SaysNothing d e → AnswersOnce task now e f
     → AnswersOnce task now d f
-behind_told task now d e f s o l once = record {
-  answer = subst
-      (λ place. (f.course.said ≡ place) × (f.offer ≡ d.offer)
-      ⊎ (q : Said) × ((invocation_at task.work place ≡ Some q)
-      × (f.course.said ≡ place + 1)
-      × (f.offer ≡ (d.offer ++ front_of q) ++ message_said task q place d.latest now)))
-      s
-      (subst
-      (λ offer. (f.course.said ≡ e.course.said) × (f.offer ≡ offer)
-      ⊎ (q : Said) × ((invocation_at task.work e.course.said ≡ Some q)
-      × (f.course.said ≡ e.course.said + 1)
-      × (f.offer ≡ (offer ++ front_of q) ++ message_said task q e.course.said d.latest now)))
-      o
-      (subst
-      (λ latest. (f.course.said ≡ e.course.said) × (f.offer ≡ e.offer)
-      ⊎ (q : Said) × ((invocation_at task.work e.course.said ≡ Some q)
-      × (f.course.said ≡ e.course.said + 1)
-      × (f.offer ≡ (e.offer ++ front_of q) ++ message_said task q e.course.said latest now)))
-      l once.answer));
+behind_told task now d e f n once = record {
+  reported = once.reported;
+  report = report_from task now d e once.reported n once.report;
+  answer = once.answer;
 }
 
 told_once : (task : Task) (now place : ℕ) (d : Talk) (o : Option Told)
     → AnswersOnce task now d (heard_by task now place d o)
 unfolding told_to
-told_once task now place d None = quiet task now d (bad_at place d) refl refl
+told_once task now place d None =
+    quiet task now d (bad_at place d) (still d (bad_at place d) refl refl refl)
 told_once task now place d (Some t) =
     let e = told_to task d t in
     behind_told task now d e (went_on task now e)
-    (after_said task.work (event_of t) d.course) refl refl (went_once task now e)
+    (still d e (after_said task.work (event_of t) d.course) refl refl) (went_once task now e)
 
 pub one_answer : OneAnswer
 unfolding heard
 one_answer task now place d m =
     if_once task now d d (heard_by task now place d (told_in (service_of task.work) m))
-    (is_over d.course) (quiet task now d d refl refl)
+    (is_over d.course) (quiet task now d d (unmoved d))
     (told_once task now place d (told_in (service_of task.work) m))

@@ -7,8 +7,8 @@ use Rattle.user_lines.specs.Tag.{number_of}
 use Rattle.user_task.specs.declared.cltus.CltuLine.{CltuLine}
 use Rattle.user_task.specs.declared.work.Work.{Work}
 use Rattle.user_task.specs.declared.work.Work.TheVariants.{Show, Raf, Rcf, Cltu}
-use Rattle.user_task.specs.Invocation.{Said, bind, start, transfer, stop, unbind}
-use Rattle.user_task.specs.Work.{is_show, cltus_of}
+use Rattle.user_task.specs.Invocation.{Said, bind, start, schedule, transfer, stop, unbind, reports}
+use Rattle.user_task.specs.Work.{is_show, cltus_of, report_of}
 use Rattle.user_core.specs.declared.course.Awaited.{Awaited}
 use Rattle.user_core.specs.declared.course.Course.{Course}
 use Rattle.user_core.specs.declared.event.Event.{Event}
@@ -60,10 +60,15 @@ ends_by (Some line) id = line.id == id
 abbrev pub ends_in : List CltuLine → ℕ → Bool
 ends_in cltus id = ends_by (slice_get cltus (length cltus - 1)) id
 
--- behind BIND and START all CLTUs were said, the last one with this identification
-abbrev pub was_last : List CltuLine → ℕ → Option ℕ → Bool
-was_last cltus said None = false
-was_last cltus said (Some id) = nat_le (length cltus) (said - 2) && ends_in cltus id
+-- how many invocations come before the first CLTU: BIND, START and what asks for reports
+abbrev pub before_cltus : Work → ℕ
+before_cltus work = 2 + length (reports (report_of work))
+
+-- after these all CLTUs were said, the last one with this identification
+abbrev pub was_last : Work → ℕ → Option ℕ → Bool
+was_last work said None = false
+was_last work said (Some id) =
+    nat_le (length (cltus_of work)) (said - before_cltus work) && ends_in (cltus_of work) id
 
 abbrev pub closes : Bool → Course → Course
 closes false c = c
@@ -79,20 +84,20 @@ after work Nothing c = c
 after work (Returned t invoke refused) c = answered (is_awaited c.awaited t invoke) refused c
 after work Halted c = closes (has_begun c.said) c
 after work EndOfData c = closes (has_begun c.said) c
-after work (Emptied last_ok) c = closes (was_last (cltus_of work) c.said last_ok) c
+after work (Emptied last_ok) c = closes (was_last work c.said last_ok) c
 after work Aborted c = aborted (is_show work) c
 
 -- it receives frames, and ends once it is asked to
 abbrev pub receives : Work → Bool
 receives (Show service) = false
-receives (Raf from to quality) = true
-receives (Rcf from to channel) = true
-receives (Cltu first cltus) = false
+receives (Raf from to quality report) = true
+receives (Rcf from to channel report) = true
+receives (Cltu first cltus report) = false
 
 -- ---- what is said
 
 abbrev pub has_no_cltu : Work → Bool
-has_no_cltu (Cltu first cltus) = length cltus == 0
+has_no_cltu (Cltu first cltus report) = length cltus == 0
 has_no_cltu _ = false
 
 -- STOP waits for the end of data or for the last notice, where there is anything to wait for
@@ -104,16 +109,18 @@ may_say work c _ = true
 abbrev pub invoke_at : ℕ → ℕ
 invoke_at place = (place - 1) % 65536
 
--- BIND and UNBIND have no number
-abbrev pub awaited_of : Said → ℕ → Awaited
-awaited_of bind invoke = record { tag = tag.BindReturn; invoke = None }
-awaited_of start invoke = record { tag = tag.StartReturn; invoke = Some invoke }
-awaited_of (transfer line) invoke = record { tag = tag.TransferReturn; invoke = Some invoke }
-awaited_of stop invoke = record { tag = tag.StopReturn; invoke = Some invoke }
-awaited_of unbind invoke = record { tag = tag.UnbindReturn; invoke = None }
+-- the return that is awaited: BIND and UNBIND have no number, and the return of what asks for
+-- reports decides nothing
+abbrev pub awaited_of : Said → ℕ → Option Awaited
+awaited_of bind invoke = Some (record { tag = tag.BindReturn; invoke = None })
+awaited_of start invoke = Some (record { tag = tag.StartReturn; invoke = Some invoke })
+awaited_of (schedule cycle) invoke = None
+awaited_of (transfer line) invoke = Some (record { tag = tag.TransferReturn; invoke = Some invoke })
+awaited_of stop invoke = Some (record { tag = tag.StopReturn; invoke = Some invoke })
+awaited_of unbind invoke = Some (record { tag = tag.UnbindReturn; invoke = None })
 
 abbrev pub said_course : Said → Course → Course
-said_course s c = record c { said = c.said + 1; awaited = Some (awaited_of s (invoke_at c.said)) }
+said_course s c = record c { said = c.said + 1; awaited = awaited_of s (invoke_at c.said) }
 
 -- behind the last invocation; who only reads invokes nothing and goes on
 abbrev pub finished_by : Bool → Course → Course

@@ -8,7 +8,7 @@ use Rattle.user_lines.specs.declared.told.Told.{Told}
 use Rattle.user_lines.specs.Told.{told_in}
 use Rattle.user_lines.specs.Lines.{lines_of, bad_line}
 use Rattle.user_task.specs.declared.task.Task.{Task}
-use Rattle.user_task.specs.Invocation.{Said, bind, invocation_at}
+use Rattle.user_task.specs.Invocation.{Said, bind, schedule, invocation_at}
 use Rattle.user_task.specs.Message.{message, credentials_of_task}
 use Rattle.user_task.specs.Work.{is_show, service_of}
 use Rattle.user_core.specs.declared.course.Course.{Course}
@@ -80,10 +80,20 @@ next_said task now d None = in_course (finished task.work d.course) d
 next_said task now d (Some s) =
     if may_say task.work d.course s then said_to task now d s else d
 
+-- what asks for reports, where it comes next
+abbrev pub reports_by : Task → ℕ → Talk → Option Said → Talk
+reports_by task now d (Some (schedule cycle)) = said_to task now d (schedule cycle)
+reports_by task now d _ = d
+
+unfoldable pub reporting : Task → ℕ → Talk → Talk
+reporting task now d = reports_by task now d (invocation_at task.work d.course.said)
+
+unfoldable pub going_on : Task → ℕ → Talk → Talk
+going_on task now d = next_said task now d (invocation_at task.work d.course.said)
+
+-- nothing is awaited after what asks for reports: what comes next is said at once
 unfoldable pub went_on : Task → ℕ → Talk → Talk
-went_on task now d =
-    if rests d.course then d
-    else next_said task now d (invocation_at task.work d.course.said)
+went_on task now d = if rests d.course then d else going_on task now (reporting task now d)
 
 -- ---- what is heard
 

@@ -7,7 +7,7 @@ use Rattle.isp1_tml.specs.Message.{Content, spelling, heartbeat}
 use Rattle.isp1_tml.specs.Unread.{Unread}
 use Rattle.sle_numbers.specs.declared.service_type.ServiceType.{ServiceType}
 use Rattle.user_task.specs.declared.task.Task.{Task}
-use Rattle.user_task.specs.Invocation.{Said, invocation_at}
+use Rattle.user_task.specs.Invocation.{Said, schedule, invocation_at}
 use Rattle.user_task.specs.Work.{service_of, is_show}
 use Rattle.user_lines.specs.Lines.{bad_line}
 use Rattle.user_lines.specs.Shown.{Shown, shown, shown_of}
@@ -91,12 +91,26 @@ OffersInOrder =
     (after_turns (new_user task) turns).latest
     (offers (new_user task) turns)
 
--- a message is answered by nothing, or by the next invocation
+-- nothing was said
+pub record SaysNothing (d e : Talk) : Type 0 where
+  pub said : e.course.said ≡ d.course.said
+  pub latest : e.latest ≡ d.latest
+  pub offer : e.offer ≡ d.offer
+
+-- this was said, which is the next invocation of the task
+pub record SaysNext (task : Task) (now : ℕ) (s : Said) (d e : Talk) : Type 0 where
+  pub next : invocation_at task.work d.course.said ≡ Some s
+  pub said : e.course.said ≡ d.course.said + 1
+  pub latest : e.latest ≡ next_number d.latest
+  pub offer : e.offer
+      ≡ (d.offer ++ front_of s) ++ message_said task s d.course.said d.latest now
+
+-- a message is answered by nothing, or by the next invocation; what asks for reports may come before
+-- that
 pub record AnswersOnce (task : Task) (now : ℕ) (d e : Talk) : Type 0 where
-  pub answer : (e.course.said ≡ d.course.said) × (e.offer ≡ d.offer)
-      ⊎ (s : Said) × ((invocation_at task.work d.course.said ≡ Some s)
-      × (e.course.said ≡ d.course.said + 1)
-      × (e.offer ≡ (d.offer ++ front_of s) ++ message_said task s d.course.said d.latest now))
+  pub reported : Talk
+  pub report : SaysNothing d reported ⊎ (cycle : ℕ) × SaysNext task now (schedule cycle) d reported
+  pub answer : SaysNothing reported e ⊎ (s : Said) × SaysNext task now s reported e
 
 abbrev pub OneAnswer : Type 0
 OneAnswer =

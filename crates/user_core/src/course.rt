@@ -1,8 +1,8 @@
 // How far a user's task has come.
 ghost use Rattle.std.specs.Prelude.{◌≡◌, ◌+◌, ◌<◌, ◌^◌};
 ghost use Rattle.user_task.specs.Invocation.{said_of};
-ghost use Rattle.user_core.specs.Course.{first_course, is_over, rests, has_begun, ends_in, was_last};
-ghost use Rattle.user_core.specs.Course.{same_invoke, is_awaited, answered, closes, aborted, ended, after};
+ghost use Rattle.user_core.specs.Course.{first_course, is_over, rests, has_begun, ends_in, before_cltus};
+ghost use Rattle.user_core.specs.Course.{was_last, same_invoke, is_awaited, answered, closes, aborted, ended, after};
 ghost use Rattle.user_core.specs.Course.{may_say, finished, awaited_of, said_course, invoke_at, has_no_cltu, receives};
 
 use crate::event::Event;
@@ -69,7 +69,7 @@ impl Course {
                 refused,
             } => self.answered(is_awaited(self.awaited, tag, invoke), refused),
             Event::Halted | Event::EndOfData => self.closes(has_begun(self.said)),
-            Event::Emptied { last_ok } => self.closes(was_last(work.cltus(), self.said, last_ok)),
+            Event::Emptied { last_ok } => self.closes(was_last(work, self.said, last_ok)),
             Event::Aborted => self.aborted(work.is_show()),
         }
     }
@@ -128,12 +128,23 @@ fn has_begun(said: usize) -> bool
 }
 
 // Whether all CLTUs were said and the last of them has this identification.
-fn was_last(cltus: &[CltuLine], said: usize, id: Option<u32>) -> bool
-    ensures { result ≡ was_last cltus.now said id }
+fn was_last(work: &Work, said: usize, id: Option<u32>) -> bool
+    ensures { result ≡ was_last work.now said id }
 {
+    let cltus = work.cltus();
     match id {
-        Some(id) => cltus.len() <= said.saturating_sub(2) && ends_in(cltus, id),
+        Some(id) => cltus.len() <= said.saturating_sub(before_cltus(work)) && ends_in(cltus, id),
         None => false,
+    }
+}
+
+// How many invocations come before the first CLTU: BIND, START and what asks for reports.
+fn before_cltus(work: &Work) -> usize
+    ensures { result ≡ before_cltus work.now }
+{
+    match work.report() {
+        Some(_) => 3,
+        None => 2,
     }
 }
 
@@ -185,7 +196,7 @@ impl Course {
     {
         Course {
             said: self.said + 1,
-            awaited: Some(Awaited::of(invocation, self.invoke())),
+            awaited: Awaited::of(invocation, self.invoke()),
             ..self
         }
     }
@@ -227,17 +238,18 @@ fn has_no_cltu(work: &Work) -> bool
 }
 
 impl Awaited {
-    // The return of an invocation with this number.
-    fn of(invocation: &Invocation<'_>, invoke: u16) -> Awaited
+    // The return of an invocation with this number, where it is awaited.
+    fn of(invocation: &Invocation<'_>, invoke: u16) -> Option<Awaited>
         ensures { result ≡ awaited_of (said_of invocation.now) invoke }
     {
         let (tag, invoke) = match invocation {
             Invocation::Bind => (Tag::BindReturn, None),
             Invocation::Start => (Tag::StartReturn, Some(invoke)),
+            Invocation::Schedule(_) => return None,
             Invocation::Transfer(_) => (Tag::TransferReturn, Some(invoke)),
             Invocation::Stop => (Tag::StopReturn, Some(invoke)),
             Invocation::Unbind => (Tag::UnbindReturn, None),
         };
-        Awaited { tag, invoke }
+        Some(Awaited { tag, invoke })
     }
 }

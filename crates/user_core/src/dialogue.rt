@@ -7,7 +7,7 @@ ghost use Rattle.user_core.specs.declared.status.Status.TheVariants as Status;
 ghost use Rattle.user_task.specs.Fitting.{fits_task, fits_said};
 ghost use Rattle.user_task.specs.Invocation.{said_of};
 ghost use Rattle.user_core.specs.Dialogue.{first_dialogue, begun, opened, heard, told_to};
-ghost use Rattle.user_core.specs.Dialogue.{went_on, said_to, greeted, spoken, asked_to};
+ghost use Rattle.user_core.specs.Dialogue.{went_on, going_on, reporting, said_to, greeted, spoken, asked_to};
 ghost use Rattle.user_core.specs.Dialogue.{bad_at, closed_at, beating, is_due, ended_by, refused_at};
 
 use crate::course::{Course, receives};
@@ -222,7 +222,7 @@ impl Dialogue {
         self.end_bad(place)
     }
 
-    // Says the next invocation, where its time has come.
+    // Says the next invocation, where its time has come, and before it what asks for reports.
     #[tactic(auto, unfolding(crate::specs::Dialogue::went_on))]
     fn go_on(&mut self, alloc: Global, task: &Task, now: u128) -> Result<(), AllocError>
         requires fits { IsTrue (fits_task task.now) }
@@ -232,6 +232,32 @@ impl Dialogue {
         if self.course.rests() {
             return Ok(());
         }
+        self.report(alloc, task, now)?;
+        self.say_next(alloc, task, now)
+    }
+
+    // Asks for reports, where that comes next.
+    #[tactic(auto, unfolding(crate::specs::Dialogue::reporting))]
+    fn report(&mut self, alloc: Global, task: &Task, now: u128) -> Result<(), AllocError>
+        requires fits { IsTrue (fits_task task.now) }
+        requires moment { now < MOMENT_END }
+        ensures { OnOk result (self.new ≡ reporting task.now now self.old) }
+    {
+        match task.invocation(self.course.said) {
+            Some(Invocation::Schedule(cycle)) => {
+                self.say(alloc, task, Invocation::Schedule(cycle), now)
+            }
+            _ => Ok(()),
+        }
+    }
+
+    // Says what comes next, where its time has come.
+    #[tactic(auto, unfolding(crate::specs::Dialogue::going_on))]
+    fn say_next(&mut self, alloc: Global, task: &Task, now: u128) -> Result<(), AllocError>
+        requires fits { IsTrue (fits_task task.now) }
+        requires moment { now < MOMENT_END }
+        ensures { OnOk result (self.new ≡ going_on task.now now self.old) }
+    {
         let Some(invocation) = task.invocation(self.course.said) else {
             self.course = self.course.finished(&task.work);
             return Ok(());

@@ -4,15 +4,17 @@ ghost use Rattle.user_core.specs.Laws.{LinesInOrder};
 
 use isp1_tml::laws as stream;
 
-/// Over every list of turns, what is offered is BIND behind the context, START, a TRANSFER-DATA for
-/// each CLTU, STOP and UNBIND as far as they were said, in this order, each once, with its invoke
+/// Over every list of turns, what is offered is BIND after the context, START,
+/// SCHEDULE-STATUS-REPORT where reports are wanted, a TRANSFER-DATA for each CLTU, STOP and UNBIND as
+/// far as they were said, in this order, each once, with its invoke
 /// identifier and its credentials, and heartbeats between them.
 #[tactic(auto, using(crate::proofs::Spoken::offers_in_order))]
 pub fn offers_in_order()
     ensures { OffersInOrder }
 {}
 
-/// A message is answered by at most one invocation, which is the next.
+/// A message is answered by at most one invocation, which is the next; what asks for reports may come
+/// before that.
 #[tactic(auto, using(crate::proofs::Spoken::one_answer))]
 pub fn one_answer()
     ensures { OneAnswer }

@@ -1,11 +1,11 @@
 -- Each command's words find their places.
-use Rattle.std.proofs.Common.{◌≡◌, ℕ, ◌==◌, true, List, [], ◌∷◌, length, refl, sym, subst, ◌+◌}
-use Rattle.std.proofs.lemmas.Bool.{and_parts, eqb-true}
+use Rattle.std.proofs.Common.{◌≡◌, ℕ, ◌==◌, ◌≤◌, nat_le, Bool, true, false, ◌⊎◌, inl, inr, ⊎_elim, List, [], ◌∷◌, length, refl, sym, subst, ◌+◌, arith}
+use Rattle.std.proofs.lemmas.Bool.{and_parts, eqb-true, leb-true}
 use Rattle.std.specs.List.{list_all}
 use Rattle.clap.proofs.OnLiterals.{clap_on_literals}
 use Rattle.user_line.specs.declared.form.Form.{Form}
 use Rattle.user_line.specs.declared.form.Form.TheVariants.{Show, Raf, Rcf, Cltu}
-use Rattle.user_line.specs.Line.{Text, ids_of, is_line, is_plain}
+use Rattle.user_line.specs.Line.{Text, ids_of, least_of, has_count, is_line, is_plain}
 use Rattle.user_line.specs.Laws.{ClapReads}
 use Rattle.user_line.proofs.Read.{Enters, Fills, reads_by}
 use Rattle.user_line.proofs.Split.{split, no_more, behind}
@@ -40,31 +40,7 @@ raf_enters a b c d e f g h = record { stop = refl; top = refl }
 
 raf_fills : (a b c d e f g h : Text) → Fills Raf (a ∷ b ∷ c ∷ d ∷ e ∷ f ∷ g ∷ h ∷ [])
 raf_fills a b c d e f g h = record {
-  goes = (
-    refl,
-    (
-      refl,
-      (
-        refl,
-        (
-          refl,
-          (
-            refl,
-            (
-              refl,
-              (
-                refl,
-                (
-                  refl,
-                  (refl, (refl, (refl, (refl, (refl, (refl, (refl, (refl, tt)))))))),
-                ),
-              ),
-            ),
-          ),
-        ),
-      ),
-    ),
-  );
+  goes = (refl, (refl, (refl, (refl, (refl, (refl, (refl, (refl, (refl, (refl, (refl, (refl, (refl, (refl, (refl, (refl, tt))))))))))))))));
   passes = refl;
   values = refl;
 }
@@ -92,37 +68,49 @@ raf_fits words size =
       fills = raf_fills a.head b.head c.head d.head e.head f.head g.head h.head;
     })
 
+raf_further_enters : (a b c d e f g h k : Text) → Enters Raf (a ∷ b ∷ c ∷ d ∷ e ∷ f ∷ g ∷ h ∷ k ∷ [])
+unfolding clap_on_literals
+raf_further_enters a b c d e f g h k = record { stop = refl; top = refl }
+
+raf_further_fills : (a b c d e f g h k : Text) → Fills Raf (a ∷ b ∷ c ∷ d ∷ e ∷ f ∷ g ∷ h ∷ k ∷ [])
+raf_further_fills a b c d e f g h k = record {
+  goes = (refl, (refl, (refl, (refl, (refl, (refl, (refl, (refl, (refl, (refl, (refl, (refl, (refl, (refl, (refl, (refl, (refl, (refl, tt))))))))))))))))));
+  passes = refl;
+  values = refl;
+}
+
+raf_further_fits : (words : List Text) → length words ≡ 9 → Fits Raf words
+raf_further_fits words size =
+    let a = split 8 words size in
+    let b = split 7 a.rest a.size in
+    let c = split 6 b.rest b.size in
+    let d = split 5 c.rest c.size in
+    let e = split 4 d.rest d.size in
+    let f = split 3 e.rest e.size in
+    let g = split 2 f.rest f.size in
+    let h = split 1 g.rest g.size in
+    let k = split 0 h.rest h.size in
+    let kn = behind _ _ _ k (no_more k.rest k.size) in
+    let hn = behind _ _ _ h kn in
+    let gn = behind _ _ _ g hn in
+    let fn = behind _ _ _ f gn in
+    let en = behind _ _ _ e fn in
+    let dn = behind _ _ _ d en in
+    let cn = behind _ _ _ c dn in
+    let bn = behind _ _ _ b cn in
+    let an = behind _ _ _ a bn in
+    subst (Fits Raf) (sym an) (record {
+      enters = raf_further_enters a.head b.head c.head d.head e.head f.head g.head h.head k.head;
+      fills = raf_further_fills a.head b.head c.head d.head e.head f.head g.head h.head k.head;
+    })
+
 rcf_enters : (a b c d e f g h : Text) → Enters Rcf (a ∷ b ∷ c ∷ d ∷ e ∷ f ∷ g ∷ h ∷ [])
 unfolding clap_on_literals
 rcf_enters a b c d e f g h = record { stop = refl; top = refl }
 
 rcf_fills : (a b c d e f g h : Text) → Fills Rcf (a ∷ b ∷ c ∷ d ∷ e ∷ f ∷ g ∷ h ∷ [])
 rcf_fills a b c d e f g h = record {
-  goes = (
-    refl,
-    (
-      refl,
-      (
-        refl,
-        (
-          refl,
-          (
-            refl,
-            (
-              refl,
-              (
-                refl,
-                (
-                  refl,
-                  (refl, (refl, (refl, (refl, (refl, (refl, (refl, (refl, tt)))))))),
-                ),
-              ),
-            ),
-          ),
-        ),
-      ),
-    ),
-  );
+  goes = (refl, (refl, (refl, (refl, (refl, (refl, (refl, (refl, (refl, (refl, (refl, (refl, (refl, (refl, (refl, (refl, tt))))))))))))))));
   passes = refl;
   values = refl;
 }
@@ -150,37 +138,49 @@ rcf_fits words size =
       fills = rcf_fills a.head b.head c.head d.head e.head f.head g.head h.head;
     })
 
+rcf_further_enters : (a b c d e f g h k : Text) → Enters Rcf (a ∷ b ∷ c ∷ d ∷ e ∷ f ∷ g ∷ h ∷ k ∷ [])
+unfolding clap_on_literals
+rcf_further_enters a b c d e f g h k = record { stop = refl; top = refl }
+
+rcf_further_fills : (a b c d e f g h k : Text) → Fills Rcf (a ∷ b ∷ c ∷ d ∷ e ∷ f ∷ g ∷ h ∷ k ∷ [])
+rcf_further_fills a b c d e f g h k = record {
+  goes = (refl, (refl, (refl, (refl, (refl, (refl, (refl, (refl, (refl, (refl, (refl, (refl, (refl, (refl, (refl, (refl, (refl, (refl, tt))))))))))))))))));
+  passes = refl;
+  values = refl;
+}
+
+rcf_further_fits : (words : List Text) → length words ≡ 9 → Fits Rcf words
+rcf_further_fits words size =
+    let a = split 8 words size in
+    let b = split 7 a.rest a.size in
+    let c = split 6 b.rest b.size in
+    let d = split 5 c.rest c.size in
+    let e = split 4 d.rest d.size in
+    let f = split 3 e.rest e.size in
+    let g = split 2 f.rest f.size in
+    let h = split 1 g.rest g.size in
+    let k = split 0 h.rest h.size in
+    let kn = behind _ _ _ k (no_more k.rest k.size) in
+    let hn = behind _ _ _ h kn in
+    let gn = behind _ _ _ g hn in
+    let fn = behind _ _ _ f gn in
+    let en = behind _ _ _ e fn in
+    let dn = behind _ _ _ d en in
+    let cn = behind _ _ _ c dn in
+    let bn = behind _ _ _ b cn in
+    let an = behind _ _ _ a bn in
+    subst (Fits Rcf) (sym an) (record {
+      enters = rcf_further_enters a.head b.head c.head d.head e.head f.head g.head h.head k.head;
+      fills = rcf_further_fills a.head b.head c.head d.head e.head f.head g.head h.head k.head;
+    })
+
 cltu_enters : (a b c d e f : Text) → Enters Cltu (a ∷ b ∷ c ∷ d ∷ e ∷ f ∷ [])
 unfolding clap_on_literals
 cltu_enters a b c d e f = record { stop = refl; top = refl }
 
 cltu_fills : (a b c d e f : Text) → Fills Cltu (a ∷ b ∷ c ∷ d ∷ e ∷ f ∷ [])
 cltu_fills a b c d e f = record {
-  goes = (
-    refl,
-    (
-      refl,
-      (
-        refl,
-        (
-          refl,
-          (
-            refl,
-            (
-              refl,
-              (
-                refl,
-                (
-                  refl,
-                  (refl, (refl, (refl, (refl, tt)))),
-                ),
-              ),
-            ),
-          ),
-        ),
-      ),
-    ),
-  );
+  goes = (refl, (refl, (refl, (refl, (refl, (refl, (refl, (refl, (refl, (refl, (refl, (refl, tt))))))))))));
   passes = refl;
   values = refl;
 }
@@ -204,16 +204,64 @@ cltu_fits words size =
       fills = cltu_fills a.head b.head c.head d.head e.head f.head;
     })
 
-fits : (form : Form) (words : List Text) → length words ≡ length (ids_of form)
-    → Fits form words
-fits Show words size = show_fits words size
-fits Raf words size = raf_fits words size
-fits Rcf words size = rcf_fits words size
-fits Cltu words size = cltu_fits words size
+cltu_further_enters : (a b c d e f g : Text) → Enters Cltu (a ∷ b ∷ c ∷ d ∷ e ∷ f ∷ g ∷ [])
+unfolding clap_on_literals
+cltu_further_enters a b c d e f g = record { stop = refl; top = refl }
+
+cltu_further_fills : (a b c d e f g : Text) → Fills Cltu (a ∷ b ∷ c ∷ d ∷ e ∷ f ∷ g ∷ [])
+cltu_further_fills a b c d e f g = record {
+  goes = (refl, (refl, (refl, (refl, (refl, (refl, (refl, (refl, (refl, (refl, (refl, (refl, (refl, (refl, tt))))))))))))));
+  passes = refl;
+  values = refl;
+}
+
+cltu_further_fits : (words : List Text) → length words ≡ 7 → Fits Cltu words
+cltu_further_fits words size =
+    let a = split 6 words size in
+    let b = split 5 a.rest a.size in
+    let c = split 4 b.rest b.size in
+    let d = split 3 c.rest c.size in
+    let e = split 2 d.rest d.size in
+    let f = split 1 e.rest e.size in
+    let g = split 0 f.rest f.size in
+    let gn = behind _ _ _ g (no_more g.rest g.size) in
+    let fn = behind _ _ _ f gn in
+    let en = behind _ _ _ e fn in
+    let dn = behind _ _ _ d en in
+    let cn = behind _ _ _ c dn in
+    let bn = behind _ _ _ b cn in
+    let an = behind _ _ _ a bn in
+    subst (Fits Cltu) (sym an) (record {
+      enters = cltu_further_enters a.head b.head c.head d.head e.head f.head g.head;
+      fills = cltu_further_fills a.head b.head c.head d.head e.head f.head g.head;
+    })
+
+-- a command has the least count of words, or one more
+abbrev one_or_more : (count least : ℕ) → Type 0
+one_or_more count least = (count ≡ least) ⊎ (count ≡ least + 1)
+
+counted : (count least : ℕ) → least ≤ count → count ≤ least + 1 → one_or_more count least
+counted count least enough few = by (count == least) refl
+  where
+    by : (b : Bool) → (count == least) ≡ b → one_or_more count least
+    by true is = inl (eqb-true count least is)
+    by false is = inr (grind (arith, enough, few, is))
+
+fits : (form : Form) (words : List Text) → least_of form ≤ length words
+    → length words ≤ length (ids_of form) → Fits form words
+fits Show words enough few = show_fits words (omega (arith, enough, few))
+fits Raf words enough few =
+    ⊎_elim (raf_fits words) (raf_further_fits words) (counted (length words) 8 enough few)
+fits Rcf words enough few =
+    ⊎_elim (rcf_fits words) (rcf_further_fits words) (counted (length words) 8 enough few)
+fits Cltu words enough few =
+    ⊎_elim (cltu_fits words) (cltu_further_fits words) (counted (length words) 6 enough few)
 
 pub reads : ClapReads
 reads form words is =
-    let parts = and_parts (length words == length (ids_of form)) (list_all is_plain words) is in
-    let size = eqb-true (length words) (length (ids_of form)) parts.0 in
-    let fit = fits form words size in
+    let parts = and_parts (has_count form (length words)) (list_all is_plain words) is in
+    let counts = and_parts (nat_le (least_of form) (length words))
+    (nat_le (length words) (length (ids_of form))) parts.0 in
+    let fit = fits form words (leb-true (least_of form) (length words) counts.0)
+    (leb-true (length words) (length (ids_of form)) counts.1) in
     reads_by form words parts.1 fit.enters fit.fills

@@ -1,6 +1,6 @@
 -- Clap takes the words of a line and gives them back in order.
 use Rattle.std.proofs.Common.{◌≡◌, ℕ, ◌==◌, ◌&&◌, true, false, List, [], ◌∷◌, Some, length, refl}
-use Rattle.std.proofs.Common.{ap, ap₂, sym, subst, ◌∙◌, is_some, map, fold}
+use Rattle.std.proofs.Common.{ap, ap₂, sym, subst, ◌∙◌, is_some, map, fold, take}
 use Rattle.std.specs.List.{list_all}
 use Rattle.clap.specs.Simple.{Shape, built, built_leaf, inherited, names_of, entered, is_simple}
 use Rattle.clap.specs.Simple.{rows_at}
@@ -40,7 +40,7 @@ pub record Fills (form : Form) (words : List Text) : Type 0 where
       && is_valid (leaf_of form) (finished (leaf_of form).rules (end_of form words).held) false))
       ≡ true
   pub values : map (value_in (finished (leaf_of form).rules (end_of form words).held))
-      (ids_of form) ≡ words
+      (take (length words) (ids_of form)) ≡ words
 
 simple : is_simple program ≡ true
 simple = refl
@@ -79,8 +79,10 @@ reads_by form words plain is fills = record {
       (ap₂ (λ a b. a && b) (found form words ∙ leaf_passes form words plain fills)
       (ap (λ e. level_passes (built program).top (names_of (built program)) nothing_held
       (name_of form ∷ words) (is_some e)) (enters form words) ∙ is.top)));
-  values = ap (λ stop. values_in (ids_of form) (entered (built program) stop)) is.stop
-      ∙ (ap (values_in (ids_of form)) (enters form words)
-      ∙ (ap (λ (w : Walk). map (value_in (finished (leaf_of form).rules w.held)) (ids_of form))
+  values = ap (λ stop. values_in (take (length words) (ids_of form)) (entered (built program) stop))
+      is.stop
+      ∙ (ap (values_in (take (length words) (ids_of form))) (enters form words)
+      ∙ (ap (λ (w : Walk). map (value_in (finished (leaf_of form).rules w.held))
+      (take (length words) (ids_of form)))
       (walks (leaf_of form) start words plain fills.goes) ∙ fills.values));
 }

@@ -1,24 +1,26 @@
 -- What clap is told of the commands, and where it puts the words of a line.
-use Rattle.std.specs.Prelude.{ℕ, true, List, [], ◌∷◌, Option}
+use Rattle.std.specs.Prelude.{ℕ, Bool, true, false, List, [], ◌∷◌, Option}
 use Rattle.std.specs.Prelude.{Some, None, codes, map, option_map, unwrap_or}
 use Rattle.clap.specs.Words.{App, Row, Rule, Shape, new_app, new_rule, with_rule, with_subcommand}
 use Rattle.clap.specs.Words.{first_of}
 use Rattle.clap.specs.Simple.{on_top}
 use Rattle.user_line.specs.declared.form.Form.{Form}
 use Rattle.user_line.specs.declared.form.Form.TheVariants.{Show, Raf, Rcf, Cltu}
-use Rattle.user_line.specs.Line.{Text, name_of, ids_of}
+use Rattle.user_line.specs.Line.{Text, name_of, required_of, further_of}
 
--- a word that must stand there
-abbrev pub positional : Text → Rule
-positional id = record (new_rule id) { required = true }
+-- a word that must be there, or may be
+abbrev pub positional : Bool → Text → Rule
+positional required id = record (new_rule id) { required = required }
 
-abbrev pub with_words : App → List Text → App
-with_words app [] = app
-with_words app (id ∷ ids) = with_words (with_rule app (positional id)) ids
+abbrev pub with_words : Bool → App → List Text → App
+with_words required app [] = app
+with_words required app (id ∷ ids) =
+    with_words required (with_rule app (positional required id)) ids
 
--- a command that has these words
+-- a command that has these words, of which only the further one may be left away
 abbrev pub command_of : Form → App
-command_of form = with_words (new_app (name_of form)) (ids_of form)
+command_of form =
+    with_words false (with_words true (new_app (name_of form)) (required_of form)) (further_of form)
 
 -- a program that has no words of its own, no help and no name in front
 abbrev pub bare : App

@@ -1,5 +1,5 @@
 // What clap is told of the commands, and what it reads.
-ghost use Rattle.std.specs.Prelude.{◌≡◌, ◌∷◌, false, true, drop, IfOk, IfErr, map};
+ghost use Rattle.std.specs.Prelude.{◌≡◌, ◌∷◌, false, true, drop, length, take, IfOk, IfErr, map};
 ghost use Rattle.clap.specs.Words.{app_of, kind_of, found_of, rows_of, takes};
 ghost use Rattle.clap.specs.declared.builder.command.Command.TheViews.{out-Command as fields_of};
 ghost use Rattle.clap.specs.declared.error.kind.ErrorKind.TheVariants.{OutOfMemory};
@@ -7,7 +7,7 @@ ghost use Rattle.clap.specs.Words.{subcommand_of, subcommand_rows_of};
 ghost use Rattle.clap.specs.Words.{with_rule};
 ghost use Rattle.user_line.specs.Clap.{positional, with_words, command_of, with_form, program};
 ghost use Rattle.user_line.specs.Clap.{bare, values_in, value_in};
-ghost use Rattle.user_line.specs.Line.{is_line, name_of, texts_of};
+ghost use Rattle.user_line.specs.Line.{is_line, ids_of, name_of, texts_of};
 
 use crate::form::Form;
 use clap::{Arg, ArgMatches, Command, Error};
@@ -26,8 +26,17 @@ pub(crate) fn values_of<'a>(
     ensures err { IfErr result (λ error. kind_of error ≡ OutOfMemory) }
 {
     let matches = matches_of(alloc, line)?;
-    let words = entered_values(alloc, &matches, form.ids())?;
+    let words = entered_values(alloc, &matches, ids_for(form, line))?;
     Ok(words)
+}
+
+// The names of a line's words, in order.
+#[tactic(auto, using(crate::proofs::Values::texts_take, crate::proofs::Values::rest_counted, crate::proofs::Values::few_words))]
+fn ids_for<'a>(form: Form, line: &[&str]) -> &'a [&'a str]
+    requires { is_line form (drop 1 (texts_of line.now)) ≡ true }
+    ensures { texts_of result.now ≡ take (length (drop 1 (texts_of line.now))) (ids_of form) }
+{
+    &form.ids()[..line.len().saturating_sub(1)]
 }
 
 // The words of the command that was entered.
@@ -111,7 +120,9 @@ fn command_of<'a>(alloc: Global, form: Form) -> Result<Command<'a>, AllocError>
     ensures app { IfOk result (λ command. app_of command ≡ command_of form) }
     ensures plain { IfOk result (λ command. (fields_of command).has_globals ≡ false) }
 {
-    with_words(alloc, Command::new(alloc, form.name()), form.ids())
+    let command = Command::new(alloc, form.name());
+    let command = with_words(alloc, command, form.required(), true)?;
+    with_words(alloc, command, form.further(), false)
 }
 
 // The command with words more.
@@ -119,29 +130,31 @@ fn with_words<'a>(
     alloc: Global,
     command: Command<'a>,
     ids: &'a [&'a str],
+    required: bool,
 ) -> Result<Command<'a>, AllocError>
     ensures app { IfOk result (λ more. app_of more
-        ≡ with_words (app_of command.entry) (texts_of ids.entry.now)) }
+        ≡ with_words required (app_of command.entry) (texts_of ids.entry.now)) }
     ensures plain { IfOk result (λ more. (fields_of more).has_globals
         ≡ (fields_of command.entry).has_globals) }
 {
     let mut command = command;
     for id in ids {
-        command = with_word(alloc, command, id)?;
+        command = with_word(alloc, command, id, required)?;
     }
     Ok(command)
 }
 
-// The command with a word more, which must stand there.
+// The command with a word more, which must be there, or may be.
 fn with_word<'a>(
     alloc: Global,
     command: Command<'a>,
     id: &'a str,
+    required: bool,
 ) -> Result<Command<'a>, AllocError>
     ensures app { IfOk result (λ more. app_of more
-        ≡ with_rule (app_of command.entry) (positional id.entry.now)) }
+        ≡ with_rule (app_of command.entry) (positional required id.entry.now)) }
     ensures plain { IfOk result (λ more. (fields_of more).has_globals
         ≡ (fields_of command.entry).has_globals) }
 {
-    command.arg(Arg::new(alloc, id).required(true))
+    command.arg(Arg::new(alloc, id).required(required))
 }

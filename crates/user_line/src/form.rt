@@ -1,17 +1,17 @@
 // The commands of a user's program.
-ghost use Rattle.std.specs.Prelude.{◌≡◌, IfSome};
-ghost use Rattle.user_line.specs.Line.{form_of, ids_of, name_of, texts_of};
+ghost use Rattle.std.specs.Prelude.{◌≡◌, ◌≤◌, IfSome, length};
+ghost use Rattle.user_line.specs.Line.{form_of, ids_of, least_of, required_of, further_of, name_of, texts_of};
 
 /// A command of a user's program.
 #[derive(Clone, Copy, Debug, PartialEq, Eq)]
 pub enum Form {
     /// `show SERVICE`
     Show,
-    /// `raf PORT NAME PASS INSTANCE START STOP QUALITY TURNS`
+    /// `raf PORT NAME PASS INSTANCE START STOP QUALITY TURNS [REPORT]`
     Raf,
-    /// `rcf PORT NAME PASS INSTANCE START STOP CHANNEL TURNS`
+    /// `rcf PORT NAME PASS INSTANCE START STOP CHANNEL TURNS [REPORT]`
     Rcf,
-    /// `cltu PORT NAME PASS INSTANCE FIRST TURNS`
+    /// `cltu PORT NAME PASS INSTANCE FIRST TURNS [REPORT]`
     Cltu,
 }
 
@@ -42,9 +42,37 @@ impl Form {
         }
     }
 
-    // The names of its words, in order.
+    // How many of its words a line has at least.
+    pub(crate) fn least(self) -> usize
+        ensures { result ≡ least_of self }
+    {
+        match self {
+            Form::Show => 1,
+            Form::Raf | Form::Rcf => 8,
+            Form::Cltu => 6,
+        }
+    }
+
+    // The names of those.
+    #[tactic(auto, using(crate::proofs::Values::texts_take))]
+    pub(crate) fn required<'a>(self) -> &'a [&'a str]
+        ensures { texts_of result.now ≡ required_of self }
+    {
+        &self.ids()[..self.least()]
+    }
+
+    // The name of the further one, where it has one.
+    #[tactic(auto, using(crate::proofs::Values::texts_drop))]
+    pub(crate) fn further<'a>(self) -> &'a [&'a str]
+        ensures { texts_of result.now ≡ further_of self }
+    {
+        &self.ids()[self.least()..]
+    }
+
+    // The names of its words, in order, with the further one.
     pub(crate) fn ids<'a>(self) -> &'a [&'a str]
-        ensures { texts_of result.now ≡ ids_of self }
+        ensures exact { texts_of result.now ≡ ids_of self }
+        ensures enough { least_of self ≤ length result.now }
     {
         match self {
             Form::Show => &SHOW,
@@ -57,12 +85,14 @@ impl Form {
 
 static SHOW: [&str; 1] = ["SERVICE"];
 
-static RAF: [&str; 8] = [
-    "PORT", "NAME", "PASS", "INSTANCE", "START", "STOP", "QUALITY", "TURNS",
+static RAF: [&str; 9] = [
+    "PORT", "NAME", "PASS", "INSTANCE", "START", "STOP", "QUALITY", "TURNS", "REPORT",
 ];
 
-static RCF: [&str; 8] = [
-    "PORT", "NAME", "PASS", "INSTANCE", "START", "STOP", "CHANNEL", "TURNS",
+static RCF: [&str; 9] = [
+    "PORT", "NAME", "PASS", "INSTANCE", "START", "STOP", "CHANNEL", "TURNS", "REPORT",
 ];
 
-static CLTU: [&str; 6] = ["PORT", "NAME", "PASS", "INSTANCE", "FIRST", "TURNS"];
+static CLTU: [&str; 7] = [
+    "PORT", "NAME", "PASS", "INSTANCE", "FIRST", "TURNS", "REPORT",
+];

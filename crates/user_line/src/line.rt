@@ -1,7 +1,7 @@
 // A line that has a form.
-ghost use Rattle.std.specs.Prelude.{◌≡◌, ◌==◌, length, IfOk, option_map};
+ghost use Rattle.std.specs.Prelude.{◌≡◌, length, IfOk, option_map};
 ghost use Rattle.std.specs.List.{list_all};
-ghost use Rattle.user_line.specs.Line.{ids_of, is_line, is_plain, line_of, texts_of};
+ghost use Rattle.user_line.specs.Line.{has_count, is_line, is_plain, line_of, texts_of};
 ghost use Rattle.user_line.specs.Line.{line_seen};
 
 use crate::clap_reading::values_of;
@@ -13,7 +13,7 @@ use std::alloc::Global;
 #[derive(Debug, Drop)]
 pub struct Line<'a> {
     pub form: Form,
-    /// As many as the command has, in order.
+    /// As many as the command has, in order, with the further one or without it.
     pub words: Vec<&'a str>,
 }
 
@@ -45,12 +45,12 @@ fn is_line(form: Form, words: &[&str]) -> bool
     has_count(form, words) && are_plain(words)
 }
 
-// Whether they are as many as the command has.
+// Whether the command has as many, with the further one or without it.
 #[tactic(auto, using(crate::proofs::Values::counted))]
 fn has_count(form: Form, words: &[&str]) -> bool
-    ensures { result ≡ (length (texts_of words.now) == length (ids_of form)) }
+    ensures { result ≡ has_count form (length (texts_of words.now)) }
 {
-    words.len() == form.ids().len()
+    form.least() <= words.len() && words.len() <= form.ids().len()
 }
 
 fn are_plain(words: &[&str]) -> bool

@@ -14,7 +14,8 @@ use Rattle.user_core.specs.declared.status.Status.{Status}
 use Rattle.user_core.specs.declared.status.Status.TheVariants.{Done}
 use Rattle.user_core.specs.Course.{is_over, rests, after, answered, aborted, closes, finished_by}
 use Rattle.user_core.specs.Course.{is_awaited, has_begun, was_last, may_say, awaited_of, invoke_at, receives}
-use Rattle.user_core.specs.Dialogue.{Talk, said_to, next_said, went_on, told_to, heard, heard_by}
+use Rattle.user_core.specs.Dialogue.{Talk, said_to, next_said, reports_by, reporting, going_on, went_on}
+use Rattle.user_core.specs.Dialogue.{told_to, heard, heard_by}
 use Rattle.user_core.specs.Dialogue.{refused_at, closed_by, opened, begun, beats, beating, bad_at, asked_to, in_course}
 use Rattle.user_core.specs.Event.{event_of}
 use Rattle.user_core.specs.Hearing.{Kept, Hearing, nothing, came, ended, heard_all, heard_in, unread_in}
@@ -24,8 +25,9 @@ use Rattle.user_lines.specs.declared.told.Told.{Told}
 use Rattle.user_lines.specs.Told.{told_in}
 use Rattle.user_task.specs.declared.task.Task.{Task}
 use Rattle.user_task.specs.declared.work.Work.{Work}
-use Rattle.user_task.specs.Invocation.{Said, bind, start, transfer, stop, unbind, invocation_at}
-use Rattle.user_task.specs.Work.{is_show, service_of, cltus_of}
+use Rattle.user_task.specs.Invocation.{Said, bind, start, schedule, transfer, stop, unbind, reports}
+use Rattle.user_task.specs.Invocation.{invocation_at}
+use Rattle.user_task.specs.Work.{is_show, service_of, cltus_of, report_of}
 use Rattle.std.specs.Prelude.{slice_get}
 use Rattle.user_task.proofs.Invocations.{in_order}
 use Rattle.user_service.specs.Causes.{unbound}
@@ -69,20 +71,27 @@ last_of (y ∷ []) x s zero here behind = absurd cc
 last_of (y ∷ z ∷ front) x s zero here behind = absurd cc
 last_of (y ∷ front) x s (suc n) here behind = last_of front x s n here behind
 
+abbrev before_unbind : Work → List Said
+before_unbind work =
+    bind ∷ start ∷ (reports (report_of work) ++ (map transfer (cltus_of work) ++ stop ∷ []))
+
 invokes_in : (work : Work) (place : ℕ) → is_show work ≡ false
     → invocation_at work place
-    ≡ slice_get ((bind ∷ start ∷ (map transfer (cltus_of work) ++ stop ∷ [])) ++ unbind ∷ []) place
+    ≡ slice_get (before_unbind work ++ unbind ∷ []) place
 invokes_in work place invokes =
+    let asked = reports (report_of work) in
+    let sent = map transfer (cltus_of work) in
     in_order work place
     ∙ (rw invokes
     (ap (λ l. slice_get (bind ∷ start ∷ l) place)
-    (sym (append_assoc (map transfer (cltus_of work)) (stop ∷ []) (unbind ∷ [])))))
+    (sym (append_assoc asked (sent ++ stop ∷ []) (unbind ∷ [])
+    ∙ ap (λ l. asked ++ l) (append_assoc sent (stop ∷ []) (unbind ∷ []))))))
 
-last_is_unbind : (work : Work) (place : ℕ) (s : Said) → is_show work ≡ false
+pub last_is_unbind : (work : Work) (place : ℕ) (s : Said) → is_show work ≡ false
     → invocation_at work place ≡ Some s → invocation_at work (place + 1) ≡ None → s ≡ unbind
 last_is_unbind work place s invokes here behind =
     let next : place + 1 ≡ suc place = omega arith in
-    last_of (bind ∷ start ∷ (map transfer (cltus_of work) ++ stop ∷ [])) unbind s place
+    last_of (before_unbind work) unbind s place
     (sym (invokes_in work place invokes) ∙ here)
     (sym (invokes_in work (suc place) invokes) ∙ (ap (invocation_at work) (sym next) ∙ behind))
 
@@ -118,7 +127,7 @@ after_half work (Returned t invoke refused) c f none =
 after_half work Halted c f none = closes_half work (has_begun c.said) c f none
 after_half work EndOfData c f none = closes_half work (has_begun c.said) c f none
 after_half work (Emptied last_ok) c f none =
-    closes_half work (was_last (cltus_of work) c.said last_ok) c f none
+    closes_half work (was_last work c.said last_ok) c f none
 after_half work Aborted c f none = aborted_half work (is_show work) c f
 
 -- ---- what is said
@@ -136,7 +145,7 @@ unfolding said_to
 said_fine task now d s invokes none here = record {
   fine = λ is. absurd cc;
   last = λ goes behind.
-      ap (λ x. Some (awaited_of x (invoke_at d.course.said)))
+      ap (λ x. awaited_of x (invoke_at d.course.said))
       (last_is_unbind task.work d.course.said s invokes here behind);
 }
 
@@ -178,6 +187,34 @@ rest_fine : (work : Work) (c : Course) → rests c ≡ true → Half work c → 
 rest_fine work c is h =
     record { fine = h.fine; last = λ none at. resting c unbound is none (h.last none at) }
 
+-- what asks for reports ends nobody, and no return is awaited after it
+reports_none : (task : Task) (now : ℕ) (d : Talk) (o : Option Said) → d.course.status ≡ None
+    → d.course.awaited ≡ None
+    → ((reports_by task now d o).course.status ≡ None)
+    × ((reports_by task now d o).course.awaited ≡ None)
+unfolding said_to
+reports_none task now d None none awaits = (none, awaits)
+reports_none task now d (Some bind) none awaits = (none, awaits)
+reports_none task now d (Some start) none awaits = (none, awaits)
+reports_none task now d (Some (schedule cycle)) none awaits = (none, refl)
+reports_none task now d (Some (transfer line)) none awaits = (none, awaits)
+reports_none task now d (Some stop) none awaits = (none, awaits)
+reports_none task now d (Some unbind) none awaits = (none, awaits)
+
+pub reporting_none : (task : Task) (now : ℕ) (d : Talk) → d.course.status ≡ None
+    → d.course.awaited ≡ None
+    → ((reporting task now d).course.status ≡ None)
+    × ((reporting task now d).course.awaited ≡ None)
+unfolding reporting
+reporting_none task now d none awaits =
+    reports_none task now d (invocation_at task.work d.course.said) none awaits
+
+going_fine : (task : Task) (now : ℕ) (d : Talk) → is_show task.work ≡ false
+    → d.course.status ≡ None → d.course.awaited ≡ None → Fine task.work (going_on task now d).course
+unfolding going_on
+going_fine task now d invokes none awaits =
+    next_fine task now d (invocation_at task.work d.course.said) invokes none awaits refl
+
 went_fine : (task : Task) (now : ℕ) (d : Talk) → is_show task.work ≡ false
     → Half task.work d.course → Fine task.work (went_on task now d).course
 unfolding went_on
@@ -187,9 +224,8 @@ went_fine task now d invokes h = by (rests d.course) refl
     by true is = rw is (rest_fine task.work d.course is h)
     by false is =
         let none = both_none d.course is in
-        rw is
-        (next_fine task now d (invocation_at task.work d.course.said) invokes none.0 none.1
-        refl)
+        let behind = reporting_none task now d none.0 none.1 in
+        rw is (going_fine task now (reporting task now d) invokes behind.0 behind.1)
 
 told_half : (task : Task) (d : Talk) (t : Told) → Fine task.work d.course
     → d.course.status ≡ None → Half task.work (told_to task d t).course

@@ -13,7 +13,8 @@ use Rattle.user_core.specs.declared.status.Status.{Status}
 use Rattle.user_core.specs.declared.status.Status.TheVariants.{Done, Refused, BadMessage, PeerEnded}
 use Rattle.user_core.specs.Course.{is_over, rests, after, answered, aborted, closes, finished_by}
 use Rattle.user_core.specs.Course.{is_awaited, has_begun, was_last, may_say, receives}
-use Rattle.user_core.specs.Dialogue.{Talk, said_to, next_said, went_on, told_to, heard, heard_by}
+use Rattle.user_core.specs.Dialogue.{Talk, said_to, next_said, reports_by, reporting, going_on, went_on}
+use Rattle.user_core.specs.Dialogue.{told_to, heard, heard_by}
 use Rattle.user_core.specs.Dialogue.{refused_at, closed_by, opened, begun, beats, beating, bad_at, asked_to, in_course}
 use Rattle.user_core.specs.Event.{event_of}
 use Rattle.user_core.specs.Hearing.{Kept, Hearing, nothing, came, ended, heard_all, heard_in, unread_in}
@@ -24,8 +25,8 @@ use Rattle.user_lines.specs.declared.told.Told.{Told}
 use Rattle.user_lines.specs.Told.{told_in}
 use Rattle.user_task.specs.declared.task.Task.{Task}
 use Rattle.user_task.specs.declared.work.Work.{Work}
-use Rattle.user_task.specs.Invocation.{Said, invocation_at}
-use Rattle.user_task.specs.Work.{is_show, service_of, cltus_of}
+use Rattle.user_task.specs.Invocation.{Said, start, schedule, transfer, stop, unbind, invocation_at}
+use Rattle.user_task.specs.Work.{is_show, service_of}
 use Rattle.user_service.specs.Causes.{brings_by, brings_told, brings, brings_in}
 use Rattle.user_service.specs.Causes.{is_peer_end}
 use Rattle.user_core.specs.declared.course.Awaited.{Awaited}
@@ -33,7 +34,7 @@ use Rattle.user_lines.specs.declared.tag.Tag.{Tag}
 use Rattle.user_service.specs.Causes.{unbound}
 use Rattle.user_service.specs.Streams.{IsAnswered}
 use Rattle.user_service.proofs.Answered.{Fine, both_none, first_is_bind, heard_fine, opened_fine}
-use Rattle.user_service.proofs.Answered.{turn_fine, new_fine, asked_fine, closing_fine}
+use Rattle.user_service.proofs.Answered.{turn_fine, new_fine, asked_fine, closing_fine, last_is_unbind, reporting_none}
 use Rattle.user_task.specs.Invocation.{bind}
 use Rattle.std.proofs.Common.{zero, suc, arith}
 use Rattle.std.specs.Prelude.{not}
@@ -47,8 +48,8 @@ or_right true b is = refl
 or_right false b is = is
 
 -- it goes on, and so isn't over
-going_on : (o : Option Status) → o ≡ None → is_some o ≡ false
-going_on o none = ap is_some none
+goes_on : (o : Option Status) → o ≡ None → is_some o ≡ false
+goes_on o none = ap is_some none
 
 -- ---- what is told
 
@@ -79,7 +80,7 @@ after_brings st work Halted c none is =
 after_brings st work EndOfData c none is =
     let same = closes_keeps (has_begun c.said) c in absurd cc
 after_brings st work (Emptied last_ok) c none is =
-    let same = closes_keeps (was_last (cltus_of work) c.said last_ok) c in absurd cc
+    let same = closes_keeps (was_last work c.said last_ok) c in absurd cc
 after_brings st work Aborted c none is =
     subst (λ x. brings_by x Aborted ≡ true) (sym (aborted_brings st (is_show work) c none is)) refl
 
@@ -132,7 +133,7 @@ cleared work Halted c last goes done =
 cleared work EndOfData c last goes done =
     absurd (closed_undone work (has_begun c.said) c last done)
 cleared work (Emptied last_ok) c last goes done =
-    absurd (closed_undone work (was_last (cltus_of work) c.said last_ok) c last done)
+    absurd (closed_undone work (was_last work c.said last_ok) c last done)
 cleared work Aborted c last goes done =
     absurd (aborted_undone work (is_show work) c last done)
 
@@ -181,6 +182,82 @@ done_brings st task now d e t (Some s) so f none goes awaits at is =
     absurd
     (let no_status : None ≡ Some st = sym goes ∙ (sym (some_status task now e s) ∙ is) in cc)
 
+-- ---- what asks for reports is never the last
+
+invokes_at : (work : Work) (place : ℕ) (s : Said) → invocation_at work place ≡ Some s
+    → is_show work ≡ false
+invokes_at work place s here = by (is_show work) refl
+  where
+    by : (b : Bool) → is_show work ≡ b → is_show work ≡ false
+    by false is = is
+    by true is = absurd (let nothing_there : None ≡ Some s = rw is at here in cc)
+
+after_report : (task : Task) (now : ℕ) (e : Talk) (cycle : ℕ)
+    → invocation_at task.work e.course.said ≡ Some (schedule cycle)
+    → invocation_at task.work (said_to task now e (schedule cycle)).course.said ≡ None → ⊥
+unfolding said_to
+after_report task now e cycle here behind =
+    let same : schedule cycle ≡ unbind =
+    last_is_unbind task.work e.course.said (schedule cycle)
+    (invokes_at task.work e.course.said (schedule cycle) here) here behind in
+    cc
+
+-- where an invocation comes next, nobody ends
+going_none : (task : Task) (now : ℕ) (e : Talk)
+    → (invocation_at task.work e.course.said ≡ None → ⊥) → e.course.status ≡ None
+    → (going_on task now e).course.status ≡ None
+unfolding going_on
+going_none task now e more none = by (invocation_at task.work e.course.said) refl
+  where
+    by : (o : Option Said) → invocation_at task.work e.course.said ≡ o
+        → (next_said task now e o).course.status ≡ None
+    by None is = absurd (more is)
+    by (Some s) is = some_status task now e s ∙ none
+
+done_going : (st : Status) (task : Task) (now : ℕ) (d e : Talk) (t : Told)
+    → Told_so task d e t → Fine task.work d.course → d.course.status ≡ None
+    → e.course.status ≡ None → e.course.awaited ≡ None
+    → (going_on task now e).course.status ≡ Some st → brings_told st (Some t) ≡ true
+unfolding going_on
+done_going st task now d e t so f none goes awaits is =
+    done_brings st task now d e t (invocation_at task.work e.course.said) so f none goes awaits refl
+    is
+
+done_reports : (st : Status) (task : Task) (now : ℕ) (d e : Talk) (t : Told) (o : Option Said)
+    → Told_so task d e t → Fine task.work d.course → d.course.status ≡ None
+    → e.course.status ≡ None → e.course.awaited ≡ None
+    → invocation_at task.work e.course.said ≡ o
+    → (going_on task now (reports_by task now e o)).course.status ≡ Some st
+    → brings_told st (Some t) ≡ true
+done_reports st task now d e t None so f none goes awaits here is =
+    done_going st task now d e t so f none goes awaits is
+done_reports st task now d e t (Some bind) so f none goes awaits here is =
+    done_going st task now d e t so f none goes awaits is
+done_reports st task now d e t (Some start) so f none goes awaits here is =
+    done_going st task now d e t so f none goes awaits is
+done_reports st task now d e t (Some (schedule cycle)) so f none goes awaits here is =
+    let e2 = said_to task now e (schedule cycle) in
+    let nobody : (going_on task now e2).course.status ≡ None =
+    going_none task now e2 (after_report task now e cycle here)
+    (said_status task now e (schedule cycle) ∙ goes) in
+    absurd (let no_status : None ≡ Some st = sym nobody ∙ is in cc)
+done_reports st task now d e t (Some (transfer line)) so f none goes awaits here is =
+    done_going st task now d e t so f none goes awaits is
+done_reports st task now d e t (Some stop) so f none goes awaits here is =
+    done_going st task now d e t so f none goes awaits is
+done_reports st task now d e t (Some unbind) so f none goes awaits here is =
+    done_going st task now d e t so f none goes awaits is
+
+done_reporting : (st : Status) (task : Task) (now : ℕ) (d e : Talk) (t : Told)
+    → Told_so task d e t → Fine task.work d.course → d.course.status ≡ None
+    → e.course.status ≡ None → e.course.awaited ≡ None
+    → (going_on task now (reporting task now e)).course.status ≡ Some st
+    → brings_told st (Some t) ≡ true
+unfolding reporting
+done_reporting st task now d e t so f none goes awaits is =
+    done_reports st task now d e t (invocation_at task.work e.course.said) so f none goes awaits
+    refl is
+
 went_brings : (st : Status) (task : Task) (now : ℕ) (d e : Talk) (t : Told)
     → Told_so task d e t → Fine task.work d.course → d.course.status ≡ None
     → (went_on task now e).course.status ≡ Some st
@@ -193,8 +270,7 @@ went_brings st task now d e t so f none is told = by (rests e.course) refl
     by true rest = told (rw rest at is)
     by false rest =
         let both = both_none e.course rest in
-        done_brings st task now d e t (invocation_at task.work e.course.said) so f none both.0
-        both.1 refl (rw rest at is)
+        done_reporting st task now d e t so f none both.0 both.1 (rw rest at is)
 
 -- ---- messages
 
@@ -218,7 +294,7 @@ heard_brings : (st : Status) (task : Task) (now place : ℕ) (d : Talk) (m : Con
     → brings_told st (told_in (service_of task.work) m) ≡ true
 unfolding heard
 heard_brings st task now place d m f none is =
-    let going : is_over d.course ≡ false = going_on d.course.status none in
+    let going : is_over d.course ≡ false = goes_on d.course.status none in
     heard_by_brings st task now place d (told_in (service_of task.work) m) f none
     (rw going at is)
 
@@ -227,7 +303,7 @@ refused_brings : (st : Status) (refused : Bool) (place : ℕ) (d : Talk) → d.c
     → (refused && brings_told st None) ≡ true
 refused_brings st false place d none is = absurd cc
 refused_brings st true place d none is =
-    let going : is_over d.course ≡ false = going_on d.course.status none in
+    let going : is_over d.course ≡ false = goes_on d.course.status none in
     bad_brings st place d (rw going at is)
 
 or_assoc : (a b c : Bool) → (a || (b || c)) ≡ true → ((a || b) || c) ≡ true
@@ -289,15 +365,28 @@ is_zero zero is = refl
 is_zero (suc n) is = absurd (grind arith)
 
 -- a turn's opening ends nobody
-went_none : (task : Task) (now : ℕ) (d : Talk) (s : Said)
-    → invocation_at task.work d.course.said ≡ Some s → d.course.status ≡ None
+bind_reports : (task : Task) (now : ℕ) (d : Talk)
+    → invocation_at task.work d.course.said ≡ Some bind → reporting task now d ≡ d
+unfolding reporting
+bind_reports task now d here = ap (reports_by task now d) here
+
+bind_more : (task : Task) (d : Talk) → invocation_at task.work d.course.said ≡ Some bind
+    → invocation_at task.work d.course.said ≡ None → ⊥
+bind_more task d here none = let both : Some bind ≡ None = sym here ∙ none in cc
+
+went_none : (task : Task) (now : ℕ) (d : Talk)
+    → invocation_at task.work d.course.said ≡ Some bind → d.course.status ≡ None
     → (went_on task now d).course.status ≡ None
 unfolding went_on
-went_none task now d s at none = by (rests d.course) refl
+went_none task now d here none = by (rests d.course) refl
   where
     by : (b : Bool) → rests d.course ≡ b → (went_on task now d).course.status ≡ None
     by true is = rw is none
-    by false is = rw (is, at) (some_status task now d s ∙ none)
+    by false is =
+        rw is
+        (subst (λ (x : Talk). (going_on task now x).course.status ≡ None)
+        (sym (bind_reports task now d here))
+        (going_none task now d (bind_more task d here) none))
 
 opened_none : (task : Task) (now : ℕ) (d : Talk) → is_show task.work ≡ false
     → d.course.status ≡ None → (opened task now d).course.status ≡ None
@@ -309,17 +398,35 @@ opened_none task now d invokes none = by (d.course.said == 0) refl
         let at : invocation_at task.work d.course.said ≡ Some bind =
         ap (invocation_at task.work) (is_zero d.course.said is)
         ∙ first_is_bind task.work invokes in
-        rw is (went_none task now d bind at none)
+        rw is (went_none task now d at none)
     by false is = rw is none
 
 -- nor does a user end by being asked to: it only says what comes next
-next_none : (task : Task) (now : ℕ) (d : Talk) (o : Option Said)
+more_next : (task : Task) (d : Talk) → Fine task.work d.course → d.course.status ≡ None
+    → d.course.awaited ≡ None → invocation_at task.work d.course.said ≡ None → ⊥
+more_next task d f none awaits is =
+    let last : Some unbound ≡ None = sym (f.last none is) ∙ awaits in cc
+
+more_reports : (task : Task) (now : ℕ) (d : Talk) (o : Option Said)
     → invocation_at task.work d.course.said ≡ o → Fine task.work d.course
     → d.course.status ≡ None → d.course.awaited ≡ None
-    → (next_said task now d o).course.status ≡ None
-next_none task now d None at f none awaits =
-    let last : d.course.awaited ≡ Some unbound = f.last none at in absurd cc
-next_none task now d (Some s) at f none awaits = some_status task now d s ∙ none
+    → invocation_at task.work (reports_by task now d o).course.said ≡ None → ⊥
+more_reports task now d None here f none awaits is = more_next task d f none awaits is
+more_reports task now d (Some bind) here f none awaits is = more_next task d f none awaits is
+more_reports task now d (Some start) here f none awaits is = more_next task d f none awaits is
+more_reports task now d (Some (schedule cycle)) here f none awaits is =
+    after_report task now d cycle here is
+more_reports task now d (Some (transfer line)) here f none awaits is =
+    more_next task d f none awaits is
+more_reports task now d (Some stop) here f none awaits is = more_next task d f none awaits is
+more_reports task now d (Some unbind) here f none awaits is = more_next task d f none awaits is
+
+more_reporting : (task : Task) (now : ℕ) (d : Talk) → Fine task.work d.course
+    → d.course.status ≡ None → d.course.awaited ≡ None
+    → invocation_at task.work (reporting task now d).course.said ≡ None → ⊥
+unfolding reporting
+more_reporting task now d f none awaits is =
+    more_reports task now d (invocation_at task.work d.course.said) refl f none awaits is
 
 went_going : (task : Task) (now : ℕ) (d : Talk) → Fine task.work d.course
     → d.course.status ≡ None → (went_on task now d).course.status ≡ None
@@ -329,9 +436,10 @@ went_going task now d f none = by (rests d.course) refl
     by : (b : Bool) → rests d.course ≡ b → (went_on task now d).course.status ≡ None
     by true is = rw is none
     by false is =
+        let awaits = (both_none d.course is).1 in
         rw is
-        (next_none task now d (invocation_at task.work d.course.said) refl f none
-        (both_none d.course is).1)
+        (going_none task now (reporting task now d) (more_reporting task now d f none awaits)
+        (reporting_none task now d none awaits).0)
 
 asked_none : (task : Task) (asked : Bool) (now : ℕ) (d : Talk) → Fine task.work d.course
     → d.course.status ≡ None → (asked_to task asked now d).course.status ≡ None
@@ -365,7 +473,7 @@ turn_brings : (st : Status) (s : Standing) (t : Turn) → is_show s.task.work �
     → (after_turn s t).course.status ≡ Some st
     → brings st (service_of s.task.work) s.stream t.hearing ≡ true
 turn_brings st s t invokes f none is =
-    let going : is_over s.course ≡ false = going_on s.course.status none in
+    let going : is_over s.course ≡ false = goes_on s.course.status none in
     let a = begun t.waits t.now (talk_of s) in
     let o = opened s.task t.now a in
     let b = asked_to s.task t.asked t.now o in

@@ -14,12 +14,12 @@ use Rattle.user_service.specs.Sending.{task_of, work_of}
 pub task_fits : (draw : ℕ) (identity : Identity) (asked : Asked) (turns : ℕ)
     (cltus : List CltuLine) → FitsTalk identity asked turns → list_all fits_line cltus ≡ true
     → IsTrue (fits_task (task_of draw identity asked cltus))
-task_fits draw identity (Raf from to quality) turns cltus fits all = search fits.named
-task_fits draw identity (Rcf from to channel) turns cltus fits all =
+task_fits draw identity (Raf from to quality report) turns cltus fits all = search fits.named
+task_fits draw identity (Rcf from to channel report) turns cltus fits all =
     search (fits.named, fits.asks)
-task_fits draw identity (Cltu first) turns cltus fits all = search (fits.named, all)
+task_fits draw identity (Cltu first report) turns cltus fits all = search (fits.named, all)
 
 pub task_invokes : (asked : Asked) (cltus : List CltuLine) → is_show (work_of asked cltus) ≡ false
-task_invokes (Raf from to quality) cltus = refl
-task_invokes (Rcf from to channel) cltus = refl
-task_invokes (Cltu first) cltus = refl
+task_invokes (Raf from to quality report) cltus = refl
+task_invokes (Rcf from to channel report) cltus = refl
+task_invokes (Cltu first report) cltus = refl

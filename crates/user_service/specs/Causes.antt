@@ -10,20 +10,20 @@ use Rattle.user_core.specs.declared.event.Event.{Event}
 use Rattle.user_core.specs.declared.event.Event.TheVariants.{Returned, Aborted}
 use Rattle.user_core.specs.declared.status.Status.{Status}
 use Rattle.user_core.specs.declared.status.Status.TheVariants.{Done, Refused, BadMessage, PeerEnded}
-use Rattle.user_core.specs.Course.{is_awaited, awaited_of}
+use Rattle.user_core.specs.Course.{is_awaited}
 use Rattle.user_core.specs.Event.{event_of}
 use Rattle.user_core.specs.Hearing.{Kept, Hearing, nothing, came, ended, unread_in}
 use Rattle.user_core.specs.Laws.{Turn, after_turn}
 use Rattle.user_core.specs.Turn.{Standing}
+use Rattle.user_lines.specs.declared.tag.Tag.TheVariants as tag
 use Rattle.user_lines.specs.declared.told.Told.{Told}
 use Rattle.user_lines.specs.Told.{told_in}
 use Rattle.user_show.specs.declared.ending.Ending.{Ending}
 use Rattle.user_show.specs.declared.ending.Ending.TheVariants as ending
-use Rattle.user_task.specs.Invocation.{unbind}
 
 -- the return of UNBIND
 abbrev pub unbound : Awaited
-unbound = awaited_of unbind 0
+unbound = record { tag = tag.UnbindReturn; invoke = None }
 
 -- the positive return of UNBIND is the last, a negative return refuses, and a PEER-ABORT ends
 abbrev pub brings_by : Status → Event → Bool

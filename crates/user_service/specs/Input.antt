@@ -21,6 +21,6 @@ Names left (Err Memory) = Unit {0}
 
 -- for frames no CLTU is sent, whatever the input holds
 abbrev pub NamesFor : Asked → Option (List ℕ) → Result (List CltuLine) Unsent → Type 0
-NamesFor (Raf from to quality) left named = named ≡ Ok []
-NamesFor (Rcf from to channel) left named = named ≡ Ok []
-NamesFor (Cltu first) left named = Names left named
+NamesFor (Raf from to quality report) left named = named ≡ Ok []
+NamesFor (Rcf from to channel report) left named = named ≡ Ok []
+NamesFor (Cltu first report) left named = Names left named

@@ -10,9 +10,9 @@ use Rattle.user_words.specs.declared.identity.Identity.{Identity}
 
 -- the work that is asked for, with these CLTUs
 abbrev pub work_of : Asked → List CltuLine → Work
-work_of (Raf from to quality) cltus = work.Raf from to quality
-work_of (Rcf from to channel) cltus = work.Rcf from to channel
-work_of (Cltu first) cltus = work.Cltu first cltus
+work_of (Raf from to quality report) cltus = work.Raf from to quality report
+work_of (Rcf from to channel report) cltus = work.Rcf from to channel report
+work_of (Cltu first report) cltus = work.Cltu first cltus report
 
 abbrev pub task_of : ℕ → Identity → Asked → List CltuLine → Task
 task_of draw identity asked cltus = record {

@@ -39,21 +39,29 @@ fn work_of(asked: Asked, cltus: Cltus) -> Work
             start,
             stop,
             quality,
+            report,
         } => Work::Raf {
             start,
             stop,
             quality,
+            report,
         },
         Asked::Rcf {
             start,
             stop,
             channel,
+            report,
         } => Work::Rcf {
             start,
             stop,
             channel,
+            report,
         },
-        Asked::Cltu { first } => Work::Cltu { first, cltus },
+        Asked::Cltu { first, report } => Work::Cltu {
+            first,
+            cltus,
+            report,
+        },
     }
 }
 

@@ -23,6 +23,7 @@ use Rattle.fcltu_pdu.specs.declared.cltu_transfer.CltuTransfer.{CltuTransfer}
 use Rattle.fcltu_pdu.specs.Transfer.{transfer_of, transfer_pdu}
 use Rattle.return_pdu.specs.declared.raf_start.RafStart.{RafStart}
 use Rattle.return_pdu.specs.declared.rcf_start.RcfStart.{RcfStart}
+use Rattle.return_pdu.specs.Scheduling.{schedule}
 use Rattle.return_pdu.specs.Seen.{raf_start_of, rcf_start_of}
 use Rattle.return_pdu.specs.Starting.{raf_start, rcf_start}
 use Rattle.sle_common.specs.Credentials.{credentials, credentials_of}
@@ -40,7 +41,7 @@ use Rattle.sle_numbers.specs.declared.service_type.ServiceType.TheVariants.{FwdC
 use Rattle.user_task.specs.declared.task.Task.{Task}
 use Rattle.user_task.specs.declared.cltus.CltuLine.{CltuLine}
 use Rattle.user_task.specs.Fitting.{is_name, fits_gvcid, fits_channel, fits_line}
-use Rattle.user_task.specs.Message.{bind_said}
+use Rattle.user_task.specs.Message.{bind_said, schedule_said}
 use Rattle.user_task.specs.Work.{service_of}
 
 -- ---- few octets
@@ -102,6 +103,11 @@ pub raf_fits : (s : RafStart) → credentials.Fits (credentials_of s.credentials
     → s.invoke < 2 ^ 16 → conditional_time.Fits s.start → conditional_time.Fits s.stop
     → raf_start.Fits (raf_start_of s)
 raf_fits s signed invoke from to = (signed, (invoke_fits s.invoke invoke, (from, (to, tt))))
+
+pub schedule_fits : (cycle invoke : ℕ) (by : Option (List ℕ)) → credentials.Fits by
+    → cycle < 2 ^ 16 → invoke < 2 ^ 16 → schedule.Fits (schedule_said cycle invoke by)
+schedule_fits cycle invoke by signed small few =
+    (signed, (invoke_fits invoke few, record { least_so = omega arith; greatest_so = omega arith }))
 
 pub transfer_fits : (t : CltuTransfer) → credentials.Fits (credentials_of t.credentials)
     → t.invoke < 2 ^ 16 → t.id < 2 ^ 32 → t.radiation_delay < 2 ^ 32

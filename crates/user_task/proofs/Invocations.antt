@@ -7,11 +7,12 @@ use Rattle.std.specs.List.{list_all}
 use Rattle.user_task.specs.declared.cltus.CltuLine.{CltuLine}
 use Rattle.user_task.specs.declared.task.Task.{Task}
 use Rattle.user_task.specs.Fitting.{fits_line, fits_start, fits_task, is_name}
-use Rattle.user_task.specs.Invocation.{bind, start, transfer, stop, unbind, closing_at, forward_at}
-use Rattle.user_task.specs.Invocation.{forward_by, invocation_at, invocations}
+use Rattle.user_task.specs.Invocation.{bind, start, schedule, transfer, stop, unbind}
+use Rattle.user_task.specs.Invocation.{closing_at, forward_at, forward_by, started_at, reports}
+use Rattle.user_task.specs.Invocation.{invocation_at, invocations}
 use Rattle.user_task.specs.Laws.{InvocationsInOrder}
 use Rattle.user_task.specs.declared.work.Work.{Work}
-use Rattle.user_task.specs.Work.{cltus_of, is_show}
+use Rattle.user_task.specs.Work.{cltus_of, is_show, report_of}
 
 -- what a task's invocations say
 pub record Fit (t : Task) : Type 0 where
@@ -67,21 +68,36 @@ forward_in_order (x ∷ lines) (suc place) =
     let less : suc place - suc (length lines) ≡ place - length lines = omega arith in
     ap (λ n. forward_by n (slice_get lines place)) less ∙ forward_in_order lines place
 
-first_in_order : (lines : List CltuLine) (place : ℕ)
+started_in_order : (report : Option ℕ) (lines : List CltuLine) (place : ℕ)
+    → started_at report lines place
+    ≡ slice_get (reports report ++ (map transfer lines ++ stop ∷ unbind ∷ [])) place
+started_in_order None lines place = forward_in_order lines place
+started_in_order (Some cycle) lines zero = refl
+started_in_order (Some cycle) lines (suc place) = by (suc place == 0) (grind arith)
+  where
+    by : (first : Bool) → first ≡ false
+        → (if first then Some (schedule cycle) else forward_at lines (suc place - 1))
+        ≡ slice_get (map transfer lines ++ stop ∷ unbind ∷ []) place
+    by first is =
+        let less : suc place - 1 ≡ place = omega arith in
+        rw is (ap (forward_at lines) less ∙ forward_in_order lines place)
+
+first_in_order : (report : Option ℕ) (lines : List CltuLine) (place : ℕ)
     → (if place == 0 then Some bind else if place == 1 then Some start
-    else forward_at lines (place - 2))
-    ≡ slice_get (bind ∷ start ∷ (map transfer lines ++ stop ∷ unbind ∷ [])) place
-first_in_order lines zero = refl
-first_in_order lines (suc zero) = refl
-first_in_order lines (suc (suc place)) = by_tests (suc (suc place) == 0) (suc (suc place) == 1) (grind arith) (grind arith)
+    else started_at report lines (place - 2))
+    ≡ slice_get (bind ∷ start ∷ (reports report ++ (map transfer lines ++ stop ∷ unbind ∷ []))) place
+first_in_order report lines zero = refl
+first_in_order report lines (suc zero) = refl
+first_in_order report lines (suc (suc place)) =
+    by_tests (suc (suc place) == 0) (suc (suc place) == 1) (grind arith) (grind arith)
   where
     by_tests : (a b : Bool) → a ≡ false → b ≡ false
         → (if a then Some bind else if b then Some start
-        else forward_at lines (suc (suc place) - 2))
-        ≡ slice_get (map transfer lines ++ stop ∷ unbind ∷ []) place
+        else started_at report lines (suc (suc place) - 2))
+        ≡ slice_get (reports report ++ (map transfer lines ++ stop ∷ unbind ∷ [])) place
     by_tests a b e f =
         let less : suc (suc place) - 2 ≡ place = omega arith in
-        rw (e, f) (ap (forward_at lines) less ∙ forward_in_order lines place)
+        rw (e, f) (ap (started_at report lines) less ∙ started_in_order report lines place)
 
 pub in_order : InvocationsInOrder
 in_order work place = by (is_show work) refl
@@ -89,4 +105,4 @@ in_order work place = by (is_show work) refl
     by : (show : Bool) → is_show work ≡ show
         → invocation_at work place ≡ slice_get (invocations work) place
     by true is = rw is refl
-    by false is = rw is (first_in_order (cltus_of work) place)
+    by false is = rw is (first_in_order (report_of work) (cltus_of work) place)

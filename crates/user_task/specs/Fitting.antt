@@ -9,7 +9,7 @@ use Rattle.user_task.specs.declared.cltus.CltuLine.{CltuLine}
 use Rattle.user_task.specs.declared.task.Task.{Task}
 use Rattle.user_task.specs.declared.work.Work.{Work}
 use Rattle.user_task.specs.declared.work.Work.TheVariants.{Show, Raf, Rcf, Cltu}
-use Rattle.user_task.specs.Invocation.{Said, bind, start, transfer, stop, unbind}
+use Rattle.user_task.specs.Invocation.{Said, bind, start, schedule, transfer, stop, unbind}
 use Rattle.user_task.specs.Work.{is_show, cltus_of}
 
 -- the name of a side: 3 to 16 characters from 20 to 7E
@@ -25,7 +25,7 @@ fits_gvcid g = nat_le g.spacecraft 1023 && nat_le g.version 3 && fits_channel g.
 
 -- what START says
 abbrev pub fits_start : Work → Bool
-fits_start (Rcf from to channel) = fits_gvcid channel
+fits_start (Rcf from to channel report) = fits_gvcid channel
 fits_start _ = true
 
 -- a CLTU's length is this product's own
@@ -36,6 +36,7 @@ fits_line line = nat_le 1 (length line.octets) && nat_le (length line.octets) 65
 abbrev pub fits_said : Task → Said → Bool
 fits_said task bind = is_name task.name
 fits_said task start = fits_start task.work
+fits_said task (schedule cycle) = true
 fits_said task (transfer line) = fits_line line
 fits_said task stop = true
 fits_said task unbind = true

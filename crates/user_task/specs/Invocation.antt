@@ -3,15 +3,16 @@ use Rattle.std.specs.Prelude.{ℕ, ◌-◌, ◌==◌, true, false, if◌then◌e
 use Rattle.std.specs.Prelude.{List, [], ◌∷◌, ◌++◌, map, length, slice_get}
 use Rattle.user_task.specs.declared.cltus.CltuLine.{CltuLine}
 use Rattle.user_task.specs.declared.invocation.Invocation.{Invocation}
-use Rattle.user_task.specs.declared.invocation.Invocation.TheVariants.{Bind, Start, Transfer, Stop}
-use Rattle.user_task.specs.declared.invocation.Invocation.TheVariants.{Unbind}
+use Rattle.user_task.specs.declared.invocation.Invocation.TheVariants.{Bind, Start, Schedule}
+use Rattle.user_task.specs.declared.invocation.Invocation.TheVariants.{Transfer, Stop, Unbind}
 use Rattle.user_task.specs.declared.work.Work.{Work}
-use Rattle.user_task.specs.Work.{is_show, cltus_of}
+use Rattle.user_task.specs.Work.{is_show, cltus_of, report_of}
 
 -- what is invoked
 pub data Said : Type 0 where
   bind : Said
   start : Said
+  schedule : ℕ → Said
   transfer : CltuLine → Said
   stop : Said
   unbind : Said
@@ -19,6 +20,7 @@ pub data Said : Type 0 where
 abbrev pub said_of : Invocation → Said
 said_of Bind = bind
 said_of Start = start
+said_of (Schedule cycle) = schedule cycle
 said_of (Transfer line) = transfer line.now
 said_of Stop = stop
 said_of Unbind = unbind
@@ -32,9 +34,15 @@ abbrev pub forward_by : ℕ → Option CltuLine → Option Said
 forward_by behind (Some line) = Some (transfer line)
 forward_by behind None = closing_at behind
 
--- behind START: each CLTU, then STOP and UNBIND
+-- after START and what asks for reports: each CLTU, then STOP and UNBIND
 abbrev pub forward_at : List CltuLine → ℕ → Option Said
 forward_at cltus place = forward_by (place - length cltus) (slice_get cltus place)
+
+-- after START: what asks for status reports at this cycle, where they are wanted
+abbrev pub started_at : Option ℕ → List CltuLine → ℕ → Option Said
+started_at None cltus place = forward_at cltus place
+started_at (Some cycle) cltus place =
+    if place == 0 then Some (schedule cycle) else forward_at cltus (place - 1)
 
 -- the invocation at a place, counted from 0; who only reads invokes nothing
 abbrev pub invocation_at : Work → ℕ → Option Said
@@ -42,10 +50,17 @@ invocation_at work place =
     if is_show work then None
     else if place == 0 then Some bind
     else if place == 1 then Some start
-    else forward_at (cltus_of work) (place - 2)
+    else started_at (report_of work) (cltus_of work) (place - 2)
 
--- all of them in order: BIND, START, a TRANSFER-DATA for each CLTU, STOP and UNBIND
+-- SCHEDULE-STATUS-REPORT, where status reports are wanted
+abbrev pub reports : Option ℕ → List Said
+reports None = []
+reports (Some cycle) = schedule cycle ∷ []
+
+-- all of them in order: BIND, START, SCHEDULE-STATUS-REPORT where it is wanted, a TRANSFER-DATA for
+-- each CLTU, STOP and UNBIND
 abbrev pub invocations : Work → List Said
 invocations work =
     if is_show work then []
-    else bind ∷ start ∷ (map transfer (cltus_of work) ++ stop ∷ unbind ∷ [])
+    else bind ∷ start ∷ (reports (report_of work)
+    ++ (map transfer (cltus_of work) ++ stop ∷ unbind ∷ []))

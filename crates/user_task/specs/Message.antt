@@ -13,8 +13,10 @@ use Rattle.isp1_auth.specs.declared.secret.Secret.{Secret}
 use Rattle.isp1_auth.specs.Signed.{signed}
 use Rattle.isp1_tml.specs.Message.{pdu, spelling}
 use Rattle.isp1_tml.specs.declared.message.TheConstants.{LONGEST_PDU}
+use Rattle.return_pdu.specs.Scheduling.{ScheduleContent, schedule as schedule_pdu}
 use Rattle.return_pdu.specs.Starting.{RafStartContent, RcfStartContent, raf_start, rcf_start}
 use Rattle.return_pdu.specs.Stopping.{StopContent, stop as stop_pdu}
+use Rattle.sle_common.specs.declared.report_kind.ReportKind.TheVariants.{Cycle}
 use Rattle.sle_numbers.specs.ServiceType as services
 use Rattle.sle_numbers.specs.UnbindReason as reasons
 use Rattle.sle_numbers.specs.declared.unbind_reason.UnbindReason.TheVariants.{End}
@@ -24,7 +26,7 @@ use Rattle.user_task.specs.declared.task.Signing.TheVariants.{Unused, Used}
 use Rattle.user_task.specs.declared.task.Task.{Task}
 use Rattle.user_task.specs.declared.work.Work.{Work}
 use Rattle.user_task.specs.declared.work.Work.TheVariants.{Show, Raf, Rcf, Cltu}
-use Rattle.user_task.specs.Invocation.{Said, bind, start, transfer, stop, unbind}
+use Rattle.user_task.specs.Invocation.{Said, bind, start, schedule, transfer, stop, unbind}
 use Rattle.user_task.specs.Work.{service_of}
 
 -- a PDU as a message of the transport
@@ -67,6 +69,11 @@ bind_said task credentials = record {
   instance = task.instance;
 }
 
+-- periodically, each so many seconds
+abbrev pub schedule_said : ℕ → ℕ → Option (List ℕ) → ScheduleContent
+schedule_said cycle invoke credentials =
+    record { credentials = credentials; invoke = invoke; report = Cycle cycle }
+
 abbrev pub transfer_said : CltuLine → ℕ → Option (List ℕ) → Transfer
 transfer_said line invoke credentials = record {
   credentials = credentials;
@@ -82,7 +89,7 @@ transfer_said line invoke credentials = record {
 -- START of the work's service; what only reads has none
 abbrev pub start_message : Work → ℕ → Option (List ℕ) → List ℕ
 start_message (Show service) invoke credentials = []
-start_message (Raf from to quality) invoke credentials =
+start_message (Raf from to quality report) invoke credentials =
     message_of raf_start
     (record {
       credentials = credentials;
@@ -91,7 +98,7 @@ start_message (Raf from to quality) invoke credentials =
       stop = to;
       quality = quality;
     })
-start_message (Rcf from to channel) invoke credentials =
+start_message (Rcf from to channel report) invoke credentials =
     message_of rcf_start
     (record {
       credentials = credentials;
@@ -100,13 +107,15 @@ start_message (Rcf from to channel) invoke credentials =
       stop = to;
       channel = channel;
     })
-start_message (Cltu first cltus) invoke credentials =
+start_message (Cltu first cltus report) invoke credentials =
     message_of start_pdu (record { credentials = credentials; invoke = invoke; first = first })
 
 -- the message of an invocation; BIND and UNBIND have no invoke identifier
 abbrev pub message : Task → Said → ℕ → Option (List ℕ) → List ℕ
 message task bind invoke credentials = message_of bind_pdu (bind_said task credentials)
 message task start invoke credentials = start_message task.work invoke credentials
+message task (schedule cycle) invoke credentials =
+    message_of schedule_pdu (schedule_said cycle invoke credentials)
 message task (transfer line) invoke credentials =
     message_of transfer_pdu (transfer_said line invoke credentials)
 message task stop invoke credentials =

@@ -2,8 +2,8 @@
 ghost use Rattle.std.specs.Prelude.{◌≡◌, ◌+◌, ◌<◌, ◌^◌, false, IsTrue, IfSome, option_map};
 ghost use Rattle.user_task.specs.declared.task.Task.{Task};
 ghost use Rattle.user_task.specs.Fitting.{fits_said, fits_task};
-ghost use Rattle.user_task.specs.Invocation.{said_of, invocation_at, closing_at, forward_at};
-ghost use Rattle.user_task.specs.Work.{cltus_of, is_show};
+ghost use Rattle.user_task.specs.Invocation.{said_of, invocation_at, started_at, closing_at, forward_at};
+ghost use Rattle.user_task.specs.Work.{cltus_of, is_show, report_of};
 
 use crate::cltus::CltuLine;
 use crate::task::Task;
@@ -13,6 +13,8 @@ use crate::task::Task;
 pub enum Invocation<'a> {
     Bind,
     Start,
+    /// SCHEDULE-STATUS-REPORT of a report each so many seconds.
+    Schedule(u16),
     /// TRANSFER-DATA of a CLTU.
     Transfer(&'a CltuLine),
     Stop,
@@ -35,11 +37,29 @@ impl Task {
         match place {
             0 => Some(Invocation::Bind),
             1 => Some(Invocation::Start),
-            _ => self.forward(place - 2),
+            _ => self.started(place - 2),
         }
     }
 
-    // The invocation behind START at a place: of a CLTU, or one that ends the work.
+    // The invocation after START at a place: what asks for reports, where they are wanted, comes
+    // first.
+    fn started(&self, place: usize) -> Option<Invocation<'_>>
+        requires fits { IsTrue (fits_task self.now) }
+        requires invokes { is_show self.now.work ≡ false }
+        ensures exact { option_map said_of result
+            ≡ started_at (report_of self.now.work) (cltus_of self.now.work) place }
+        ensures fits { IfSome result (λ invocation.
+            IsTrue (fits_said self.now (said_of invocation))) }
+        ensures place { IfSome result (λ invocation. place + 3 < 2 ^ 64) }
+    {
+        match (self.work.report(), place) {
+            (None, _) => self.forward(place),
+            (Some(cycle), 0) => Some(Invocation::Schedule(cycle)),
+            (Some(_), _) => self.forward(place - 1),
+        }
+    }
+
+    // The invocation at a place after these: of a CLTU, or one that ends the work.
     #[tactic(auto, using(crate::proofs::Invocations::line_fits))]
     fn forward(&self, place: usize) -> Option<Invocation<'_>>
         requires fits { IsTrue (fits_task self.now) }
@@ -47,7 +67,7 @@ impl Task {
         ensures exact { option_map said_of result ≡ forward_at (cltus_of self.now.work) place }
         ensures fits { IfSome result (λ invocation.
             IsTrue (fits_said self.now (said_of invocation))) }
-        ensures place { IfSome result (λ invocation. place + 3 < 2 ^ 64) }
+        ensures place { IfSome result (λ invocation. place + 4 < 2 ^ 64) }
     {
         let cltus = self.work.cltus();
         match cltus.get(place) {

@@ -1,7 +1,8 @@
 // What a user of a provider is to do: its invocations in their order, and their messages.
 //
 // A `Task` says who the user is and what it does with one service instance. `Task::invocation` is
-// the invocation at a place: BIND, START, a TRANSFER-DATA for each CLTU, STOP and UNBIND.
+// the invocation at a place: BIND, START, SCHEDULE-STATUS-REPORT where status reports are wanted, a
+// TRANSFER-DATA for each CLTU, STOP and UNBIND.
 // `Task::put` appends the message of one, with credentials where the user has a password. `fits` is
 // the test of what its callers require. The module `laws` has what is proved of every task. An
 // invocation costs its octets once, and a digest where it is signed.

@@ -7,11 +7,12 @@ ghost use Rattle.fcltu_pdu.specs.Transfer.{transfer_of, transfer_pdu};
 ghost use Rattle.isp1_auth.specs.declared.random_numbers.TheConstants.{GREATEST_NUMBER};
 ghost use Rattle.sle_common.specs.Credentials.{credentials as credentials_element, credentials_of};
 ghost use Rattle.sle_common.specs.Time.{time as time_element, conditional_time};
+ghost use Rattle.return_pdu.specs.Scheduling.{schedule};
 ghost use Rattle.return_pdu.specs.Seen.{raf_start_of, rcf_start_of};
 ghost use Rattle.return_pdu.specs.Starting.{raf_start, rcf_start};
 ghost use Rattle.user_task.specs.Fitting.{fits_gvcid, fits_said, fits_start, fits_line, is_name};
 ghost use Rattle.user_task.specs.Invocation.{said_of};
-ghost use Rattle.user_task.specs.Message.{message_of, is_short, bind_said, transfer_said};
+ghost use Rattle.user_task.specs.Message.{message_of, is_short, bind_said, schedule_said, transfer_said};
 ghost use Rattle.user_task.specs.Message.{start_message, message, credentials_of_task};
 
 use crate::cltus::CltuLine;
@@ -25,8 +26,8 @@ use bind_pdu::{Bind, Unbind};
 use cds_time::Cds;
 use fcltu_pdu::{CltuStart, CltuTransfer};
 use isp1_tml::{HEADER, head};
-use return_pdu::{RafStart, RcfStart, Stop};
-use sle_common::{Credentials, InstanceRef};
+use return_pdu::{RafStart, RcfStart, Schedule, Stop};
+use sle_common::{Credentials, InstanceRef, ReportKind};
 use sle_numbers::{Numbered, UnbindReason};
 use std::alloc::{AllocError, Global};
 
@@ -89,6 +90,7 @@ impl Task {
         match invocation {
             Invocation::Bind => self.put_bind(alloc, credentials, into),
             Invocation::Start => put_start(alloc, &self.work, invoke, credentials, into),
+            Invocation::Schedule(cycle) => put_schedule(alloc, cycle, invoke, credentials, into),
             Invocation::Transfer(line) => put_transfer(alloc, line, invoke, credentials, into),
             Invocation::Stop => {
                 let stop = Stop {
@@ -152,6 +154,7 @@ fn put_start(
             start,
             stop,
             quality,
+            ..
         } => {
             let said = RafStart {
                 credentials,
@@ -166,6 +169,7 @@ fn put_start(
             start,
             stop,
             channel,
+            ..
         } => {
             let said = RcfStart {
                 credentials,
@@ -225,6 +229,27 @@ fn put_rcf(alloc: Global, said: RcfStart<'_>, into: &mut Vec<u8>) -> Result<(), 
     conditional_fits(said.start);
     conditional_fits(said.stop);
     put_pdu(alloc, &said, into)
+}
+
+// Asks for a status report each so many seconds.
+#[tactic(auto, using(crate::proofs::Fits::schedule_fits))]
+fn put_schedule(
+    alloc: Global,
+    cycle: u16,
+    invoke: u16,
+    credentials: Credentials<'_>,
+    into: &mut Vec<u8>,
+) -> Result<(), AllocError>
+    requires { credentials_element.Fits (credentials_of credentials) }
+    ensures { OnOk result (into.new.items ≡ into.old.items
+        ++ message_of schedule (schedule_said cycle invoke (credentials_of credentials.entry))) }
+{
+    let schedule = Schedule {
+        credentials,
+        invoke,
+        report: ReportKind::Cycle(cycle),
+    };
+    put_pdu(alloc, &schedule, into)
 }
 
 #[tactic(auto, using(crate::proofs::Fits::line_parts))]

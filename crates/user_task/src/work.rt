@@ -1,6 +1,6 @@
 // What a user does.
 ghost use Rattle.std.specs.Prelude.{◌≡◌};
-ghost use Rattle.user_task.specs.Work.{service_of, is_show, cltus_of};
+ghost use Rattle.user_task.specs.Work.{service_of, is_show, cltus_of, report_of};
 
 use crate::cltus::{CltuLine, Cltus};
 use cds_time::Cds;
@@ -21,6 +21,8 @@ pub enum Work {
         /// Frames up to this earth receive time, where one is given.
         stop: Option<Cds>,
         quality: RequestedFrameQuality,
+        /// Seconds between the status reports that it asks for, where it asks for any.
+        report: Option<u16>,
     },
     /// It receives frames of return channel frames (CCSDS 911.2-B).
     Rcf {
@@ -29,12 +31,16 @@ pub enum Work {
         /// Frames up to this earth receive time, where one is given.
         stop: Option<Cds>,
         channel: Gvcid,
+        /// Seconds between the status reports that it asks for, where it asks for any.
+        report: Option<u16>,
     },
     /// It sends telecommands (CCSDS 912.1-B).
     Cltu {
         /// The identification that START says.
         first: u32,
         cltus: Cltus,
+        /// Seconds between the status reports that it asks for, where it asks for any.
+        report: Option<u16>,
     },
 }
 
@@ -65,6 +71,18 @@ impl Work {
         match self {
             Work::Cltu { cltus, .. } => cltus.lines(),
             _ => &[],
+        }
+    }
+
+    /// Seconds between the status reports that it asks for, where it asks for any.
+    pub fn report(&self) -> Option<u16>
+        ensures { result ≡ report_of self.now }
+    {
+        match self {
+            Work::Show { .. } => None,
+            Work::Raf { report, .. } | Work::Rcf { report, .. } | Work::Cltu { report, .. } => {
+                *report
+            }
         }
     }
 }

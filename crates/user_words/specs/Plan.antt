@@ -69,6 +69,20 @@ first_read word = number_read 0 4294967295 word
 unfoldable pub turns_read : Text → Option ℕ
 turns_read word = number_read 1 1099511627776 word
 
+-- a cycle of status reports: seconds from 2 to 600
+unfoldable pub cycle_read : Text → Option ℕ
+cycle_read word = number_read 2 600 word
+
+-- the further last word: the cycle of status reports, where they are wanted
+abbrev pub cycle_found : Option ℕ → Option (Option ℕ)
+cycle_found (Some cycle) = Some (Some cycle)
+cycle_found None = None
+
+abbrev pub report_read : List Text → Option (Option ℕ)
+report_read [] = Some None
+report_read (word ∷ []) = cycle_found (cycle_read word)
+report_read _ = None
+
 -- ---- several words
 
 abbrev pub identity_with : Option (List ℕ) → Option Signing → Option (List InstancePart)
@@ -81,39 +95,45 @@ abbrev pub identity_of : Text → Text → Text → Option Identity
 identity_of n p i = identity_with (name_read n) (pass_read p) (instance_read i)
 
 abbrev pub raf_with : Option (Option Cds) → Option (Option Cds) → Option RequestedFrameQuality
-    → Option Asked
-raf_with (Some from) (Some to) (Some quality) = Some (Raf from to quality)
-raf_with _ _ _ = None
+    → Option (Option ℕ) → Option Asked
+raf_with (Some from) (Some to) (Some quality) (Some report) = Some (Raf from to quality report)
+raf_with _ _ _ _ = None
 
-abbrev pub rcf_with : Option (Option Cds) → Option (Option Cds) → Option Gvcid → Option Asked
-rcf_with (Some from) (Some to) (Some channel) = Some (Rcf from to channel)
-rcf_with _ _ _ = None
+abbrev pub rcf_with : Option (Option Cds) → Option (Option Cds) → Option Gvcid
+    → Option (Option ℕ) → Option Asked
+rcf_with (Some from) (Some to) (Some channel) (Some report) = Some (Rcf from to channel report)
+rcf_with _ _ _ _ = None
 
--- START STOP QUALITY
-abbrev pub raf_of : Text → Text → Text → Option Asked
-raf_of from to quality = raf_with (when_read from) (when_read to) (quality_read quality)
+abbrev pub cltu_with : Option ℕ → Option (Option ℕ) → Option Asked
+cltu_with (Some n) (Some report) = Some (Cltu n report)
+cltu_with _ _ = None
 
--- START STOP CHANNEL
-abbrev pub rcf_of : Text → Text → Text → Option Asked
-rcf_of from to channel = rcf_with (when_read from) (when_read to) (channel_read channel)
+-- START STOP QUALITY, and REPORT where it is there
+abbrev pub raf_of : Text → Text → Text → List Text → Option Asked
+raf_of from to quality more =
+    raf_with (when_read from) (when_read to) (quality_read quality) (report_read more)
 
--- FIRST
-abbrev pub first_asked : Option ℕ → Option Asked
-first_asked (Some n) = Some (Cltu n)
-first_asked None = None
+-- START STOP CHANNEL, and REPORT where it is there
+abbrev pub rcf_of : Text → Text → Text → List Text → Option Asked
+rcf_of from to channel more =
+    rcf_with (when_read from) (when_read to) (channel_read channel) (report_read more)
+
+-- FIRST, and REPORT where it is there
+abbrev pub cltu_of : Text → List Text → Option Asked
+cltu_of first more = cltu_with (first_read first) (report_read more)
 
 abbrev pub and_turns : Option Asked → Option ℕ → Option (Asked × ℕ)
 and_turns (Some asked) (Some turns) = Some (asked, turns)
 and_turns _ _ = None
 
--- what a command asks for by its last words, the last of which is TURNS
+-- what a command asks for by its last words: TURNS, after which REPORT may come
 abbrev pub asked_by : Form → List Text → Option (Asked × ℕ)
-asked_by form.Raf (from ∷ to ∷ quality ∷ turns ∷ []) =
-    and_turns (raf_of from to quality) (turns_read turns)
-asked_by form.Rcf (from ∷ to ∷ channel ∷ turns ∷ []) =
-    and_turns (rcf_of from to channel) (turns_read turns)
-asked_by form.Cltu (first ∷ turns ∷ []) =
-    and_turns (first_asked (first_read first)) (turns_read turns)
+asked_by form.Raf (from ∷ to ∷ quality ∷ turns ∷ more) =
+    and_turns (raf_of from to quality more) (turns_read turns)
+asked_by form.Rcf (from ∷ to ∷ channel ∷ turns ∷ more) =
+    and_turns (rcf_of from to channel more) (turns_read turns)
+asked_by form.Cltu (first ∷ turns ∷ more) =
+    and_turns (cltu_of first more) (turns_read turns)
 asked_by _ _ = None
 
 -- ---- lines
@@ -153,9 +173,9 @@ asked_of_line words = plan_with (line_of words)
 -- ---- what was read can be said
 
 abbrev pub FitsAsked : Asked → Type 0
-FitsAsked (Raf from to quality) = Unit {0}
-FitsAsked (Rcf from to channel) = IsTrue (fits_gvcid channel)
-FitsAsked (Cltu first) = Unit {0}
+FitsAsked (Raf from to quality report) = Unit {0}
+FitsAsked (Rcf from to channel report) = IsTrue (fits_gvcid channel)
+FitsAsked (Cltu first report) = Unit {0}
 
 -- PDUs can say the name and what is asked for, and there is a poll
 pub record FitsTalk (identity : Identity) (asked : Asked) (turns : ℕ) : Type 0 where

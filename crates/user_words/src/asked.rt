@@ -1,8 +1,9 @@
 // What a user asks a provider for.
 ghost use Rattle.std.specs.Prelude.{◌≡◌, IsTrue, IfOk, IfSome};
 ghost use Rattle.user_task.specs.Fitting.{fits_gvcid};
-ghost use Rattle.user_words.specs.Plan.{raf_of, rcf_of, first_asked, FitsAsked};
-ghost use Rattle.user_words.specs.Plan.{when_read, quality_read, channel_read, first_read};
+ghost use Rattle.user_line.specs.Line.{texts_of};
+ghost use Rattle.user_words.specs.Plan.{raf_of, rcf_of, cltu_of, report_read, FitsAsked};
+ghost use Rattle.user_words.specs.Plan.{when_read, quality_read, channel_read, first_read, cycle_read};
 
 use crate::word::read_one;
 use cds_time::Cds;
@@ -10,7 +11,7 @@ use octet_core::Memory;
 use sle_common::Gvcid;
 use sle_numbers::RequestedFrameQuality;
 use std::alloc::Global;
-use words::{ChannelWord, Number, NumberOf, When};
+use words::{ChannelWord, Number, NumberOf, Short, When};
 
 /// What a user asks a provider for.
 #[derive(Clone, Copy, Debug)]
@@ -20,6 +21,8 @@ pub enum Asked {
         start: Option<Cds>,
         stop: Option<Cds>,
         quality: RequestedFrameQuality,
+        /// Seconds between the status reports that are wanted, from 2 to 600, where any are.
+        report: Option<u16>,
     },
     /// Frames of return channel frames, from one earth receive time to another, where they are
     /// given.
@@ -27,22 +30,28 @@ pub enum Asked {
         start: Option<Cds>,
         stop: Option<Cds>,
         channel: Gvcid,
+        /// Seconds between the status reports that are wanted, from 2 to 600, where any are.
+        report: Option<u16>,
     },
     /// That it radiates the CLTUs of the input, the first of which has this identification.
     Cltu {
         first: u32,
+        /// Seconds between the status reports that are wanted, from 2 to 600, where any are.
+        report: Option<u16>,
     },
 }
 
 impl Asked {
-    // Frames of return all frames, by three words.
+    // Frames of return all frames, by three words and the further one.
     pub(crate) fn raf(
         alloc: Global,
         start: &str,
         stop: &str,
         quality: &str,
+        more: &[&str],
     ) -> Result<Option<Asked>, Memory>
-        ensures exact { IfOk result (λ asked. asked ≡ raf_of start.now stop.now quality.now) }
+        ensures exact { IfOk result (λ asked. asked ≡ raf_of start.now stop.now quality.now
+            (texts_of more.now)) }
         ensures fits { IfOk result (λ asked. IfSome asked FitsAsked) }
     {
         let Some(start) = when_of(alloc, start)? else {
@@ -54,21 +63,27 @@ impl Asked {
         let Some(quality) = quality_of(alloc, quality)? else {
             return Ok(None);
         };
+        let Some(report) = report_of(alloc, more)? else {
+            return Ok(None);
+        };
         Ok(Some(Asked::Raf {
             start,
             stop,
             quality,
+            report,
         }))
     }
 
-    // Frames of return channel frames, by three words.
+    // Frames of return channel frames, by three words and the further one.
     pub(crate) fn rcf(
         alloc: Global,
         start: &str,
         stop: &str,
         channel: &str,
+        more: &[&str],
     ) -> Result<Option<Asked>, Memory>
-        ensures exact { IfOk result (λ asked. asked ≡ rcf_of start.now stop.now channel.now) }
+        ensures exact { IfOk result (λ asked. asked ≡ rcf_of start.now stop.now channel.now
+            (texts_of more.now)) }
         ensures fits { IfOk result (λ asked. IfSome asked FitsAsked) }
     {
         let Some(start) = when_of(alloc, start)? else {
@@ -80,23 +95,51 @@ impl Asked {
         let Some(channel) = channel_of(alloc, channel)? else {
             return Ok(None);
         };
+        let Some(report) = report_of(alloc, more)? else {
+            return Ok(None);
+        };
         Ok(Some(Asked::Rcf {
             start,
             stop,
             channel,
+            report,
         }))
     }
 
-    // That CLTUs are radiated, by a word.
-    pub(crate) fn cltu(alloc: Global, first: &str) -> Result<Option<Asked>, Memory>
-        ensures exact { IfOk result (λ asked. asked ≡ first_asked (first_read first.now)) }
+    // That CLTUs are radiated, by a word and the further one.
+    pub(crate) fn cltu(alloc: Global, first: &str, more: &[&str]) -> Result<Option<Asked>, Memory>
+        ensures exact { IfOk result (λ asked. asked ≡ cltu_of first.now (texts_of more.now)) }
         ensures fits { IfOk result (λ asked. IfSome asked FitsAsked) }
     {
-        match first_of(alloc, first)? {
-            Some(first) => Ok(Some(Asked::Cltu { first })),
-            None => Ok(None),
-        }
+        let Some(first) = first_of(alloc, first)? else {
+            return Ok(None);
+        };
+        let Some(report) = report_of(alloc, more)? else {
+            return Ok(None);
+        };
+        Ok(Some(Asked::Cltu { first, report }))
     }
+}
+
+// The cycle of status reports by the further word, where it is there.
+fn report_of(alloc: Global, more: &[&str]) -> Result<Option<Option<u16>>, Memory>
+    ensures { IfOk result (λ report. report ≡ report_read (texts_of more.now)) }
+{
+    match more {
+        [] => Ok(Some(None)),
+        [word] => match cycle_of(alloc, word)? {
+            Some(cycle) => Ok(Some(Some(cycle))),
+            None => Ok(None),
+        },
+        _ => Ok(None),
+    }
+}
+
+#[tactic(auto, unfolding(crate::specs::Plan::cycle_read))]
+fn cycle_of(alloc: Global, word: &str) -> Result<Option<u16>, Memory>
+    ensures { IfOk result (λ cycle. cycle ≡ cycle_read word.now) }
+{
+    read_one::<Short<2, 600>>(alloc, word)
 }
 
 #[tactic(auto, unfolding(crate::specs::Plan::when_read))]

@@ -104,13 +104,15 @@ fn read_asked(alloc: Global, form: Form, words: &[&str]) -> Result<Option<(Asked
     ensures turns { IfOk result (λ asked. IfSome asked (λ a. (1 ≤ a.1) × (a.1 ≤ 1099511627776))) }
 {
     match (form, words) {
-        (Form::Raf, [start, stop, quality, turns]) => {
-            with_turns(alloc, Asked::raf(alloc, start, stop, quality)?, turns)
+        (Form::Raf, [start, stop, quality, turns, more @ ..]) => {
+            with_turns(alloc, Asked::raf(alloc, start, stop, quality, more)?, turns)
         }
-        (Form::Rcf, [start, stop, channel, turns]) => {
-            with_turns(alloc, Asked::rcf(alloc, start, stop, channel)?, turns)
+        (Form::Rcf, [start, stop, channel, turns, more @ ..]) => {
+            with_turns(alloc, Asked::rcf(alloc, start, stop, channel, more)?, turns)
         }
-        (Form::Cltu, [first, turns]) => with_turns(alloc, Asked::cltu(alloc, first)?, turns),
+        (Form::Cltu, [first, turns, more @ ..]) => {
+            with_turns(alloc, Asked::cltu(alloc, first, more)?, turns)
+        }
         _ => Ok(None),
     }
 }
