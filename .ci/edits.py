@@ -2,7 +2,7 @@
 """Compares the must-fail edits with section 6 of docs/PROMISES.md, from the top of a clone.
 
 Each edit that the section names is there, each one that is there is named once, there are at most
-three in a crate and edits in at most twenty crates, and the text that each changes stands once in
+three in a crate and edits in at most twenty-five crates, and the text that each changes stands once in
 its file: where it doesn't, `rt ci` says so and passes.
 """
 import collections
@@ -11,7 +11,7 @@ import re
 import sys
 
 MOST_OF_A_CRATE = 3
-MOST_CRATES = 20
+MOST_CRATES = 25
 
 
 def fault_of(path):

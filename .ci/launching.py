@@ -496,6 +496,9 @@ def checking(copy, check):
         check(f"check {text}", copy.run([b"check", bytes(file)])[:2], (0, b"valid\n"))
         check(f"check {text}, input", copy.noted("script"), text)
     checked(copy, check, file, "check", 0)
+    file.write_bytes(b"capacity 64000000\n")
+    errors = copy.run([b"check", bytes(file)])[2]
+    check("check, the memory for a capacity", b"about 82 MiB with frames of 1,115 octets" in errors, True)
     copy.forget()
     shutil.rmtree(path.parent)
     says = {"SAYS": ENDED, "OUTPUT": "valid\n"}

@@ -287,7 +287,10 @@ def other(words, place, word):
 OUTSIDE = [[], [""], ["help"], ["--help"], ["-h"], ["--"], ["SHOW", "raf"], ["show"], ["show", ""], ["show", "rocf"],
            ["show", "RAF"], ["show", "raf", "raf"], ["show", "-h"], ["show", "--", "raf"], ["raf", b"\xff"],
            ["raf"], ["rcf"], ["cltu"], raf(5000)[:-1], raf(5000) + ["1"], rcf(5000)[:-1], rcf(5000) + ["1"],
-           cltu(5000)[:-1], cltu(5000) + ["1"]]
+           cltu(5000)[:-1], cltu(5000) + ["1"], ["show", "raf", "30"],
+           *(words(5000) + [report] for words in (raf, rcf, cltu)
+             for report in ["", "0", "601", "030", "+30", "-30", "30s", "none"]),
+           *(words(5000) + ["30", "30"] for words in (raf, rcf, cltu))]
 # what may not stand in each place
 BAD = {1: ["", "0", "65536", "05000", "+5000", "-1", "5000 ", "0x1388", "port"],
        2: ["", "MO", "M" * 17, "M C", "-MOC", "M\u00fcC"],
@@ -386,6 +389,40 @@ with open("/dev/full", "wb") as full:
 
 talk("frames of a channel", [BR, [pdu("a1", integer(0), UNUSED), "close"]], 11, b"ok 101\nok 1\nclosed\n",
      CONTEXT + RCF_BIND + RCF_START, words=rcf)
+
+# ---- status reports
+
+
+def reported(seconds, words):
+    """The words with the further one."""
+    return lambda port, turns: [*words(port, turns), seconds]
+
+
+def schedule(octets):
+    return pdu("a4", integer(1), tlv("81", h(octets)))
+
+
+SCHEDULED, REFUSED_REPORTS = pdu("a5", integer(1), UNUSED), pdu("a5", integer(1), h("a103810102"))
+REPORT = pdu("a9", *(integer(each) for each in [1, 2, 0, 0, 1, 2, 0]))
+CLTU_REPORT = pdu("ad", tlv("a1", integer(7), tlv("a1", TIME), integer(4)), UNUSED,
+                  *(integer(each) for each in [0, 3, 1, 1, 0, 1000]))
+stop, stopped = stopping(2)
+FRAME_LINE = LINES.split(b"\n")[2] + b"\n"
+for name, answer, lines in [("status reports", [SCHEDULED, REPORT], b"ok 5\nreport 1 2 0 0 1 2 0\n"),
+                            ("status reports that are refused", [REFUSED_REPORTS], b"no 5 2\n"),
+                            ("status reports whose return doesn't come", [], b"")]:
+    talk(name, [BR, SR, [*answer, A1, EOD], stopped, UNBOUND], 0,
+         TOLD + lines + FRAME_LINE + b"end\nok 3\nok 103\n",
+         CONTEXT + BIND + START + schedule("1e") + stop + UNBIND, words=reported("30", raf))
+talk("no status reports where START is refused", [BR, REFUSED], 3, b"ok 101\nno 1 4\n", CONTEXT + BIND + START,
+     words=reported("30", raf))
+talk("status reports of a channel", [BR, pdu("a1", integer(0), UNUSED), "close"], 11, TOLD + b"closed\n",
+     CONTEXT + RCF_BIND + RCF_START + schedule("02"), words=reported("2", rcf))
+stop, stopped = stopping(3)
+talk("status reports beside telecommands",
+     [*BOUND, [], [transferred(2, 6, 1000), SCHEDULED, CLTU_REPORT, notice("8500", 5)], stopped, UNBOUND], 0,
+     TOLD + b"ok 11 6 1000\nok 5\nreport 0 3 1 1 0 1000\nnotice 5\nok 3\nok 103\n",
+     ENDED + schedule("0258") + transfer(2, 5, h("c5c5c5c5")) + stop + UNBIND, words=reported("600", cltu), text=one)
 
 # ---- the launcher
 
