@@ -4,6 +4,7 @@ ghost use Rattle.octet_core.specs.Fault.{Rose};
 ghost use Rattle.std.specs.List.{list_all};
 ghost use Rattle.archive_terms.specs.Archive.{is_storable};
 ghost use Rattle.disk_model.specs.Images.{all_synced};
+ghost use Rattle.disk_model.specs.Calls.{OnlyCalls};
 ghost use Rattle.gate_journal.specs.JournalState.{OnlyReads};
 ghost use Rattle.gate_journal.specs.Batches.{StandsForSome};
 ghost use Rattle.gate_journal.specs.declared.batch_fault.BatchFault.TheVariants as BatchFault;
@@ -28,11 +29,13 @@ const DISK_FAULT: &[u8] = b"disk fault\n";
 /// Makes a new archive file on an empty disk, and says so. Answers the exit code, and hands the
 /// disk back.
 pub fn init_archive<D: Disk, O: Sink>(alloc: Global, disk: D, output: &mut O) -> (u8, D)
-    ensures { IsInit D.pending D.extent D.moment D.images_since D.faults disk result.1
+    ensures init { IsInit D.pending D.extent D.moment D.images_since D.faults disk result.1
         (O.written output.old) (O.written output.new)
         (O.faults output.old) (O.faults output.new)
         result.0 }
+    ensures calls { OnlyCalls D.makes D.fails D.fails_to_read disk result.1 }
 {
+    disk_model::laws::only_calls_join::<D>();
     if disk.size() > 0 {
         let exit = tell(b"archive refused 0\n", Status::ArchiveRefused, output);
         return (exit, disk);
@@ -55,11 +58,13 @@ pub fn init_archive<D: Disk, O: Sink>(alloc: Global, disk: D, output: &mut O) ->
 /// The file is gone over twice, batch by batch: all of it is checked before a line is written, and
 /// then it is read again.
 pub fn list_archive<D: Disk, O: Sink>(alloc: Global, mut disk: D, output: &mut O) -> (u8, D)
-    ensures { IsList D.pending D.moment D.images_since D.faults disk result.1
+    ensures list { IsList D.pending D.moment D.images_since D.faults disk result.1
         (O.written output.old) (O.written output.new)
         (O.faults output.old) (O.faults output.new)
         result.0 }
+    ensures calls { OnlyCalls D.makes D.fails D.fails_to_read disk result.1 }
 {
+    disk_model::laws::only_calls_join::<D>();
     disk_model::laws::images_at_a_moment::<D>();
     disk_model::laws::a_sync_leaves_one_image();
     match disk.sync() {
@@ -71,11 +76,13 @@ pub fn list_archive<D: Disk, O: Sink>(alloc: Global, mut disk: D, output: &mut O
 // The same of a disk that is synced.
 fn list_synced<D: Disk, O: Sink>(alloc: Global, mut disk: D, output: &mut O) -> (u8, D)
     requires { IfSome (D.pending disk) (λ told. told ≡ all_synced told.content) }
-    ensures { IsList D.pending D.moment D.images_since D.faults disk result.1
+    ensures list { IsList D.pending D.moment D.images_since D.faults disk result.1
         (O.written output.old) (O.written output.new)
         (O.faults output.old) (O.faults output.new)
         result.0 }
+    ensures calls { OnlyCalls D.makes D.fails D.fails_to_read disk result.1 }
 {
+    disk_model::laws::only_calls_join::<D>();
     disk_model::laws::images_at_a_moment::<D>();
     match check(alloc, &mut disk) {
         Ok(()) => {
@@ -94,6 +101,7 @@ fn check<D: Disk>(alloc: Global, disk: &mut D) -> Result<(), BatchFault>
         (D.pending disk.old))) }
     ensures unfit { IsErrOf result BatchFault.Unfit → ¬ StandsForSome (D.pending disk.old) }
     ensures same { IsErrOf result BatchFault.DiskFault ⊎ (disk.new ≡ disk.old) }
+    ensures failed { IsErrOf result BatchFault.DiskFault → D.fails_to_read disk.old disk.new }
     ensures reads { OnlyReads D.pending D.moment D.images_since disk.old disk.new }
     ensures cause { IsErrOf result BatchFault.DiskFault → Rose (D.faults disk.old)
         (D.faults disk.new) }
@@ -107,10 +115,11 @@ fn check<D: Disk>(alloc: Global, disk: &mut D) -> Result<(), BatchFault>
 fn list_batches<D: Disk, O: Sink>(alloc: Global, disk: &mut D, output: &mut O) -> u8
     requires synced { IfSome (D.pending disk.old) (λ told. told ≡ all_synced told.content) }
     requires whole { IfSome (D.pending disk.old) (λ _. StandsForSome (D.pending disk.old)) }
-    ensures { IsList D.pending D.moment D.images_since D.faults disk.old disk.new
+    ensures list { IsList D.pending D.moment D.images_since D.faults disk.old disk.new
         (O.written output.old) (O.written output.new)
         (O.faults output.old) (O.faults output.new)
         result }
+    ensures calls { OnlyCalls D.makes D.fails D.fails_to_read disk.old disk.new }
 {
     gate_journal::laws::a_file_stands_for_one_list();
     disk_model::laws::images_at_a_moment::<D>();
@@ -126,11 +135,13 @@ fn list_batches<D: Disk, O: Sink>(alloc: Global, disk: &mut D, output: &mut O) -
 
 // Reads a file whole, which says where it isn't of its form, or lists it where it is after all.
 fn list_recovered<D: Disk, O: Sink>(alloc: Global, disk: D, output: &mut O) -> (u8, D)
-    ensures { IsList D.pending D.moment D.images_since D.faults disk result.1
+    ensures list { IsList D.pending D.moment D.images_since D.faults disk result.1
         (O.written output.old) (O.written output.new)
         (O.faults output.old) (O.faults output.new)
         result.0 }
+    ensures calls { OnlyCalls D.makes D.fails D.fails_to_read disk result.1 }
 {
+    disk_model::laws::only_calls_join::<D>();
     gate_journal::laws::a_file_stands_for_one_list();
     match Journal::recover(alloc, disk) {
         Ok((journal, entries)) => {

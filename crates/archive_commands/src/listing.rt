@@ -7,6 +7,7 @@ ghost use Rattle.archive_terms.specs.Archive.{is_storable};
 ghost use Rattle.record_form.specs.Entry.{entries_of};
 ghost use Rattle.record_form.specs.Lent.{lent_entry};
 ghost use Rattle.drill_text.specs.Reading.{entry_text};
+ghost use Rattle.disk_model.specs.Calls.{OnlyCalls};
 ghost use Rattle.gate_journal.specs.JournalState.{OnlyReads};
 ghost use Rattle.gate_journal.specs.Batches.{StandsForSome};
 ghost use Rattle.script_store.specs.Output.{Wrote};
@@ -40,6 +41,7 @@ pub fn put_file<D: Disk, O: Sink>(
     ensures puts { Puts (D.pending disk.old) (O.written output.old) (O.written output.new)
         (O.faults output.old) (O.faults output.new) result }
     ensures reads { OnlyReads D.pending D.moment D.images_since disk.old disk.new }
+    ensures calls { OnlyCalls D.makes D.fails D.fails_to_read disk.old disk.new }
     ensures cause { IfOk result (λ ending. ending ≡ Ending.DiskFault → Rose (D.faults disk.old)
         (D.faults disk.new)) }
 {
@@ -61,9 +63,11 @@ fn put_batches<D: Disk, O: Sink>(
     ensures gathers { Gathers (D.pending disk.old) (O.written output.old) (O.written output.new)
         (O.faults output.old) (O.faults output.new) block.new.items result }
     ensures reads { OnlyReads D.pending D.moment D.images_since disk.old disk.new }
+    ensures calls { OnlyCalls D.makes D.fails D.fails_to_read disk.old disk.new }
     ensures cause { IfOk result (λ ending. ending ≡ Ending.DiskFault → Rose (D.faults disk.old)
         (D.faults disk.new)) }
 {
+    disk_model::laws::only_calls_join::<D>();
     gate_journal::laws::what_is_read_is_a_front();
     gate_journal::laws::a_batch_may_follow();
     let mut batches = match Batches::open(alloc, disk) {

@@ -94,7 +94,7 @@ impl<F: RawFile> DiskOver<F> {
 }
 
 impl<F: RawFile + Send> Disk for DiskOver<F> {
-    ghost use Rattle.disk_model.specs.FileDisk.{IsMadeCall, IsFailedCall, with_fault, extent_of};
+    ghost use Rattle.disk_model.specs.FileDisk.{IsMadeCall, IsFailedCall, IsFailedRead, extent_of};
     ghost use Rattle.disk_model.specs.FileDisk.{size_read};
 
     ghost pending = { λ disk. F.pending disk.file };
@@ -107,11 +107,11 @@ impl<F: RawFile + Send> Disk for DiskOver<F> {
 
     ghost faults = { λ disk. disk.faults };
 
-    ghost makes = { IsMadeCall };
+    ghost makes = { IsMadeCall F.asked };
 
-    ghost fails = { IsFailedCall };
+    ghost fails = { IsFailedCall F.asked };
 
-    ghost fails_to_read = { λ old new. new ≡ with_fault old };
+    ghost fails_to_read = { IsFailedRead };
 
     /// How many octets the file has, as far as this disk wrote and cut it.
     fn size(&self) -> u64 {

@@ -9,7 +9,7 @@ ghost use Rattle.disk_model.specs.Images.{Pending, IsImage, IsCoherent, IsTorn, 
 ghost use Rattle.disk_model.specs.Images.{FailsToWrite, FailsToCut, all_synced, after_write};
 ghost use Rattle.disk_model.specs.Images.{after_cut, after_sync, with_range, with_cut};
 ghost use Rattle.disk_model.specs.Moments.{IsImageOf};
-ghost use Rattle.disk_model.specs.Calls.{AllMade, FailedAtOne};
+ghost use Rattle.disk_model.specs.Calls.{AllMade, FailedAtOne, OnlyCalls};
 ghost use Rattle.disk_model.specs.MemoryDisk.{DiskState, pending_of, medium_of, synced_medium};
 ghost use Rattle.disk_model.specs.MemoryDisk.{left_by, IsMadeCall, IsFailedCall, run_as_ordered};
 ghost use Rattle.disk_model.specs.MemoryDisk.{RunIs, calls_until_stop};
@@ -69,6 +69,22 @@ pub fn images_at_a_moment<D: Disk>()
     ensures read { (disk : D) → IfSome (D.pending disk) IsCoherent }
     ensures size { (disk : D)
         → IfSome (D.pending disk) (λ told. D.extent disk ≡ length told.content) }
+{}
+
+/// What no call of a disk changes stays over any of its calls, one after another, also where one
+/// fails. Of a disk over a file that is what was asked of the system to have it.
+pub fn only_calls_join<D: Disk>()
+    ensures none { (old new : D) → new ≡ old
+        → OnlyCalls D.makes D.fails D.fails_to_read old new }
+    ensures read { (old new : D) → D.fails_to_read old new
+        → OnlyCalls D.makes D.fails D.fails_to_read old new }
+    ensures made { (calls : List Call) (old new : D) → AllMade D.makes old calls new
+        → OnlyCalls D.makes D.fails D.fails_to_read old new }
+    ensures failed { (calls : List Call) (old new : D) → FailedAtOne D.makes D.fails old calls new
+        → OnlyCalls D.makes D.fails D.fails_to_read old new }
+    ensures both { (old mid new : D) → OnlyCalls D.makes D.fails D.fails_to_read old mid
+        → OnlyCalls D.makes D.fails D.fails_to_read mid new
+        → OnlyCalls D.makes D.fails D.fails_to_read old new }
 {}
 
 /// What a stop leaves of a disk in memory is one of its images, by any pick. Where all is synced it

@@ -62,6 +62,7 @@ impl Batches {
         ensures none { IfOk result (λ batches. batches.batch ≡ []) }
         ensures unfit { IsErrOf result Unfit → ¬ StandsForSome (D.pending disk.old) }
         ensures same { IsErrOf result DiskFault ⊎ (disk.new ≡ disk.old) }
+        ensures failed { IsErrOf result DiskFault → D.fails_to_read disk.old disk.new }
         ensures reads { OnlyReads D.pending D.moment D.images_since disk.old disk.new }
         ensures cause { IsErrOf result DiskFault → Rose (D.faults disk.old) (D.faults disk.new) }
     {
@@ -102,6 +103,7 @@ impl Batches {
         ensures refused { OnErr result (self.new.gate ≡ self.old.gate) }
         ensures bound { self.new.gate < 2 ^ 64 }
         ensures same { IsErrOf result DiskFault ⊎ (disk.new ≡ disk.old) }
+        ensures failed { IsErrOf result DiskFault → D.fails_to_read disk.old disk.new }
         ensures reads { OnlyReads D.pending D.moment D.images_since disk.old disk.new }
         ensures cause { IsErrOf result DiskFault → Rose (D.faults disk.old) (D.faults disk.new) }
     {
@@ -155,6 +157,7 @@ impl Batches {
         ensures holds { OnOk result (HoldsBatch self.new.room (self.new.gate - self.new.start)
             ⊎ (D.extent disk.old ≤ self.new.start + length self.new.room)) }
         ensures same { IsErrOf result DiskFault ⊎ (disk.new ≡ disk.old) }
+        ensures failed { IsErrOf result DiskFault → D.fails_to_read disk.old disk.new }
         ensures reads { OnlyReads D.pending D.moment D.images_since disk.old disk.new }
         ensures unfit { ¬ IsErrOf result Unfit }
         ensures cause { IsErrOf result DiskFault → Rose (D.faults disk.old) (D.faults disk.new) }
@@ -209,6 +212,7 @@ fn read_on<D: Disk>(
     ensures size { OnOk result (length room.new.items ≡ min count (D.extent disk.old - place)) }
     ensures err { OnErr result (room.new.items ≡ []) }
     ensures same { IsErrOf result DiskFault ⊎ (disk.new ≡ disk.old) }
+    ensures failed { IsErrOf result DiskFault → D.fails_to_read disk.old disk.new }
     ensures reads { OnlyReads D.pending D.moment D.images_since disk.old disk.new }
     ensures unfit { ¬ IsErrOf result Unfit }
     ensures cause { IsErrOf result DiskFault → Rose (D.faults disk.old) (D.faults disk.new) }

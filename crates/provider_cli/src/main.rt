@@ -33,8 +33,8 @@ use provider_commands::{Equipment, provide_on};
 use recorder::FrameSource;
 use run_host::{
     Capacity, Fullness, KeptInput, LateAntenna, LateFrames, LoggedDisk, MachineClock, MachineDoor,
-    RunFiles, RunPlace, RunSockets, SocketFault, draw_of, machine_clock, open_files, open_sockets,
-    tell_end, text_of,
+    PlaceFault, RunFiles, RunPlace, RunSockets, SocketFault, draw_of, machine_clock, open_files,
+    open_sockets, tell_end, text_of,
 };
 use run_plan::RunPlan;
 use std::alloc::{AllocError, Global};
@@ -324,8 +324,10 @@ where
             (O.written kit.new.output) (O.faults kit.new.output))
             result }
     {
-        let Some(place) = RunPlace::read(self.files) else {
-            return tell(b"usage\n", Status::Usage, &mut kit.output);
+        let place = match RunPlace::read(self.files) {
+            Ok(place) => place,
+            Err(PlaceFault::Form) => return tell(b"usage\n", Status::Usage, &mut kit.output),
+            Err(PlaceFault::Memory) => return Status::Memory.code(),
         };
         let exit = self.provide_at(words, run, place, kit);
         tell_end(self.rt, self.alloc, exit);

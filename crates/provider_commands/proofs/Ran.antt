@@ -1,6 +1,13 @@
 -- What came of a run, by whether its workers were started.
 use Rattle.std.proofs.Common.{◌≡◌, ◌∙◌, ℕ, List, [], ◌++◌, length, take, drop, Option, Some}
-use Rattle.std.proofs.Common.{None, IfSome, sym, subst, ap, append-nil, arith}
+use Rattle.std.proofs.Common.{None, IfSome, sym, subst, ap, append-nil, arith, inl, inr, option_map}
+use Rattle.disk_model.specs.Images.{Pending}
+use Rattle.disk_model.specs.Calls.{OnlyCalls, no_calls}
+use Rattle.disk_model.specs.declared.call.Call.{Call as DiskCall}
+use Rattle.station_run.specs.Ran.{LeavesDisk}
+use Rattle.station_run.specs.declared.report.StartFault.{StartFault}
+use Rattle.run_command.specs.Ends.{NotStarted}
+use Rattle.run_command.specs.declared.status.RunStatus.{RunStatus}
 use Rattle.std.proofs.lemmas.List.{drop_all, take_all}
 use Rattle.std.specs.Prelude.{IfNone}
 
@@ -30,6 +37,28 @@ not_started_on None taken passes First Second IsSo is so told more = absurd cc
 not_started_on (Some disk) taken (Some pass) First Second IsSo is so told more = tt
 not_started_on (Some disk) taken None First Second IsSo is so told more =
     subst (λ found. IfSome found IsSo) (sym is) (so told more)
+
+-- the disk is handed back, with all that stayed
+pub back_so : {D T : Type 0} (of : D → T) (old : Option D) (taken left : D) → old ≡ Some taken
+    → of left ≡ of taken → option_map of (Some left) ≡ option_map of old
+back_so of old taken left is same = ap Some same ∙ ap (option_map of) (sym is)
+
+-- where the workers weren't started either
+pub unstarted_calls : {D : Type 0} (pending : D → Option Pending) (faults moment : D → ℕ)
+    (images_since : D → ℕ → List ℕ → Type 0) (makes fails : D → DiskCall → D → Type 0)
+    (fails_to_read : D → D → Type 0) (left : Option (List ℕ)) (before after : ℕ)
+    (disk disk_now : D) (own : RunStatus)
+    → ((fault : StartFault) (old new : D)
+    → LeavesDisk pending moment images_since makes fails fails_to_read fault old new
+    → OnlyCalls makes fails fails_to_read old new)
+    → NotStarted pending faults moment images_since makes fails fails_to_read left before after
+    disk disk_now own
+    → OnlyCalls makes fails fails_to_read disk disk_now
+unstarted_calls pending faults moment images_since makes fails fails_to_read left before after disk
+    disk_now own law (inl no_site) =
+    no_calls makes fails fails_to_read disk disk_now no_site.1
+unstarted_calls pending faults moment images_since makes fails fails_to_read left before after disk
+    disk_now own law (inr refused) = law refused.1 disk disk_now refused.6
 
 -- a slice of a whole vector that was lent and changed is the vector then
 pub put_back : {A : Type 0} (n : ℕ) (xs ys : List A) → length xs ≡ n → length xs ≡ length ys

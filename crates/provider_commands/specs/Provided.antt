@@ -4,7 +4,7 @@ use Rattle.std.specs.Prelude.{IsSomeAnd, List, ◌∷◌, ◌++◌, [], codes}
 use Rattle.std.specs.declared.io.ErrorKind.{ErrorKind}
 use Rattle.std.specs.declared.io.ErrorKind.TheVariants.{OutOfMemory, InvalidInput}
 use Rattle.std.specs.Str.{IsUtf8}
-use Rattle.disk_model.specs.FileDisk.{FileState, IsMadeCall, IsFailedCall, with_fault}
+use Rattle.disk_model.specs.FileDisk.{FileState, IsMadeCall, IsFailedCall, IsFailedRead}
 use Rattle.disk_model.specs.RawFile.{Asked, HasFile}
 use Rattle.disk_model.specs.Images.{Pending}
 use Rattle.turn_lock.specs.PassState.{PassState}
@@ -70,16 +70,18 @@ IsFileOf (Some (plans.List path)) file = HasFile path false file None
 IsFileOf (Some (Run run)) file = HasFile run.path false file None
 IsFileOf _ file = ⊥
 
--- The path of a command that makes or lists a file is no text.
+-- The path of a command's file is no text. A run has two files: its archive and that of its
+-- antenna.
 abbrev pub NamesNoText : Option Plan → Type 0
 NamesNoText (Some (Init path)) = ¬ IsUtf8 path
 NamesNoText (Some (plans.List path)) = ¬ IsUtf8 path
+NamesNoText (Some (Run run)) = (¬ IsUtf8 run.path) ⊎ (¬ IsUtf8 run.antenna)
 NamesNoText _ = ⊥
 
--- A command does what is promised on the file of its path, which reports none of its octets. After
--- it the caller holds the disk over that file. A run is over objects that are made for it: what it
--- did is tied to what these report, and the caller holds them after it. No other command touches
--- the objects of the caller.
+-- A command does what is promised on the file of its path, which reports none of its octets. The
+-- disk that the caller holds after it is over the file of that path. A run is over objects that are
+-- made for it: what it did is tied to what these report, and the caller holds them after it. No
+-- other command touches the objects of the caller.
 pub record IsOnFile {F A G L C : Type 0} (by : Senses F A G L C) (plan : Option Plan)
     (held held_now : Around F A G C) (disk_now : Option (FileState Asked))
     (passes : Option (PassState Event Opening)) (before after : Outside) (exit : ℕ) : Type 0 where
@@ -88,14 +90,15 @@ pub record IsOnFile {F A G L C : Type 0} (by : Senses F A G L C) (plan : Option 
   pub around : Around F A G C
   pub has : NeedsDisk plan → IsSome disk
   pub of_path : IfSome disk (λ found. IsFileOf plan found.file)
+  pub still_of_path : NeedsDisk plan → IsSomeAnd disk_now (λ left. IsFileOf plan left.file)
   pub provided : IsProvided (λ _. None) (λ disk. disk.size) (λ _. 0) (λ _ _ _. ⊥)
       (λ disk. disk.faults) plan disk disk_now before after exit
-  pub started : HasStarted (λ _. None) (λ disk. disk.faults) (λ _. 0) (λ _ _ _. ⊥) IsMadeCall
-      IsFailedCall (λ old new. new ≡ with_fault old) by plan draw disk disk_now around held_now
-      passes before after exit
+  pub started : HasStarted (λ _. None) (λ disk. disk.faults) (λ _. 0) (λ _ _ _. ⊥)
+      (IsMadeCall (λ file. file)) (IsFailedCall (λ file. file)) IsFailedRead by plan draw disk
+      disk_now around held_now passes before after exit
   pub not_started : HasNotStarted (λ _. None) (λ disk. disk.faults) (λ _. 0) (λ _ _ _. ⊥)
-      IsMadeCall IsFailedCall (λ old new. new ≡ with_fault old) plan disk disk_now around held_now
-      passes before after exit
+      (IsMadeCall (λ file. file)) (IsFailedCall (λ file. file)) IsFailedRead plan disk disk_now
+      around held_now passes before after exit
   pub untouched : ¬ IsRun plan → (held_now ≡ held) × (passes ≡ None)
 
 -- It needs a file that couldn't be had. A path that is no text is refused as such. Why else the

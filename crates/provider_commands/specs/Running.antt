@@ -1,9 +1,11 @@
 -- What the program promises of a station's run, by the objects that it ran over. This product's own
 -- rules.
 use Rattle.std.specs.Prelude.{◌≡◌, ◌⊎◌, ℕ, ◌≤◌, Option, None, Some, IfNone, IfSome, IsSomeAnd, List}
-use Rattle.std.specs.Prelude.{length}
+use Rattle.std.specs.Prelude.{length, option_map}
 use Rattle.cds_time.specs.declared.cds.Cds.{Cds}
 use Rattle.disk_model.specs.Images.{Pending}
+use Rattle.disk_model.specs.RawFile.{Asked}
+use Rattle.disk_model.specs.Calls.{CallsKeep}
 use Rattle.disk_model.specs.declared.call.Call.{Call as DiskCall}
 use Rattle.recorder.specs.Feeds.{Answer}
 use Rattle.link_model.specs.declared.call.Call.{Call as LinkCall}
@@ -149,6 +151,14 @@ module _ {D F A G C : Type 0} (pending : D → Option Pending) (disk_faults mome
   HasNotStarted plan disk disk_now old new passes before after exit =
       (run : RunPlan) → plan ≡ Some (Run run)
       → NotStartedOn disk disk_now old new passes before after exit
+
+-- The disk of a command is handed back, and nothing but calls of it happened meanwhile: what no
+-- call of a disk changes is as it was.
+module _ {D : Type 0} (makes fails : D → DiskCall → D → Type 0) (fails_to_read : D → D → Type 0)
+  where
+    abbrev pub IsHandedBack : Option D → Option D → Type 0
+    IsHandedBack old new = (of : D → Asked) → CallsKeep makes fails fails_to_read of
+        → option_map of new ≡ option_map of old
 
 -- A command other than a run leaves a station's source, antenna, doors and clocks, the draw and the
 -- passes as they were.

@@ -7,6 +7,7 @@ ghost use Rattle.command_words.specs.Command.{asked, NeedsDisk};
 ghost use Rattle.provider_commands.specs.Provided.{IsProvided, IsNoDisk};
 ghost use Rattle.provider_commands.specs.Running.{AreReady, HasStarted, HasNotStarted, IsRan};
 ghost use Rattle.provider_commands.specs.Running.{IsReady, NotStartedOn, StartedOn, IsUntouched};
+ghost use Rattle.provider_commands.specs.Running.{IsHandedBack};
 ghost use Rattle.provider_commands.specs.Running.{around, senses};
 
 use crate::equipment::Equipment;
@@ -22,6 +23,7 @@ use recorder::FrameSource;
 use rehearsal::laws::a_rehearsal_is_a_script;
 use run_command::run;
 use run_events::laws::a_run_is_events;
+use run_laws::laws::a_run_only_calls_its_disk;
 use run_plan::RunPlan;
 use run_rounds::laws::sessions_make_starts;
 use script_commands::laws::every_script_is_lawful;
@@ -81,6 +83,8 @@ pub fn provide_on<
         (showing (I.left kit.new.input) (I.faults kit.new.input)
         (O.written kit.new.output) (O.faults kit.new.output))
         result) }
+    ensures calls { IfOk opening (λ disk. IsHandedBack D.makes D.fails D.fails_to_read disk
+        kit.new.disk) }
     ensures untouched { IfOk opening (λ _. IsUntouched (asked words.now)
         (around kit.old) (around kit.new) kit.old.draw kit.new.draw kit.old.passes kit.new.passes) }
     ensures told { IfErr opening (λ error. IsNoDisk (error_kind error)
@@ -155,6 +159,7 @@ pub fn provide<
         (showing (I.left kit.new.input) (I.faults kit.new.input)
         (O.written kit.new.output) (O.faults kit.new.output))
         result }
+    ensures calls { IsHandedBack D.makes D.fails D.fails_to_read kit.old.disk kit.new.disk }
     ensures untouched { IsUntouched (asked words.now)
         (around kit.old) (around kit.new) kit.old.draw kit.new.draw kit.old.passes kit.new.passes }
 {
@@ -220,7 +225,9 @@ fn run_on<
         (showing (I.left kit.new.input) (I.faults kit.new.input)
         (O.written kit.new.output) (O.faults kit.new.output))
         result }
+    ensures calls { IsHandedBack D.makes D.fails D.fails_to_read kit.old.disk kit.new.disk }
 {
+    a_run_only_calls_its_disk::<D, F, A, G, C>();
     a_run_is_events::<D, F, A, G, C>();
     sessions_make_starts::<D, F, A, G, C>();
     let (exit, disk, passes) = run(

@@ -156,7 +156,8 @@ module _ {D : Type 0} (pending : D → Option Pending) (faults_of : D → ℕ)
   IsUnmended faults.DiskFault dropped old new = ReopenFails old new
       ⊎ FailsAgain pending faults_of makes fails dropped old new
   IsUnmended (faults.Refused fault) dropped old new = IsRefused fault old new
-  IsUnmended faults.Memory dropped old new = (new ≡ record old { disk = new.disk })
+  IsUnmended faults.Memory dropped old new =
+      ((new ≡ record old { disk = new.disk }) × AllMade makes old.disk recovering new.disk)
       ⊎ IsLostShort dropped old new
 
   -- the same, from the store on

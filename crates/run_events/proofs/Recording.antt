@@ -418,7 +418,7 @@ module _ {D F : Type 0} (pending : D → Option Pending) (disk_faults : D → �
         → IsLeftBroken pending disk_faults makes fails fails_to_read step.Memory
         (offered_to old polled) new
         → Ended had (Err fault.Memory) new
-    by_memory polled acks now (broken, failed, rose, inl same) = record {
+    by_memory polled acks now (broken, failed, rose, inl (same, made)) = record {
       tail = left_broken new.waiting;
       ends = tt;
       follows = now.agrees.archive;

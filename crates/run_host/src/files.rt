@@ -1,5 +1,5 @@
 // The files of a run.
-ghost use Rattle.std.specs.Prelude.{◌≡◌, false, None, IfOk, IfErr, OnErr};
+ghost use Rattle.std.specs.Prelude.{◌≡◌, ◌⊎◌, false, None, IfOk, IfErr, OnErr};
 ghost use Rattle.std.specs.IoError.{error_kind};
 ghost use Rattle.std.specs.Str.{IsUtf8};
 ghost use Rattle.disk_model.specs.RawFile.{HasFile};
@@ -27,8 +27,11 @@ pub struct RunFiles<'a> {
 
 /// Opens the files that a plan names: the archive's, which has to be there, and the antenna's,
 /// which is made where there is none. Both are locked. What can't be opened is told on standard error.
+/// A path that is no text is an error of the kind `InvalidInput`.
 pub fn open_files<'a>(files: &'a HostRuntime, plan: &RunPlan) -> io::Result<RunFiles<'a>>
-    ensures { IfOk result (λ opened. HasFile plan.now.path false opened.disk.file None) }
+    ensures file { IfOk result (λ opened. HasFile plan.now.path false opened.disk.file None) }
+    ensures no_text { IfErr result (λ error. (¬ IsUtf8 plan.now.path) ⊎ (¬ IsUtf8 plan.now.antenna)
+        → error_kind error ≡ ErrorKind.InvalidInput) }
 {
     let (archive, cltus) = (text_of(&plan.path)?, text_of(&plan.antenna)?);
     let reports = Stamped::new(files, files.alloc());

@@ -37,5 +37,5 @@ pub use host::{
 };
 pub use late::{LateAntenna, LateFrames};
 pub use logged_file::LoggedFile;
-pub use place::RunPlace;
+pub use place::{PlaceFault, RunPlace};
 pub use watching::SocketFault;

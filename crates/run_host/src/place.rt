@@ -36,13 +36,22 @@ pub struct RunPlace {
     pub limits: Limits,
 }
 
+/// Why the environment says nothing of use.
+#[derive(Clone, Copy, Debug, PartialEq, Eq)]
+pub enum PlaceFault {
+    /// One of its variables is out of form.
+    Form,
+    /// It is out of memory.
+    Memory,
+}
+
 impl RunPlace {
     /// What the environment says: `STATION_ADDRESS` an address, or else each one of the machine;
     /// `STATION_FEED` a path that begins with `/`, or else none; `STATION_STOP` such a path or a port
     /// from 1, or else none; `STATION_SILENCE` and `STATION_IDLE` numbers of seconds, or else 30 and
-    /// 3600. None where one of them is out of form.
-    pub fn read(env: &HostRuntime) -> Option<RunPlace> {
-        Some(RunPlace {
+    /// 3600.
+    pub fn read(env: &HostRuntime) -> Result<RunPlace, PlaceFault> {
+        Ok(RunPlace {
             address: address(env)?,
             feed: feed(env)?,
             stop: stop(env)?,
@@ -54,34 +63,45 @@ impl RunPlace {
     }
 }
 
-// The address of the doors; none where it is out of form.
-fn address(env: &HostRuntime) -> Option<IpAddr> {
-    match env::var(env, ADDRESS) {
-        Ok(text) => text.parse::<IpAddr>().ok(),
-        Err(VarError::NotPresent) => Some(IpAddr::V4(Ipv4Addr::UNSPECIFIED)),
-        Err(_) => None,
+// What a variable says, if it is there.
+fn said(env: &HostRuntime, name: &str) -> Result<Option<String>, PlaceFault> {
+    match env::var(env, name) {
+        Ok(text) => Ok(Some(text)),
+        Err(VarError::NotPresent) => Ok(None),
+        Err(VarError::OutOfMemory) => Err(PlaceFault::Memory),
+        Err(VarError::NotUnicode) => Err(PlaceFault::Form),
     }
 }
 
-// The path of the source's socket, if one is said; none where it is out of form.
-fn feed(env: &HostRuntime) -> Option<Option<String>> {
-    match env::var(env, FEED) {
-        Ok(path) if path.starts_with('/') => Some(Some(path)),
-        Err(VarError::NotPresent) => Some(None),
-        _ => None,
-    }
-}
-
-// Where a stop is asked for, if that is said; none where it is out of form.
-fn stop(env: &HostRuntime) -> Option<Option<Place>> {
-    match env::var(env, STOP) {
-        Ok(path) if path.starts_with('/') => Some(Some(Place::Path(path))),
-        Ok(text) => match text.parse::<u16>() {
-            Ok(port) if port > 0 => Some(Some(loopback(port))),
-            _ => None,
+// The address of the doors.
+fn address(env: &HostRuntime) -> Result<IpAddr, PlaceFault> {
+    match said(env, ADDRESS)? {
+        Some(text) => match text.parse::<IpAddr>() {
+            Ok(address) => Ok(address),
+            Err(_) => Err(PlaceFault::Form),
         },
-        Err(VarError::NotPresent) => Some(None),
-        Err(_) => None,
+        None => Ok(IpAddr::V4(Ipv4Addr::UNSPECIFIED)),
+    }
+}
+
+// The path of the source's socket, if one is said.
+fn feed(env: &HostRuntime) -> Result<Option<String>, PlaceFault> {
+    match said(env, FEED)? {
+        Some(path) if path.starts_with('/') => Ok(Some(path)),
+        Some(_) => Err(PlaceFault::Form),
+        None => Ok(None),
+    }
+}
+
+// Where a stop is asked for, if that is said.
+fn stop(env: &HostRuntime) -> Result<Option<Place>, PlaceFault> {
+    match said(env, STOP)? {
+        Some(path) if path.starts_with('/') => Ok(Some(Place::Path(path))),
+        Some(text) => match text.parse::<u16>() {
+            Ok(port) if port > 0 => Ok(Some(loopback(port))),
+            _ => Err(PlaceFault::Form),
+        },
+        None => Ok(None),
     }
 }
 
@@ -90,14 +110,13 @@ pub(crate) fn loopback(port: u16) -> Place {
     Place::Port(SocketAddr::from((Ipv4Addr::LOCALHOST, port)))
 }
 
-// A number of seconds, or this one where none is said; none where it is out of form.
-fn seconds(env: &HostRuntime, name: &str, unsaid: u64) -> Option<Duration> {
-    match env::var(env, name) {
-        Ok(text) => match text.parse::<u32>() {
-            Ok(seconds) => Some(Duration::from_secs(u64::from(seconds))),
-            Err(_) => None,
+// A number of seconds, or this one where none is said.
+fn seconds(env: &HostRuntime, name: &str, unsaid: u64) -> Result<Duration, PlaceFault> {
+    match said(env, name)? {
+        Some(text) => match text.parse::<u32>() {
+            Ok(seconds) => Ok(Duration::from_secs(u64::from(seconds))),
+            Err(_) => Err(PlaceFault::Form),
         },
-        Err(VarError::NotPresent) => Some(Duration::from_secs(unsaid)),
-        Err(_) => None,
+        None => Ok(Duration::from_secs(unsaid)),
     }
 }

@@ -5,3 +5,4 @@ pub mod Doors
 pub mod Publishing
 pub mod Workers
 pub mod Runs
+pub mod Calling

@@ -1,4 +1,10 @@
-// What holds of every run of a station, as the contract of a function that does nothing.
+// What holds of every run of a station, as the contracts of functions that do nothing.
+ghost use Rattle.std.specs.Prelude.{ℕ};
+ghost use Rattle.disk_model.specs.Calls.{OnlyCalls};
+ghost use Rattle.station_config.specs.declared.site.Site.{Site};
+ghost use Rattle.station_run.specs.Ran.{Outside, RanOver, LeavesDisk};
+ghost use Rattle.station_run.specs.declared.report.RunReport.{RunReport};
+ghost use Rattle.station_run.specs.declared.report.StartFault.{StartFault};
 ghost use Rattle.run_laws.specs.Lossless.{RunsAreLossless};
 ghost use Rattle.run_laws.specs.Laws.{Laws};
 
@@ -25,6 +31,20 @@ pub fn a_run_loses_nothing<D: Disk, F: FrameSource, A: Antenna, G: Door, C: Cloc
 {
     rests_on();
 }
+
+/// Nothing but calls of its disk happens to it over a run, nor where a station doesn't start: what
+/// no call of a disk changes is as it was.
+pub fn a_run_only_calls_its_disk<D: Disk, F: FrameSource, A: Antenna, G: Door, C: Clock>()
+    ensures ran { (site : Site) (turns links draw : ℕ) (disk disk_now : D)
+        (old new : Outside F A G C) (report : RunReport)
+        → RanOver D.pending D.faults D.moment D.images_since D.makes D.fails D.fails_to_read
+        F.answers F.faults A.sent A.faults G.shown G.faults G.Link.calls G.Link.faults C.readings
+        site turns links draw disk disk_now old new report
+        → OnlyCalls D.makes D.fails D.fails_to_read disk disk_now }
+    ensures refused { (fault : StartFault) (disk disk_now : D)
+        → LeavesDisk D.pending D.moment D.images_since D.makes D.fails D.fails_to_read fault disk
+        disk_now → OnlyCalls D.makes D.fails D.fails_to_read disk disk_now }
+{}
 
 // The laws of sessions, of books and of the lock.
 fn rests_on()

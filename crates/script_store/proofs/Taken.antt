@@ -181,7 +181,7 @@ module _ (old new : ArchiveState DiskState) where
       ap capacity_of refused.state ∙ after_capacity (offered old none_dropped) polled
   unmended_capacity faults.Memory polled (inl short) =
       ap capacity_of short.state ∙ after_capacity (offered old none_dropped) short.front
-  unmended_capacity faults.Memory polled (inr (broken, failed, rose, inl same)) =
+  unmended_capacity faults.Memory polled (inr (broken, failed, rose, inl (same, made))) =
       ap capacity_of same ∙ after_capacity (offered old none_dropped) polled
   unmended_capacity faults.Memory polled (inr (broken, failed, rose, inr short)) =
       ap capacity_of short.offered_again.state ∙ after_capacity _ short.offered_again.front

@@ -6,12 +6,12 @@ use Rattle.archive_commands.proofs.ListOutcomes.{reads_hold, image_before, leave
 use Rattle.archive_commands.proofs.ListOutcomes.{stands_after}
 use Rattle.archive_commands.proofs.archive_file.list_archive.Goals as goal
 
-pub returns-in-Ok : goal.returns-in-Ok
-returns-in-Ok g c =
+pub returns-in-Ok-clause-list : goal.returns-in-Ok-clause-list
+returns-in-Ok-clause-list g c =
     let old = c.args.disk in
     let mid = c.sync.new.self in
     let pending = g.D.Disk.pending in
-    let list = c.list_synced.ensures in
+    let list = c.list_synced.ensures.list in
     let before = image_before c.a_sync_leaves_one_image.ensures (pending old) (pending mid)
     (c.images_at_a_moment.ensures.read old) c.in-Ok.ensures.synced in
     record {
@@ -31,8 +31,8 @@ returns-in-Ok g c =
       closes = list.closes;
     }
 
-pub returns-in-Err : goal.returns-in-Err
-returns-in-Err g c = record {
+pub returns-in-Err-clause-list : goal.returns-in-Err-clause-list
+returns-in-Err-clause-list g c = record {
   how = failed;
   leaves = c.in-Err.ensures.cause.rose refl;
   complete = λ others is. inr (inr (inl refl));

@@ -8,8 +8,8 @@ use Rattle.archive_commands.proofs.ListOutcomes.{closes_behind}
 use Rattle.archive_commands.proofs.ListOutcomes.{closes_written, closes_stop}
 use Rattle.archive_commands.proofs.archive_file.list_batches.Goals as goal
 
-pub returns-in-Ok-Whole : goal.returns-in-Ok-Whole
-returns-in-Ok-Whole g c =
+pub returns-in-Ok-Whole-clause-list : goal.returns-in-Ok-Whole-clause-list
+returns-in-Ok-Whole-clause-list g c =
     let pending = g.D.Disk.pending c.args.disk.now in
     let new = g.D.Disk.pending c.put_file.new.disk in
     let puts = c.in-Ok-Whole.ensures.puts in
@@ -27,8 +27,8 @@ returns-in-Ok-Whole g c =
       closes = closes_written _ _ _ _ _ ends.Done _ c.in-Ok-Whole.field-0 c.code.ensures puts.wrote;
     }
 
-pub returns-in-Ok-Changed : goal.returns-in-Ok-Changed
-returns-in-Ok-Changed g c =
+pub returns-in-Ok-Changed-clause-list : goal.returns-in-Ok-Changed-clause-list
+returns-in-Ok-Changed-clause-list g c =
     let pending = g.D.Disk.pending c.args.disk.now in
     let puts = c.in-Ok-Changed.ensures.puts in
     let none = subst (ReadTo pending puts.entries) c.in-Ok-Changed.field-0-is puts.read in
@@ -45,8 +45,8 @@ returns-in-Ok-Changed g c =
           c.put_refused.ensures);
     }
 
-pub returns-in-Ok-DiskFault : goal.returns-in-Ok-DiskFault
-returns-in-Ok-DiskFault g c =
+pub returns-in-Ok-DiskFault-clause-list : goal.returns-in-Ok-DiskFault-clause-list
+returns-in-Ok-DiskFault-clause-list g c =
     let pending = g.D.Disk.pending c.args.disk.now in
     let puts = c.in-Ok-DiskFault.ensures.puts in
     let front = subst (ReadTo pending puts.entries) c.in-Ok-DiskFault.field-0-is puts.read in
@@ -61,8 +61,8 @@ returns-in-Ok-DiskFault g c =
           c.tell.ensures;
     }
 
-pub returns-in-Err : goal.returns-in-Err
-returns-in-Err g c =
+pub returns-in-Err-clause-list : goal.returns-in-Err-clause-list
+returns-in-Err-clause-list g c =
     let puts = c.in-Err.ensures.puts in
     record {
       how = stopped_behind puts.entries;

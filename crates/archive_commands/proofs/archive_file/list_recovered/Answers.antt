@@ -2,8 +2,8 @@ use Rattle.archive_commands.specs.Archives.{listed}
 use Rattle.archive_commands.proofs.ListOutcomes.{all_listed, stands_for, none_other}
 use Rattle.archive_commands.proofs.archive_file.list_recovered.Goals as goal
 
-pub returns-in-Ok : goal.returns-in-Ok
-returns-in-Ok g c =
+pub returns-in-Ok-clause-list : goal.returns-in-Ok-clause-list
+returns-in-Ok-clause-list g c =
     let pending = g.D.Disk.pending c.args.disk in
     let entries = c.in-Ok.entries in
     let stands = stands_for pending entries c.in-Ok.journal.gate c.in-Ok.ensures.stands in

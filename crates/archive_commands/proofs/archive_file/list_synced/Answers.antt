@@ -4,8 +4,8 @@ use Rattle.archive_commands.specs.Archives.{failed, unread}
 use Rattle.archive_commands.proofs.ListOutcomes.{reads_hold, closes_unwritten}
 use Rattle.archive_commands.proofs.archive_file.list_synced.Goals as goal
 
-pub returns-in-Err-DiskFault : goal.returns-in-Err-DiskFault
-returns-in-Err-DiskFault g c = record {
+pub returns-in-Err-DiskFault-clause-list : goal.returns-in-Err-DiskFault-clause-list
+returns-in-Err-DiskFault-clause-list g c = record {
   how = failed;
   leaves = c.in-Err-DiskFault.ensures.cause (ap (λ f. Err f) c.in-Err-DiskFault.field-0-is);
   complete = λ others is. inr (inr (inl refl));
@@ -14,8 +14,8 @@ returns-in-Err-DiskFault g c = record {
   closes = c.tell.ensures;
 }
 
-pub returns-in-Err-Memory : goal.returns-in-Err-Memory
-returns-in-Err-Memory g c = record {
+pub returns-in-Err-Memory-clause-list : goal.returns-in-Err-Memory-clause-list
+returns-in-Err-Memory-clause-list g c = record {
   how = unread;
   leaves = tt;
   complete = λ others is. inr (inl refl);

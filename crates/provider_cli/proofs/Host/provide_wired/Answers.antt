@@ -8,6 +8,7 @@ returns g c = record {
   around = c.provide_over.ensures.around;
   has = c.provide_over.ensures.has;
   of_path = c.provide_over.ensures.of_path;
+  still_of_path = c.provide_over.ensures.still_of_path;
   provided = c.provide_over.ensures.provided;
   started = c.provide_over.ensures.started;
   not_started = c.provide_over.ensures.not_started;

@@ -1,5 +1,6 @@
 use Rattle.std.proofs.Common.{◌∙◌, ap, inl, inr, length}
-use Rattle.provider_commands.proofs.Ran.{by_passes, made_of, not_started_on, put_back, started_on}
+use Rattle.provider_commands.proofs.Ran.{back_so, by_passes, made_of, not_started_on, put_back}
+use Rattle.provider_commands.proofs.Ran.{started_on, unstarted_calls}
 use Rattle.provider_commands.proofs.providing.run_on.Goals as goal
 
 pub returns-clause-started : goal.returns-clause-started
@@ -51,3 +52,12 @@ returns-clause-not_started g c =
           (rw (c.as_mut_slice.ensures.value, c.as_mut_slice-2.ensures.value) at untouched);
     })
     c.run-exit.ensures.not_started c.run-exit.ensures.untouched
+
+pub returns-clause-calls : goal.returns-clause-calls
+returns-clause-calls g c of keeps =
+    back_so of c.args.kit.now.disk c.taken.result c.run-exit.result.1 c.taken.ensures
+    (by_passes c.run-exit.result.2 _ _ _ c.run-exit.ensures.started c.run-exit.ensures.not_started
+    (λ pass told. c.a_run_only_calls_its_disk.ensures.ran _ _ _ _ _ _ _ _ _ told.6 of keeps)
+    (λ told. unstarted_calls g.D.Disk.pending g.D.Disk.faults g.D.Disk.moment
+    g.D.Disk.images_since g.D.Disk.makes g.D.Disk.fails g.D.Disk.fails_to_read _ _ _ _ _ told.0
+    c.a_run_only_calls_its_disk.ensures.refused told.2 of keeps))
