@@ -68,6 +68,12 @@ capture_cli Place connection|capture_cli Status.code ->|line_meaning Ending caus
 picture_cli Status.code ->
 """
 
+# What an index keeps of the last statuses: its fields are whole numbers, and its parts show them.
+OF_AN_INDEX = """
+archive_index Parts carrier|archive_index Parts frame_sync|archive_index Parts production
+archive_index Parts subcarrier|archive_index Parts symbol
+"""
+
 PLAIN = ("tests_", "bench_", "sample_", "kill_", "plain_")
 OCTETS = re.compile(r"&(?:'\w+ )?(?:mut )?\[u8\]|\[u8; [^\]]*\]|Vec<u8>")
 SMALL = re.compile(r"\b(?:u8|u16)\b")
@@ -119,7 +125,7 @@ def bare_numbers():
 
 
 def main():
-    listed = {it.strip() for it in (OF_A_PEER + NO_TABLE).replace("\n", "|").split("|")} - {""}
+    listed = {it.strip() for it in (OF_A_PEER + NO_TABLE + OF_AN_INDEX).replace("\n", "|").split("|")} - {""}
     found = set(bare_numbers())
     of_any = {re.sub(r"^(\w+) \S+ (\w+)$", r"\1 * \2", it): it for it in found}
     unlisted = sorted(it for it in found

@@ -1,5 +1,12 @@
+pub mod Rising
+pub mod RowsOf
+pub mod Through
+pub mod Adding
+pub mod Walks
+pub mod Told
+pub mod Sums
+pub mod Onward
+pub mod Short
 pub mod Ends
-pub mod Marks
 pub mod Picks
-pub mod Indexed
 pub mod Giving

@@ -15,9 +15,6 @@ use Rattle.record_form.specs.declared.entry.Entry as forms
 use Rattle.record_form.specs.Entry.{entry_of, entries_of}
 use Rattle.archive_index.specs.Look.{is_told_of}
 use Rattle.archive_index.specs.Next.{next_picked}
-use Rattle.archive_index.specs.declared.mark.Mark as code
-use Rattle.archive_index.specs.IndexState.{Indexes, Totals, mark_seen, mark_of}
-use Rattle.archive_index.proofs.Indexed.{seen, mark_stands}
 
 -- what stands from a place on
 abbrev pub from_place : {X : Type 0} → ℕ → List (ℕ × X) → List (ℕ × X)
@@ -64,17 +61,6 @@ picked_step entries s place e is = rw (
 pub next_none : (entries : List Entry) (s : Selection) (place : ℕ) → length entries ≤ place
     → next_picked entries s place ≡ None
 next_none entries s place past = rw picked_from-end refl
-
--- it is the one at a place, where that is picked
-pub next_at : (marks : List code.Mark) (t : Totals) (entries : List Entry) (s : Selection)
-    (place : ℕ) (m : code.Mark) (b : Bool)
-    → Indexes (seen marks t) entries → place < length marks → m ≡ get_or marks place m
-    → ((entries : List Entry) (e : Entry) → mark_seen m ≡ mark_of (take place entries) e
-    → b ≡ is_picked s entries place e)
-    → next_picked entries s place ≡ cond b (Some place) (next_picked entries s (place + 1))
-next_at marks t entries s place m b ix below read says =
-    let at = mark_stands marks t entries ix place m below read in
-    rw (picked_step entries s place at.0 at.1, ← says entries at.0 at.2) (grind arith)
 
 -- the next picked entry: its place and what follows it
 record IsNext (entries : List Entry) (s : Selection) (from place : ℕ) : Type 0 where
@@ -135,12 +121,11 @@ told_where_picked entries s place e picked = grind arith
 pub next_is : (entries : List forms.Entry) (s : Selection) (from place : ℕ) (found : Option ℕ)
     (x : forms.Entry)
     → found ≡ next_picked (entries_of entries) s from → found ≡ Some place
-    → x ≡ get_or entries place x
+    → slice_get entries place ≡ Some x
     → (is_told_of (entry_of x) ≡ true) × (picked_from (entries_of entries) s from
     ≡ (place, entry_of x) ∷ picked_from (entries_of entries) s (place + 1))
-next_is entries s from place found x next is read =
+    × (slice_get (entries_of entries) place ≡ Some (entry_of x))
+next_is entries s from place found x next is there =
     let n = at entries s from place found next is in
-    let below = within entries s from place found next is in
-    let there = slice_get_read entries _ place x refl below read in
     let same : n.entry ≡ entry_of x = let two = rw (slice_get-map, there) at n.there in cc in
-    rw (← same) (told_where_picked _ s place n.entry n.picked, n.first)
+    rw (← same) (told_where_picked _ s place n.entry n.picked, n.first, n.there)

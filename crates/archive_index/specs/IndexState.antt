@@ -1,36 +1,25 @@
 -- What an index keeps of a list of entries.
-use Rattle.std.specs.Prelude.{◌≡◌, ℕ, ◌+◌, ◌-◌, ◌^◌, max, min, IsTrue, Bool, true, false, not, ◌&&◌}
-use Rattle.std.specs.Prelude.{◌||◌, nat_lt, nat_le, Option, List, [], ◌∷◌, ◌++◌, option_map}
-use Rattle.std.specs.List.{fold, sum_by, list_all}
+use Rattle.std.specs.Prelude.{◌≡◌, ℕ, ◌+◌, ◌-◌, max, IsTrue, Bool, true, false, not, ◌&&◌}
+use Rattle.std.specs.Prelude.{◌||◌, nat_lt, nat_le, Option, List, [], ◌∷◌, ◌++◌, length, ◌==◌}
+use Rattle.std.specs.Prelude.{if◌then◌else◌, take}
+use Rattle.std.specs.List.{fold, sum_by}
 use Rattle.std.specs.Option.{option_map_or}
+use Rattle.std.specs.BTreeMap.{BTreeMap}
 use Rattle.cds_time.specs.Moment.{moment_of}
 use Rattle.archive_terms.specs.Archive.{Entry, frame, loss_of_sync, production, seal, frame_time}
-use Rattle.archive_terms.specs.Archive.{seal_time, is_valid}
-use Rattle.archive_terms.specs.Selection.{ChannelId, channel_of, Selection}
+use Rattle.archive_terms.specs.Archive.{seal_time}
+use Rattle.archive_terms.specs.Selection.{is_notice, by_quality, by_channel, ChannelId}
+use Rattle.archive_terms.specs.Selection.{is_of_channel}
 use Rattle.archive_terms.specs.Continuity.{lost_of}
 use Rattle.archive_terms.specs.Glimpse.{Locks, locks_after, locks, production_after}
 use Rattle.archive_terms.specs.Glimpse.{production_status}
-use Rattle.sle_numbers.specs.FrameQuality.{number_of as quality_number}
-use Rattle.sle_numbers.specs.ReturnProductionStatus.{number_of as production_number}
-use Rattle.frame_select.specs.Selection.{id_of}
-use Rattle.frame_select.specs.Glimpse.{locks_of}
-use Rattle.archive_index.specs.declared.mark.Mark as code
-use Rattle.archive_index.specs.declared.mark.Kind as kinds
-use Rattle.archive_index.specs.declared.mark.Kind.TheVariants as kind
-use Rattle.archive_index.specs.declared.totals.Totals as totals
-
--- a frame with its moment, quality and channel; a loss of synchronisation or a change of the
--- production status; a seal
-pub data Kind : Type 0 where
-  of_frame : Option ℕ → ℕ → Option ChannelId → Kind
-  of_notice : Kind
-  of_seal : Kind
-
-abbrev pub kind_of : Entry → Kind
-kind_of (frame f) = of_frame (moment_of f.ert) f.quality (channel_of f.octets)
-kind_of (loss_of_sync _) = of_notice
-kind_of (production _) = of_notice
-kind_of (seal _) = of_seal
+use Rattle.archive_index.specs.Rows.{rows_of, passes, is_seal, IsThrough}
+use Rattle.archive_index.specs.Keys.{id_of_key, list_of}
+use Rattle.archive_index.specs.declared.row.Row.{Row}
+use Rattle.archive_index.specs.declared.channels.Key.{Key}
+use Rattle.archive_index.specs.declared.totals.Totals as code
+use Rattle.archive_index.specs.declared.mark.Mark.{Mark}
+use Rattle.archive_index.specs.declared.index.Index.{Index}
 
 -- the first moment above all times that `time_of` gives of entries: 0 where there is none
 abbrev pub end_with : (Entry → Option ℕ) → ℕ → Entry → ℕ
@@ -57,60 +46,129 @@ totals_of entries = record {
   production = production_status entries;
 }
 
--- lost frames with those before one entry more, as far as the program counts
-abbrev pub lost_with : ℕ → Entry → ℕ
-lost_with lost (frame f) = min (lost + f.lost) (2 ^ 128 - 1)
-lost_with lost _ = lost
-
 -- the totals with one entry more: its time, what was lost, and its statuses
 abbrev pub totals_with : Totals → Entry → Totals
 totals_with t entry = record {
   frames_end = end_with frame_time t.frames_end entry;
   seals_end = end_with seal_time t.seals_end entry;
-  lost = lost_with t.lost entry;
+  lost = t.lost + lost_of entry;
   locks = locks_after t.locks entry;
   production = production_after t.production entry;
 }
 
--- what is kept of an entry: its kind, and the totals of those before it
-pub record Mark : Type 0 where
-  pub kind : Kind
-  pub before : Totals
+-- the lists: the rows of all frames, of seals and of notices, and the numbers among the frames' rows
+-- of the good ones, of the erred ones and of each channel's
+pub record Lists : Type 0 where
+  pub frames : List Row
+  pub good : List ℕ
+  pub erred : List ℕ
+  pub channels : BTreeMap Key (List ℕ)
+  pub seals : List Row
+  pub notices : List Row
 
-abbrev pub mark_of : List Entry → Entry → Mark
-mark_of before entry = record { kind = kind_of entry; before = totals_of before }
+-- an index of the program, and its lists
+abbrev pub IndexState : Type 0
+IndexState = Index
 
--- a mark of each entry behind some others
-abbrev pub marks_behind : List Entry → List Entry → List Mark
-marks_behind before [] = []
-marks_behind before (entry ∷ entries) = mark_of before entry
-    ∷ marks_behind (before ++ entry ∷ []) entries
+abbrev pub lists_of : IndexState → Lists
+lists_of i = record {
+  frames = i.frames;
+  good = i.good;
+  erred = i.erred;
+  channels = i.channels;
+  seals = i.seals;
+  notices = i.notices;
+}
 
--- what is kept of a list of entries: a mark of each, and the totals of all
-pub record IndexState : Type 0 where
-  pub marks : List Mark
-  pub totals : Totals
+-- each list has the rows of the entries that belong there, in order
+pub record Sorts (lists : Lists) (entries : List Entry) : Type 0 where
+  pub frames : lists.frames ≡ rows_of (passes (by_quality 2)) entries
+  pub good : IsThrough lists.frames lists.good (rows_of (passes (by_quality 0)) entries)
+  pub erred : IsThrough lists.frames lists.erred (rows_of (passes (by_quality 1)) entries)
+  pub channels : (k : Key) → IsThrough lists.frames (list_of lists.channels k)
+      (rows_of (passes (by_channel (id_of_key k))) entries)
+  pub seals : lists.seals ≡ rows_of is_seal entries
+  pub notices : lists.notices ≡ rows_of is_notice entries
 
--- the index keeps what it needs of these valid entries
+-- totals of the program
+abbrev pub totals_seen : code.Totals → Totals
+totals_seen t = record {
+  frames_end = t.frames_end;
+  seals_end = t.seals_end;
+  lost = t.lost;
+  locks = record {
+    frame_sync = t.frame_sync;
+    symbol = t.symbol;
+    subcarrier = t.subcarrier;
+    carrier = t.carrier;
+  };
+  production = t.production;
+}
+
+-- the index keeps what it needs of these entries
 pub record Indexes (index : IndexState) (entries : List Entry) : Type 0 where
-  pub kept : index ≡ record { marks = marks_behind [] entries; totals = totals_of entries }
-  pub valid : IsTrue (list_all is_valid entries)
+  pub sorts : Sorts (lists_of index) entries
+  pub count : index.count ≡ length entries
+  pub totals : totals_seen index.totals ≡ totals_of entries
+
+-- ---- lists with one entry more, and with one entry less
+
+-- the same lists
+pub record AreSame (old new : Lists) : Type 0 where
+  pub frames : new.frames ≡ old.frames
+  pub good : new.good ≡ old.good
+  pub erred : new.erred ≡ old.erred
+  pub channels : (k : Key) → list_of new.channels k ≡ list_of old.channels k
+  pub seals : new.seals ≡ old.seals
+  pub notices : new.notices ≡ old.notices
+
+-- a list with one number more, where a test says so
+abbrev pub more_if : Bool → List ℕ → ℕ → List ℕ
+more_if test numbers n = if test then numbers ++ n ∷ [] else numbers
+
+-- whether a good frame of a channel belongs to a list of a channel
+abbrev pub is_for : Key → Option ChannelId → Bool
+is_for k channel = option_map_or (is_of_channel (id_of_key k)) channel false
+
+-- the number of a frame's row put into the lists of its quality and channel
+pub record AddsNumber (old new : Lists) (number quality : ℕ) (channel : Option ChannelId) : Type 0
+  where
+    pub good : new.good ≡ more_if (quality == 0) old.good number
+    pub erred : new.erred ≡ more_if (quality == 1) old.erred number
+    pub channels : (k : Key) → list_of new.channels k
+        ≡ more_if (quality == 0 && is_for k channel) (list_of old.channels k) number
+
+-- a frame's row put after the others, and its number into those lists
+pub record AddsFrame (old new : Lists) (row : Row) (quality : ℕ) (channel : Option ChannelId)
+    : Type 0 where
+  pub frames : new.frames ≡ old.frames ++ row ∷ []
+  pub numbers : AddsNumber old new (length old.frames) quality channel
+  pub seals : new.seals ≡ old.seals
+  pub notices : new.notices ≡ old.notices
+
+-- a list without its last number, where a test says so
+abbrev pub less_if : Bool → List ℕ → List ℕ
+less_if test numbers = if test then take (length numbers - 1) numbers else numbers
+
+-- the last frame's row taken off, and its number off the lists of its quality and channel
+pub record TakesFrame (old new : Lists) (quality : ℕ) (channel : Option ChannelId) : Type 0 where
+  pub frames : new.frames ≡ take (length old.frames - 1) old.frames
+  pub good : new.good ≡ less_if (quality == 0) old.good
+  pub erred : new.erred ≡ less_if (quality == 1) old.erred
+  pub channels : (k : Key) → list_of new.channels k
+      ≡ less_if (quality == 0 && is_for k channel) (list_of old.channels k)
+  pub seals : new.seals ≡ old.seals
+  pub notices : new.notices ≡ old.notices
+
+-- ---- totals
 
 -- whether the totals tell that a start is unknown or reached by a frame, and that a stop is known
 -- and closed
-abbrev pub has_started : Totals → Option ℕ → Bool
-has_started t start = option_map_or (λ moment. nat_lt moment t.frames_end) start true
-
 abbrev pub has_closed : Totals → Option ℕ → Bool
 has_closed t stop = option_map_or (λ moment. nat_lt moment (t.frames_end - 1)
     || nat_lt moment t.seals_end) stop false
 
--- whether a loss or a production change behind entries of these totals is told at a place
-abbrev pub tells : Totals → Selection → ℕ → Bool
-tells t s place = s.notices && nat_le s.first place && has_started t s.start
-    && not (has_closed t s.stop)
-
--- whether an entry keeps the order of times behind entries of these totals
+-- whether an entry keeps the order of times after entries of these totals
 abbrev pub is_in_order : Totals → Entry → Bool
 is_in_order t (frame f) =
     option_map_or (λ at. nat_le t.frames_end (at + 1) && nat_le t.seals_end at) (moment_of f.ert)
@@ -119,22 +177,7 @@ is_in_order t (seal time) = option_map_or (λ at. nat_le t.seals_end (at + 1)) (
 is_in_order t (loss_of_sync _) = true
 is_in_order t (production _) = true
 
--- ---- the program's marks
-
-abbrev pub totals_seen : totals.Totals → Totals
-totals_seen t = record {
-  frames_end = t.frames_end;
-  seals_end = t.seals_end;
-  lost = t.lost;
-  locks = locks_of t.locks;
-  production = production_number t.production;
-}
-
-abbrev pub kind_seen : kinds.Kind → Kind
-kind_seen (kind.Frame moment quality channel) =
-    of_frame moment (quality_number quality) (option_map id_of channel)
-kind_seen kind.Notice = of_notice
-kind_seen kind.Seal = of_seal
-
-abbrev pub mark_seen : code.Mark → Mark
-mark_seen m = record { kind = kind_seen m.kind; before = totals_seen m.before }
+-- a mark keeps how many these entries were, and their totals
+pub record IsMark (mark : Mark) (entries : List Entry) : Type 0 where
+  pub count : mark.count ≡ length entries
+  pub totals : totals_seen mark.totals ≡ totals_of entries

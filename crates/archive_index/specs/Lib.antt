@@ -1,3 +1,6 @@
 pub mod Next
+pub mod Rows
+pub mod Keys
 pub mod IndexState
+pub mod Walking
 pub mod Look

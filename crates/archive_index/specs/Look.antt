@@ -1,6 +1,6 @@
 -- How a look goes on.
 use Rattle.std.specs.Prelude.{◌≡◌, ℕ, ◌+◌, ◌-◌, Bool, true, false, ◌||◌, ◌==◌, nat_lt, List, map}
-use Rattle.std.specs.Prelude.{length}
+use Rattle.std.specs.Prelude.{length, Option, Some, None, ℤ, pos, negsuc}
 use Rattle.std.specs.Option.{option_or}
 use Rattle.archive_terms.specs.Archive.{Entry, seal}
 use Rattle.archive_terms.specs.Selection.{Selection}
@@ -32,6 +32,11 @@ behind c place entry = record {
   room = c.room - 1;
   octets = c.octets - frame_octets (archived place entry);
 }
+
+-- a frame's continuity, by the frames lost since the one before it, if there is one
+abbrev pub continuity_by : Option ℕ → ℕ → ℤ
+continuity_by None lost = negsuc 0
+continuity_by (Some _) lost = pos lost
 
 -- a seal is told to no one
 abbrev pub is_told_of : Entry → Bool

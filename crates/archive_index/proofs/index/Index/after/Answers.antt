@@ -1,28 +1,17 @@
-use Rattle.std.proofs.Common.{refl, arith}
+use Rattle.std.proofs.Common.{◌∙◌, ap, sym, None}
+use Rattle.std.specs.Option.{option_map}
 use Rattle.frame_select.specs.Selection.{selection_of}
-use Rattle.archive_index.proofs.Indexed.{count}
-use Rattle.archive_index.proofs.Picks.{next_at, next_none}
+use Rattle.archive_index.specs.declared.walk.Found.{Found}
 use Rattle.archive_index.proofs.index.Index.after.Goals as goal
 
-pub returns-then-is_picked : goal.returns-then-is_picked
-returns-then-is_picked c = λ entries indexes. rw (
-  c.loop-place.invariant entries indexes,
-  next_at _ _ entries (selection_of c.args.selection.now) c.loop-place.place c.index.result.now _
-      (rw (← c.self.view_is) at indexes) (omega arith) c.index.ensures c.is_picked.ensures,
-  c.if-is_picked.true,
-) refl
+pub returns-in-Some-clause-exact : goal.returns-in-Some-clause-exact
+returns-in-Some-clause-exact g c = λ entries indexes archive.
+    ap (option_map (λ (f : Found). f.place)) (sym c.in-Some.is)
+    ∙ c.onward.ensures.next entries (selection_of c.args.selection.now) c.args.place None indexes
+    archive (c.walk-walk.ensures.walk entries indexes archive)
 
-pub loop-place-preserved : goal.loop-place-preserved
-loop-place-preserved c = λ entries indexes. rw (
-  c.loop-place.invariant entries indexes,
-  next_at _ _ entries (selection_of c.args.selection.now) c.loop-place.place c.index.result.now _
-      (rw (← c.self.view_is) at indexes) (omega arith) c.index.ensures c.is_picked.ensures,
-  c.if-is_picked.false,
-) refl
-
-pub returns : goal.returns
-returns c = λ entries indexes.
-    let few = count _ _ entries (rw (← c.self.view_is) at indexes) in
-    let none = next_none entries (selection_of c.args.selection.now) c.loop-place.place
-    (omega arith) in
-    rw (c.loop-place.invariant entries indexes, none) refl
+pub returns-in-None-clause-exact : goal.returns-in-None-clause-exact
+returns-in-None-clause-exact g c = λ entries indexes archive.
+    ap (option_map (λ (f : Found). f.place)) (sym c.in-None.is)
+    ∙ c.onward.ensures.next entries (selection_of c.args.selection.now) c.args.place None indexes
+    archive (c.walk-walk.ensures.walk entries indexes archive)
