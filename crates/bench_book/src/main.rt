@@ -1,16 +1,17 @@
 // Publishes frames to a book and has it answer looks at them, so that the answers can be timed.
 //
-// The words are `ENTRIES OCTETS QUALITY PLACE ROOM ROUNDS`: so many frames are published, each of
-// so many octets, of which the last one alone is erred; then so many answers look from a place on
-// for so many frames, good ones for the quality 0, and erred ones for 1. A line tells how many
-// items the answers gave, and how many octets their last ones have. With no words that is done for
-// few frames, both ways.
+// The words are `ENTRIES OCTETS KIND PLACE ROOM ROUNDS`: so many frames are published, each of so
+// many octets, of which the last ten alone are erred; then so many answers look from a place on for
+// so many frames: good ones for the kind 0, erred ones for 1, and those of a channel that has none
+// for 2. A line tells how many items the answers gave, and how many octets their last ones have.
+// With no words that is done for few frames, in each way.
 #![tactic(auto)]
 
 use cds_time::{Cds, Rest};
 use frame_select::{Filter, Item, Selection, Want};
 use octet_core::{Memory, Octets};
 use record_form::{Entries, Entry};
+use sle_common::{Channel, Gvcid};
 use sle_numbers::{FrameQuality, RequestedFrameQuality};
 use station_book::{Ask, Book, PublishFault};
 use station_config::Site;
@@ -23,13 +24,23 @@ const FRAME: [u8; 65_536] = [0x5a; 65_536];
 /// How many entries are published at once.
 const BATCH: u32 = 256;
 
+/// How many of the last frames are erred.
+const ERRED: u32 = 10;
+
+/// A channel of TM frames, which none of the frames is on.
+const QUIET: Gvcid = Gvcid {
+    spacecraft: 1,
+    version: 0,
+    channel: Channel::Virtual(2),
+};
+
 /// 20000 days.
 const NOW: u128 = 1_728_000_000_000_000_000_000;
 
 /// What is looked for.
 #[derive(Clone, Copy)]
 struct Look {
-    quality: RequestedFrameQuality,
+    filter: Filter,
     place: u64,
     room: u32,
 }
@@ -38,7 +49,7 @@ impl Look {
     fn want(self) -> Want {
         Want::Items {
             selection: Selection {
-                filter: Filter::Quality(self.quality),
+                filter: self.filter,
                 start: None,
                 stop: None,
                 first: 0,
@@ -83,7 +94,7 @@ fn publish(
     book.publish(entries).map_err(|(fault, _)| fault)
 }
 
-/// A book of so many frames, of which the last one alone is erred.
+/// A book of so many frames, of which the last ten alone are erred.
 fn book_of(alloc: Global, entries: u32, octets: &[u8]) -> Result<Book, PublishFault> {
     let Ok(site) = Site::parse(alloc, b"") else {
         return Err(PublishFault::Memory);
@@ -92,7 +103,7 @@ fn book_of(alloc: Global, entries: u32, octets: &[u8]) -> Result<Book, PublishFa
     let mut book = Book::new(alloc, &site, Entries::new(alloc), 0).map_err(
         |_| PublishFault::Memory,
     )?;
-    let good = entries.saturating_sub(1);
+    let good = entries.saturating_sub(ERRED);
     for _ in 0..good / BATCH {
         publish(alloc, &mut book, &octets, FrameQuality::Good, BATCH)?;
     }
@@ -102,7 +113,7 @@ fn book_of(alloc: Global, entries: u32, octets: &[u8]) -> Result<Book, PublishFa
         &mut book,
         &octets,
         FrameQuality::Erred,
-        entries.min(1),
+        entries.min(ERRED),
     )?;
     Ok(book)
 }
@@ -150,6 +161,15 @@ fn run(rt: &HostRuntime, entries: u32, octets: u32, look: Look, rounds: u32) -> 
     println!(rt; "{entries} entries, {rounds} answers, {items} items, {octets} octets")
 }
 
+/// What a kind of frames is selected by.
+fn filter_of(kind: u32) -> Filter {
+    match kind {
+        0 => Filter::Quality(RequestedFrameQuality::GoodFramesOnly),
+        1 => Filter::Quality(RequestedFrameQuality::ErredFrameOnly),
+        _ => Filter::Channel(QUIET),
+    }
+}
+
 /// The number that the next word is, or 1.
 fn number(word: Option<String>) -> u32 {
     word.and_then(|word| word.parse::<u32>().ok()).unwrap_or(1)
@@ -158,26 +178,20 @@ fn number(word: Option<String>) -> u32 {
 fn main(rt: HostRuntime) -> io::Result<()> {
     let mut words = env::args(&rt)?.skip(1);
     let Some(entries) = words.next() else {
-        let good = Look {
-            quality: RequestedFrameQuality::GoodFramesOnly,
-            place: 10,
-            room: 5,
-        };
-        let erred = Look {
-            quality: RequestedFrameQuality::ErredFrameOnly,
-            ..good
-        };
-        run(&rt, 600, 1_115, good, 3)?;
-        return run(&rt, 600, 1_115, erred, 3);
+        for kind in 0..3 {
+            let look = Look {
+                filter: filter_of(kind),
+                place: 10,
+                room: 5,
+            };
+            run(&rt, 600, 1_115, look, 3)?;
+        }
+        return Ok(());
     };
     let entries = number(Some(entries));
     let octets = number(words.next());
     let look = Look {
-        quality: if number(words.next()) == 0 {
-            RequestedFrameQuality::GoodFramesOnly
-        } else {
-            RequestedFrameQuality::ErredFrameOnly
-        },
+        filter: filter_of(number(words.next())),
         place: u64::from(number(words.next())),
         room: number(words.next()),
     };

@@ -1,39 +1,47 @@
 // The archive of a rehearsal.
-ghost use Rattle.std.specs.Prelude.{◌≡◌, ◌≤◌, ◌-◌, [], ◌∷◌, ◌++◌, IsTrue, IfOk, OnOk, OnErr};
-ghost use Rattle.archive_terms.specs.Archive.{is_valid};
+ghost use Rattle.std.specs.Prelude.{◌≡◌, ◌<◌, ◌≤◌, ◌-◌, [], ◌∷◌, ◌++◌, IfOk, OnOk, OnErr};
+ghost use Rattle.archive_terms.specs.Archive.{IsArchive};
+ghost use Rattle.archive_terms.specs.Glimpse.{glimpse};
 ghost use Rattle.archive_terms.specs.Archive as terms;
-ghost use Rattle.record_form.specs.Entry.{entry_of, entries_of};
+ghost use Rattle.record_form.specs.Entry.{entry_of};
+ghost use Rattle.frame_select.specs.Glimpse.{glimpse_of, as_said};
+ghost use Rattle.frame_select.specs.Want.{want_of};
 ghost use Rattle.rehearsal.specs.Frames as rehearsal;
 ghost use Rattle.rehearsal.specs.Frames.{frames_stored, time_at};
 
 use crate::frames::{Parts, time};
-use archive_index::Index;
+use archive_index::{Index, Shelf, Steps};
 use frame_select::{Glimpse, Want};
 use octet_core::Memory;
 use record_form::Entry;
 use station_desk::Looks;
 use std::alloc::Global;
-use std::marker::Model;
+use std::marker::{Brand, Model};
+use std::sync::ledger::{Blank, Ledger};
 
 /// Entries in their order, with the index of them.
-#[derive(Debug, Drop)]
+#[derive(Drop)]
 pub struct Archive {
     alloc: Global,
-    entries: Vec<Entry>,
+    entries: Shelf<Entry>,
     index: Index,
+    // How many of them are frames.
+    frames: usize,
 }
 
 impl Model for Archive {
-    ghost use Rattle.std.specs.Prelude.{List, vec_items};
+    ghost use Rattle.std.specs.Prelude.{List, ◌≡◌};
     ghost use Rattle.archive_terms.specs.Archive.{Entry};
     ghost use Rattle.record_form.specs.Entry.{entries_of};
     ghost use Rattle.archive_index.specs.IndexState.{Indexes};
+    ghost use Rattle.rehearsal.specs.Frames.{frames_stored};
 
     ghost Value = { List Entry };
 
-    ghost view = { λ a. entries_of (vec_items a.entries) };
+    ghost view = { λ a. entries_of a.entries };
 
-    ghost invariant = { λ a. Indexes a.index (entries_of (vec_items a.entries)) };
+    ghost invariant = { λ a. Indexes a.index (entries_of a.entries)
+        × (a.frames ≡ frames_stored (entries_of a.entries)) };
 }
 
 impl Archive {
@@ -43,8 +51,9 @@ impl Archive {
     {
         Ok(Archive {
             alloc,
-            entries: Vec::new(alloc),
+            entries: Shelf::new(alloc)?,
             index: Index::new(alloc)?,
+            frames: 0,
         })
     }
 
@@ -65,16 +74,24 @@ impl Archive {
 
     // Stores an entry behind the others.
     fn store(&mut self, entry: Entry) -> Result<(), Memory>
-        requires { IsTrue (is_valid (entry_of entry)) }
         ensures ok { OnOk result (self.new ≡ self.old ++ entry_of entry ∷ []) }
         ensures err { OnErr result (self.new ≡ self.old) }
     {
-        self.entries.reserve(1)?;
+        // There is no room for so many entries.
+        let Some(frames) = self.frames.checked_add(usize::from(is_frame(&entry))) else {
+            return Err(Memory);
+        };
+        let mark = self.index.mark();
         self.index.add(&entry)?;
         match self.entries.push(entry) {
-            Ok(()) => Ok(()),
-            // Room was reserved.
-            Err(_) => unreachable!(),
+            Ok(()) => {
+                self.frames = frames;
+                Ok(())
+            }
+            Err(entry) => {
+                self.index.go_back(&mark, &[entry]);
+                Err(Memory)
+            }
         }
     }
 
@@ -82,7 +99,21 @@ impl Archive {
     pub fn frames(&self) -> usize
         ensures { result ≡ frames_stored self.now }
     {
-        count_frames(&self.entries)
+        self.frames
+    }
+
+    // A look, on a counter that is made of a blank ledger.
+    fn look_from<L: Ledger>(&self, want: &Want, blank: Blank) -> Result<Glimpse, Memory>
+        requires archive { IsArchive self.now }
+        requires name { blank.name ≡ L.name }
+        requires parts { blank.parts ≡ L.parts }
+        requires one { 0 < blank.parts }
+        ensures { IfOk result (λ g. glimpse_of g
+            ≡ as_said (glimpse self.now (want_of want.now))) }
+    {
+        let mut steps = Steps::<L>::new(blank);
+        self.index
+            .glimpse(self.alloc, &self.entries, want, &mut steps)
     }
 }
 
@@ -90,7 +121,7 @@ impl Looks for Archive {
     ghost entries = { λ archive. archive };
 
     fn look(&self, want: &Want) -> Result<Glimpse, Memory> {
-        self.index.glimpse(self.alloc, &self.entries, want)
+        self.look_from::<Brand>(want, Blank::new(1))
     }
 }
 
@@ -101,16 +132,6 @@ fn seal(n: u32) -> Entry
     ensures { entry_of result ≡ terms.seal (time_at (n - 1)) }
 {
     Entry::Seal { at: time(n - 1) }
-}
-
-fn count_frames(entries: &[Entry]) -> usize
-    ensures { result ≡ frames_stored (entries_of entries.now) }
-{
-    let mut count = 0;
-    for entry in entries {
-        count += usize::from(is_frame(entry));
-    }
-    count
 }
 
 fn is_frame(entry: &Entry) -> bool

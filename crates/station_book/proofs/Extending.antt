@@ -2,8 +2,10 @@
 use Rattle.std.proofs.Common.{◌≡◌, ℕ, ◌+◌, ◌<◌, get_or, drop, add-one, true, false, ◌&&◌, List, []}
 use Rattle.std.proofs.Common.{◌∷◌, ◌++◌, take, length, refl, ap, sym, subst, ◌∙◌, append_assoc}
 use Rattle.std.proofs.Common.{append-nil}
-use Rattle.std.proofs.lemmas.List.{map-append, take-append-drop, take-map}
-use Rattle.std.proofs.Math.Seq.{drop-cons}
+use Rattle.std.specs.Prelude.{Result, Ok, Err, OnOk, OnErr}
+use Rattle.std.specs.Result.{is_err}
+use Rattle.std.proofs.lemmas.List.{map-append, take-append-drop}
+use Rattle.std.proofs.Math.Seq.{drop-cons, take-append_seam}
 use Rattle.archive_terms.specs.Archive.{is_archive, IsArchive, may_follow}
 use Rattle.archive_terms.specs.Archive as terms
 use Rattle.archive_index.specs.IndexState.{IndexState, Indexes}
@@ -87,9 +89,24 @@ taken_apart xs i x below is =
     ap (λ y. take i xs ++ y ∷ drop (i + 1) xs) is ∙ ap (λ ys. take i xs ++ ys) item
     ∙ take-append-drop i xs
 
--- an index that was cut back is that of the entries that were kept
-pub cut_back : (longer shorter : List Entry) (count : ℕ) (index : IndexState)
-    → shorter ≡ take count longer
-    → Indexes index (take count (entries_of longer)) → Indexes index (entries_of shorter)
-cut_back longer shorter count index is indexed =
-    subst (λ xs. Indexes index xs) (take-map entry_of count longer ∙ ap entries_of (sym is)) indexed
+-- what holds of each answer of a kind holds of this one
+pub failed : {T E : Type 0} (r : Result T E) (P : Type 0) → is_err r ≡ true → OnErr r P → P
+failed (Ok x) P is fact = cc
+failed (Err e) P is fact = fact
+
+pub passed : {T E : Type 0} (r : Result T E) (P : Type 0) → is_err r ≡ false → OnOk r P → P
+passed (Ok x) P is fact = fact
+passed (Err e) P is fact = cc
+
+-- the entries before those that were put behind them
+pub taken_back : (old put longer shorter : List Entry) (count : ℕ) → longer ≡ old ++ put
+    → count ≡ length old → shorter ≡ take count longer → shorter ≡ old
+taken_back old put longer shorter count is counted cut =
+    cut ∙ ap (λ n. take n longer) counted ∙ ap (λ xs. take (length old) xs) is
+    ∙ take-append_seam old put
+
+-- the index of both is that of their values
+pub index_of_both : (old put longer : List Entry) (index : IndexState) → longer ≡ old ++ put
+    → Indexes index (entries_of longer) → Indexes index (entries_of old ++ entries_of put)
+index_of_both old put longer index is indexed =
+    subst (λ xs. Indexes index xs) (ap entries_of is ∙ map-append entry_of old put) indexed

@@ -9,3 +9,4 @@ pub mod Notified
 pub mod Named
 pub mod Sites
 pub mod Opened
+pub mod Counting

@@ -14,10 +14,10 @@ state_of a = record {
     services = a.services.items;
     room = a.room;
     longest = a.longest;
-    entries = take a.opening (entries_of a.entries.items);
+    entries = take a.opening (entries_of a.entries);
     workers = a.workers;
   };
-  published = entries_of a.entries.items;
+  published = entries_of a.entries;
   queue = a.queue;
   doors = a.doors.items;
   gone = a.gone;

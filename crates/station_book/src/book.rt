@@ -1,22 +1,25 @@
 // The book.
-ghost use Rattle.std.specs.Prelude.{◌≡◌, ◌^◌, ◌<◌, ◌≤◌, IfOk, OnOk, OnErr, IfErr, IsFalse, IsTrue};
+ghost use Rattle.std.specs.Prelude.{◌≡◌, ℕ, ◌+◌, ◌*◌, ◌^◌, ◌<◌, ◌≤◌, IfOk, OnOk, OnErr, IfErr};
+ghost use Rattle.std.specs.Prelude.{IsFalse, IsTrue, take as prefix};
 ghost use Rattle.std.specs.Prelude.{length, slice_get, slice_set, if◌then◌else◌, Some};
 ghost use Rattle.station_book.specs.History.{is_of, is_forward, is_quiet};
 ghost use Rattle.cds_time.specs.declared.cds.TheConstants.{MOMENT_END};
 ghost use Rattle.archive_terms.specs.Archive.{IsArchive};
 ghost use Rattle.archive_terms.specs.Glimpse.{glimpse};
+ghost use Rattle.archive_index.specs.IndexState.{Indexes};
 ghost use Rattle.record_form.specs.Entry.{entries_of};
 ghost use Rattle.frame_select.specs.Glimpse.{glimpse_of, as_said};
 ghost use Rattle.frame_select.specs.Want.{want_of};
 ghost use Rattle.cltu_queue.specs.Machine.{on_start, on_transfer, refusal, on_notice, on_stop};
 ghost use Rattle.cltu_queue.specs.Machine.{view_of};
 
-use crate::extend::extend;
+use crate::book_parts::BookParts;
+use crate::extend::{extend, shelve};
 use crate::limits::Limits;
 use crate::publish_fault::PublishFault;
 use crate::service_kind::ServiceKind;
 use crate::site::{forward_limits, kinds_of};
-use archive_index::Index;
+use archive_index::{Index, Shelf, Steps};
 use cltu_queue::{Ask, BookReply, Cltu, CltuFault, Notice, Queue, Taken, UplinkView};
 use fcltu_numbers::{CltuProductionStatus, UplinkStatus};
 use frame_select::{Glimpse, Want};
@@ -24,7 +27,8 @@ use octet_core::Memory;
 use record_form::{Entries, Entry};
 use station_config::Site;
 use std::alloc::{AllocError, Global};
-use std::marker::Model;
+use std::marker::{Brand, Model};
+use std::sync::ledger::{Blank, Ledger};
 
 /// All that a station's workers share: the published entries with their index, the forward
 /// service's queue, which door has which instance, which workers are gone, and the latest moment.
@@ -38,7 +42,7 @@ pub struct Book {
     workers: u32,
     // How many of the entries are opening ones.
     opening: usize,
-    entries: Vec<Entry>,
+    entries: Shelf<Entry>,
     index: Index,
     queue: Queue,
     // For each instance, the door that has it.
@@ -95,7 +99,8 @@ impl Book {
     ghost use Rattle.station_book.specs.Publishing.{UnlessMemory, published_as};
 
     /// The book of a site's instances over an archive, with so many workers beside the antenna's.
-    /// It shares the octets of the entries, and takes constant time for each instance and entry.
+    /// It shares the octets of the entries, goes over them once, and takes constant time for each
+    /// instance.
     pub fn new(alloc: Global, site: &Site, entries: Entries, workers: u32) -> Result<Book, Memory>
         requires archive { IsArchive entries }
         requires workers { workers ≤ 31 }
@@ -129,12 +134,8 @@ impl Book {
         ensures new { IfOk result (λ book. book ≡ opened book.opening) }
     {
         let mut index = Index::new(alloc)?;
-        let mut held = Vec::new(alloc);
-        match extend(&mut index, &mut held, entries) {
-            Ok(()) => {}
-            Err(PublishFault::Memory) => return Err(Memory),
-            Err(PublishFault::Foreign) => unreachable!(),
-        }
+        let mut held = Shelf::new(alloc)?;
+        shelve(&mut index, &mut held, entries)?;
         let doors = Vec::from_elem(alloc, None, services.len())?;
         let Limits { room, longest } = limits;
         let queue = Queue::new(alloc, room, longest).map_err(AllocError::from)?;
@@ -144,7 +145,7 @@ impl Book {
             room,
             longest,
             workers,
-            opening: held.len(),
+            opening: held.length() as usize,
             entries: held,
             index,
             queue,
@@ -167,20 +168,52 @@ impl Book {
     pub fn front(&self) -> u64
         ensures { result ≡ length self.now.published }
     {
-        self.entries.len() as u64
+        self.entries.length()
     }
 
     /// What a look at the published entries gives. They are an archive of fewer than 2^64 entries, so
-    /// that a delivery may step on it. It goes over the index from the wanted place on, and shares
-    /// the octets of what it gives.
+    /// that a delivery may step on it. It shares the octets of what it gives.
+    ///
+    /// It is `look_counted` on a counter of its own.
     pub fn look(&self, want: &Want) -> Result<Glimpse, Memory>
         ensures glimpse { IfOk result (λ g. glimpse_of g
             ≡ as_said (glimpse self.now.published (want_of want.now))) }
         ensures archive { IsArchive self.now.published }
         ensures count { length self.now.published < 2 ^ 64 }
     {
-        let _count = self.entries.len();
-        self.index.glimpse(self.alloc, &self.entries, want)
+        self.look_from::<Brand>(want, Blank::new(1))
+    }
+
+    // The look, on a counter that is made of a blank ledger.
+    fn look_from<L: Ledger>(&self, want: &Want, blank: Blank) -> Result<Glimpse, Memory>
+        requires name { blank.name ≡ L.name }
+        requires parts { blank.parts ≡ L.parts }
+        requires one { 0 < blank.parts }
+        ensures glimpse { IfOk result (λ g. glimpse_of g
+            ≡ as_said (glimpse self.now.published (want_of want.now))) }
+        ensures archive { IsArchive self.now.published }
+        ensures count { length self.now.published < 2 ^ 64 }
+    {
+        let mut steps = Steps::<L>::new(blank);
+        self.look_counted(want, &mut steps)
+    }
+
+    /// `look`, which counts the entries and rows that it reads: six for each item that it gives, and
+    /// eight for each binary digit of the number of entries.
+    pub fn look_counted<L: Ledger>(
+        &self,
+        want: &Want,
+        steps: &mut Steps<L>,
+    ) -> Result<Glimpse, Memory>
+        ensures glimpse { IfOk result (λ g. glimpse_of g
+            ≡ as_said (glimpse self.now.published (want_of want.now))) }
+        ensures archive { IsArchive self.now.published }
+        ensures count { length self.now.published < 2 ^ 64 }
+        ensures steps { IfOk result (λ g. (b : ℕ) → length self.now.published < 2 ^ b
+            → steps.new ≤ steps.old + (6 * length g.items + 8 * b + 8)) }
+    {
+        let _count = self.entries.length();
+        self.index.glimpse(self.alloc, &self.entries, want, steps)
     }
 
     /// Puts entries behind the published ones. A refusal hands them back and changes nothing.
@@ -190,18 +223,15 @@ impl Book {
             ≡ reply_to self.old (publish entries)) }
         ensures err { IfErr result (λ r. (r.1 ≡ entries) × (self.new ≡ self.old)) }
     {
-        let count = self.entries.len();
         match extend(&mut self.index, &mut self.entries, entries.as_slice()) {
             Ok(()) => Ok(()),
-            Err(fault) => {
-                self.index.cut(count as u64);
-                self.entries.truncate(count);
-                Err((fault, entries))
-            }
+            Err(fault) => Err((fault, entries)),
         }
     }
 
     /// Answers what a door's session asks, with a look and the notice that is to be told.
+    ///
+    /// It is `answer_counted` on a counter of its own.
     pub fn answer(
         &mut self,
         door: u32,
@@ -222,8 +252,64 @@ impl Book {
         ensures count { length self.old.published < 2 ^ 64 }
         ensures err { OnErr result (self.new ≡ self.old) }
     {
+        self.answer_from::<Brand>(door, reading, ask, want, Blank::new(1))
+    }
+
+    // The answer, on a counter that is made of a blank ledger.
+    fn answer_from<L: Ledger>(
+        &mut self,
+        door: u32,
+        reading: u128,
+        ask: &Ask,
+        want: &Want,
+        blank: Blank,
+    ) -> Result<(BookReply, Glimpse, Option<Notice>), Memory>
+        requires reading { reading < MOMENT_END }
+        requires name { blank.name ≡ L.name }
+        requires parts { blank.parts ≡ L.parts }
+        requires one { 0 < blank.parts }
+        ensures after { OnOk result (self.new
+            ≡ after self.old (answer door reading ask.now (want_of want.now))) }
+        ensures reply { IfOk result (λ r. r.0
+            ≡ reply_of self.old door (moment_at self.old reading) ask.now) }
+        ensures glimpse { IfOk result (λ r. glimpse_of r.1
+            ≡ as_said (glimpse self.old.published (want_of want.now))) }
+        ensures notice { IfOk result (λ r. r.2
+            ≡ notice_of self.old door (moment_at self.old reading) ask.now) }
+        ensures archive { IsArchive self.old.published }
+        ensures count { length self.old.published < 2 ^ 64 }
+        ensures err { OnErr result (self.new ≡ self.old) }
+    {
+        let mut steps = Steps::<L>::new(blank);
+        self.answer_counted(door, reading, ask, want, &mut steps)
+    }
+
+    /// `answer`, which counts the entries and rows that its look reads, as `look_counted` does.
+    pub fn answer_counted<L: Ledger>(
+        &mut self,
+        door: u32,
+        reading: u128,
+        ask: &Ask,
+        want: &Want,
+        steps: &mut Steps<L>,
+    ) -> Result<(BookReply, Glimpse, Option<Notice>), Memory>
+        requires { reading < MOMENT_END }
+        ensures after { OnOk result (self.new
+            ≡ after self.old (answer door reading ask.now (want_of want.now))) }
+        ensures reply { IfOk result (λ r. r.0
+            ≡ reply_of self.old door (moment_at self.old reading) ask.now) }
+        ensures glimpse { IfOk result (λ r. glimpse_of r.1
+            ≡ as_said (glimpse self.old.published (want_of want.now))) }
+        ensures notice { IfOk result (λ r. r.2
+            ≡ notice_of self.old door (moment_at self.old reading) ask.now) }
+        ensures archive { IsArchive self.old.published }
+        ensures count { length self.old.published < 2 ^ 64 }
+        ensures err { OnErr result (self.new ≡ self.old) }
+        ensures steps { IfOk result (λ r. (b : ℕ) → length self.old.published < 2 ^ b
+            → steps.new ≤ steps.old + (6 * length r.1.items + 8 * b + 8)) }
+    {
         let now = self.peek(reading);
-        let glimpse = self.look(want)?;
+        let glimpse = self.look_counted(want, steps)?;
         let (reply, notice) = self.converse(door, now, ask)?;
         self.moment = now;
         Ok((reply, glimpse, notice))
@@ -486,5 +572,50 @@ impl Book {
         ensures { result ≡ view_of self.now.queue }
     {
         self.queue.view()
+    }
+
+    /// All that a book holds, a field each: there is no list of entries beside the shelf and the
+    /// index.
+    pub fn parts(&self) -> BookParts<'_>
+        ensures opening { result.services.now.items ≡ self.now.opening.services }
+        ensures limits { (result.room ≡ self.now.opening.room)
+            × (result.longest ≡ self.now.opening.longest)
+            × (result.workers ≡ self.now.opening.workers) }
+        ensures first { prefix result.opening self.now.published ≡ self.now.opening.entries }
+        ensures entries { entries_of result.entries.now ≡ self.now.published }
+        ensures index { Indexes result.index.now self.now.published }
+        ensures queue { result.queue.now ≡ self.now.queue }
+        ensures doors { result.doors.now.items ≡ self.now.doors }
+        ensures gone { result.gone.now ≡ self.now.gone }
+        ensures moment { result.moment ≡ self.now.moment }
+    {
+        let Book {
+            alloc,
+            services,
+            room,
+            longest,
+            workers,
+            opening,
+            entries,
+            index,
+            queue,
+            doors,
+            gone,
+            moment,
+        } = self;
+        BookParts {
+            alloc: *alloc,
+            services,
+            room: *room,
+            longest: *longest,
+            workers: *workers,
+            opening: *opening,
+            entries,
+            index,
+            queue,
+            doors,
+            gone,
+            moment: *moment,
+        }
     }
 }

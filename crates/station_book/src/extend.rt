@@ -1,56 +1,106 @@
 // Entries put behind others, with their index.
-ghost use Rattle.std.specs.Prelude.{◌≡◌, ◌++◌, ◌∷◌, [], take, vec_len, OnOk, OnErr, IsTrue};
+ghost use Rattle.std.specs.Prelude.{◌≡◌, ◌≤◌, ◌++◌, ◌∷◌, [], take, length, OnOk, OnErr, IfErr};
 ghost use Rattle.std.specs.Prelude.{IsFalse};
-ghost use Rattle.archive_terms.specs.Archive.{is_archive, IsArchive, may_follow};
+ghost use Rattle.archive_terms.specs.Archive.{is_archive, IsArchive};
 ghost use Rattle.archive_index.specs.IndexState.{Indexes};
 ghost use Rattle.record_form.specs.Entry.{entry_of, entries_of};
 
 use crate::publish_fault::PublishFault;
-use archive_index::Index;
+use archive_index::{Index, Shelf};
 use archive_terms::laws::archive_grows;
 use octet_core::Memory;
 use record_form::Entry;
 
-// Puts an entry behind the others, which it may follow. After want of memory all is as it was.
-fn push(index: &mut Index, archive: &mut Vec<Entry>, entry: &Entry) -> Result<(), Memory>
-    requires follows { IsTrue (may_follow (entries_of archive.old.items) (entry_of entry.now)) }
-    requires indexed { Indexes index.old (entries_of archive.old.items) }
-    ensures held { OnOk result (archive.new.items ≡ archive.old.items ++ entry.now ∷ []) }
+// Puts an entry behind the others. After want of memory these are as before.
+fn push(index: &mut Index, archive: &mut Shelf<Entry>, entry: &Entry) -> Result<(), Memory>
+    requires { Indexes index.old (entries_of archive.old) }
+    ensures held { OnOk result (archive.new ≡ archive.old ++ entry.now ∷ []) }
     ensures index { OnOk result (Indexes index.new
-        (entries_of archive.old.items ++ entry_of entry.now ∷ [])) }
-    ensures err { OnErr result ((archive.new.items ≡ archive.old.items) × (index.new ≡ index.old)) }
+        (entries_of archive.old ++ entry_of entry.now ∷ [])) }
+    ensures err { OnErr result (archive.new ≡ archive.old) }
+    ensures kept { OnErr result (Indexes index.new (entries_of archive.old)) }
 {
+    let count = archive.length();
     let copy = entry.clone()?;
-    archive.reserve(1)?;
-    index.add(entry)?;
-    archive.push_reserved(copy);
+    if archive.push(copy).is_err() {
+        return Err(Memory);
+    }
+    if index.add(entry).is_err() {
+        archive.cut(count);
+        return Err(Memory);
+    }
     Ok(())
 }
 
-// Puts entries behind the others, with which they are an archive. What it put before a refusal is
-// behind them too.
-pub(crate) fn extend(
+// Puts an archive's entries onto an empty shelf, with their index.
+pub(crate) fn shelve(
     index: &mut Index,
-    archive: &mut Vec<Entry>,
+    archive: &mut Shelf<Entry>,
     entries: &[Entry],
-) -> Result<(), PublishFault>
-    requires archive { IsArchive (entries_of archive.old.items) }
-    requires indexed { Indexes index.old (entries_of archive.old.items) }
-    ensures all { OnOk result (archive.new.items ≡ archive.old.items ++ entries.now) }
-    ensures archive { OnOk result (IsArchive (entries_of archive.new.items)) }
-    ensures foreign { result ≡ Err PublishFault.Foreign
-        → IsFalse (is_archive (entries_of archive.old.items ++ entries_of entries.now)) }
-    ensures begins { take (vec_len archive.old) archive.new.items ≡ archive.old.items }
-    ensures indexed { Indexes index.new (entries_of archive.new.items) }
+) -> Result<(), Memory>
+    requires indexed { Indexes index.old [] }
+    requires empty { archive.old ≡ [] }
+    ensures all { OnOk result (archive.new ≡ entries.now) }
+    ensures indexed { OnOk result (Indexes index.new (entries_of entries.now)) }
+{
+    for entry in entries {
+        push(index, archive, entry)?;
+    }
+    Ok(())
+}
+
+// Puts entries behind the others, with which they are an archive. With a refusal it says how many
+// of them stand there.
+fn put_all(
+    index: &mut Index,
+    archive: &mut Shelf<Entry>,
+    entries: &[Entry],
+) -> Result<(), (PublishFault, usize)>
+    requires archive { IsArchive (entries_of archive.old) }
+    requires indexed { Indexes index.old (entries_of archive.old) }
+    ensures all { OnOk result (archive.new ≡ archive.old ++ entries.now) }
+    ensures archive { OnOk result (IsArchive (entries_of archive.new)) }
+    ensures foreign { IfErr result (λ e. e.0 ≡ PublishFault.Foreign
+        → IsFalse (is_archive (entries_of archive.old ++ entries_of entries.now))) }
+    ensures few { IfErr result (λ e. e.1 ≤ length entries.now) }
+    ensures put { IfErr result (λ e. archive.new ≡ archive.old ++ take e.1 entries.now) }
+    ensures indexed { Indexes index.new (entries_of archive.new) }
 {
     archive_grows();
-    for entry in entries {
+    for (count, entry) in entries.iter().enumerate() {
         if !index.may_follow(entry) {
-            return Err(PublishFault::Foreign);
+            return Err((PublishFault::Foreign, count));
         }
         if push(index, archive, entry).is_err() {
-            return Err(PublishFault::Memory);
+            return Err((PublishFault::Memory, count));
         }
     }
     Ok(())
+}
+
+// Puts entries behind the others, with which they are an archive. A refusal changes nothing.
+pub(crate) fn extend(
+    index: &mut Index,
+    archive: &mut Shelf<Entry>,
+    entries: &[Entry],
+) -> Result<(), PublishFault>
+    requires archive { IsArchive (entries_of archive.old) }
+    requires indexed { Indexes index.old (entries_of archive.old) }
+    ensures all { OnOk result (archive.new ≡ archive.old ++ entries.now) }
+    ensures archive { OnOk result (IsArchive (entries_of archive.new)) }
+    ensures foreign { result ≡ Err PublishFault.Foreign
+        → IsFalse (is_archive (entries_of archive.old ++ entries_of entries.now)) }
+    ensures err { OnErr result (archive.new ≡ archive.old) }
+    ensures indexed { Indexes index.new (entries_of archive.new) }
+{
+    let mark = index.mark();
+    let before = archive.length();
+    match put_all(index, archive, entries) {
+        Ok(()) => Ok(()),
+        Err((fault, count)) => {
+            index.go_back(&mark, &entries[..count]);
+            archive.cut(before);
+            Err(fault)
+        }
+    }
 }

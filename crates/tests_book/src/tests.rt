@@ -12,6 +12,8 @@ use std::test::Fail;
 
 mod book_desk;
 mod call;
+mod fields;
+mod steps;
 
 // The first line of a script that isn't answered so.
 fn wrong_line<'a>(alloc: Global, script: &'a str) -> Result<Option<&'a str>, Memory> {

@@ -5,6 +5,8 @@
 #[cfg(test)]
 mod deliveries;
 #[cfg(test)]
+mod fields;
+#[cfg(test)]
 mod ground;
 #[cfg(test)]
 mod index;

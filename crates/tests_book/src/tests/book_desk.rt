@@ -41,8 +41,8 @@ fn time(millis: u32) -> Cds {
     }
 }
 
-// A frame of two octets, good where its time is even.
-fn frame(alloc: Global, millis: u32) -> Result<Entry, Memory> {
+/// A frame of these octets, good where its time is even.
+pub fn frame_of(alloc: Global, millis: u32, octets: &[u8]) -> Result<Entry, Memory> {
     Ok(Entry::Frame {
         ert: time(millis),
         quality: if millis % 2 == 0 {
@@ -52,8 +52,12 @@ fn frame(alloc: Global, millis: u32) -> Result<Entry, Memory> {
         },
         antenna: Octets::copy_of(alloc, b"A")?,
         lost: 0,
-        octets: Octets::copy_of(alloc, &[0, 1])?,
+        octets: Octets::copy_of(alloc, octets)?,
     })
+}
+
+fn frame(alloc: Global, millis: u32) -> Result<Entry, Memory> {
+    frame_of(alloc, millis, &[0, 1])
 }
 
 fn frames(alloc: Global, first: u32, second: u32) -> Result<Entries, AllocError> {

@@ -1,11 +1,8 @@
-use Rattle.std.proofs.Common.{◌∙◌, ◌++◌, ◌∷◌, [], ap, sym, arith}
+use Rattle.std.proofs.Common.{◌∙◌, ◌++◌, ◌∷◌, [], ap, sym}
 use Rattle.record_form.specs.Entry.{entry_of}
 use Rattle.rehearsal.specs.Frames.{frames}
-use Rattle.rehearsal.proofs.Archives.{frame_valid, frames-more}
+use Rattle.rehearsal.proofs.Archives.{frames-more}
 use Rattle.rehearsal.proofs.archive.Archive.rehearsed.Goals as goal
-
-pub store-requires : goal.store-requires
-store-requires c = rw c.in_ok-frame.ensures (frame_valid c.loop-i.i (omega arith))
 
 pub loop-i-preserved : goal.loop-i-preserved
 loop-i-preserved c =

@@ -7,5 +7,5 @@ use Rattle.station_book.proofs.book.Book.open.Goals as goal
 pub returns-clause-new : goal.returns-clause-new
 returns-clause-new c =
     opened_is c.args.services.items c.args.limits.room c.args.limits.longest c.args.workers
-    c.len-2.result (entries_of c.extend.new.archive.items) _ _ (search rules) (search rules)
-    (omega (arith, length-map c.extend.new.archive.items entry_of, c.len-2.ensures))
+    c.length.result (entries_of c.shelve.new.archive) _ _ (search rules) (search rules)
+    (omega (arith, length-map c.shelve.new.archive entry_of, c.length.ensures))
