@@ -1,5 +1,6 @@
 #!/usr/bin/env python3
-"""Fails each call of a station's files once, at each place of two stores and of two telecommands.
+"""Fails each call of a station's files once, at each place of two stores and of two telecommands, and
+each write and read of the other commands.
 
 usage: failing.py PROVIDER
 
@@ -8,7 +9,8 @@ frames, each a store of its own, and one has two telecommands radiated. Then eac
 its own, with an error of the system and, where it writes, also by taking a part. What users are sent,
 the exit code and the files are compared with what docs/OPERATING.md says: a failed write of the archive
 loses nothing; after a failed sync nothing more is stored, and what was heard is there; a telecommand is
-told as radiated only where both of its files have it. The last line says how many checks passed.
+told as radiated only where both of its files have it. Then each write of what `drill`, `rehearse` and
+`list` print fails, or takes a part, and each read of a script. The last line says how many checks passed.
 """
 import collections
 import errno
@@ -34,6 +36,9 @@ FILES = "archive", "cltus", "cltus.lines"
 FAILURES = {"open": [errno.EACCES], "pwrite": [errno.EIO, errno.ENOSPC, -5], "write": [errno.EIO, errno.ENOSPC, -5],
             "fsync": [errno.EIO], "fdatasync": [errno.EIO], "ftruncate": [errno.EIO]}
 LINES, SENT = [frame(0), frame(1)], [b"first telecommand", b"second"]
+# A script that writes several lines, and the most calls that a command may make of one stream.
+SCRIPT, MOST_CALLS = "".join(f"frame 20000/{place}/0 0 41 0 0010a{place}\n" for place in range(1, 6)) \
+    + "mark 20000/9/0\nstart 20000/0/0 20000/9/0 0\n", 100
 
 
 class Run:
@@ -156,6 +161,8 @@ def failing():
               (0, [octets_of(line) for line in LINES], [0, 1], "".join(LINES), b"".join(SENT)))
         places = collections.Counter((words[0], os.path.basename(words[1])) for words in good.shim.calls()
                                      if words[0] != "=" and os.path.basename(words[1]) in FILES)
+        with tempfile.TemporaryDirectory() as other:
+            commands(other, good.station.path)
     orders, count = queue.Queue(), 0
     for (call, file), most in sorted(places.items()):
         for number in range(1, most + 1):
@@ -169,6 +176,47 @@ def failing():
     in_threads([lambda: one(orders)] * 4)
     print(f"failing: {count} runs, of the calls "
           + ", ".join(f"{call} {file} {most}" for (call, file), most in sorted(places.items())))
+
+
+# ---- what other commands read and write
+
+def command(folder, words, order=None):
+    """The exit code of a command, what it wrote, and what each of its writes of that was to write."""
+    shim = Shim(folder, "write")
+    if os.path.exists(shim.record):
+        os.remove(shim.record)
+    shim.order(*order or [])
+    done = subprocess.run([programs["provider"], *words], input=SCRIPT.encode(), capture_output=True,
+                          timeout=PATIENCE, env={**os.environ, **shim.environment})
+    writes = [bytes.fromhex("".join(it[2:])) for it in shim.calls() if it[:2] == ["write", "output"]]
+    return done.returncode, done.stdout, writes
+
+
+def commands(folder, archive):
+    """Fails each write of a command once, and each read."""
+    counts = []
+    for words in (["drill"], ["rehearse", "7"], ["list", archive]):
+        status, whole, writes = command(folder, words)
+        check(f"{words[0]}: a good run", (status, b"".join(writes)), (0, whole))
+        for number in range(1, len(writes) + 1):
+            for error, wanted in [(errno.EIO, (7, b"".join(writes[:number - 1]))),
+                                  (errno.ENOSPC, (7, b"".join(writes[:number - 1]))),
+                                  (errno.EINTR, (0, whole)), (-5, (0, whole))]:
+                found = command(folder, words, [("write", "output", number, 1, error)])
+                check(f"{words[0]}: write {number}, {errno.errorcode.get(error, error)}", found[:2], wanted)
+        counts.append(f"{words[0]} {len(writes)}")
+    reads = 0
+    while command(folder, ["drill"], [("read", "input", reads + 1, 1, errno.EIO)])[0] and reads < MOST_CALLS:
+        reads += 1
+        order = [("read", "input", reads, 1, errno.EIO)]
+        check(f"read {reads}", command(folder, ["drill"], order)[:2], (6, b"read fault\n"))
+        # (where the line that tells it fails too)
+        order.append(("write", "output", 1, 1, errno.EIO))
+        check(f"read {reads}, untold", command(folder, ["drill"], order)[:2], (6, b""))
+        interrupted = command(folder, ["drill"], [("read", "input", reads, 1, errno.EINTR)])
+        check(f"read {reads}, interrupted", interrupted[:2], command(folder, ["drill"])[:2])
+    check("a script is read", 2 <= reads < MOST_CALLS, True)
+    print(f"failing: writes of {', '.join(counts)}; reads of drill {reads}")
 
 
 if compiler() is None:

@@ -294,10 +294,11 @@ class Source:
     def feed(self, lines, more):
         """A connection of its own, which the station has read to its end when this returns."""
         octets = "".join(lines).encode() + more
+        # (what comes before a line that is refused is taken, whenever the connection is closed)
+        self.keep(octets)
         with User(self.station.feed).peer as peer:
             try:
                 peer.sendall(octets)
-                self.keep(octets)
                 check("all that was fed is heard", self.listener.has(self.frames, 20), True)
                 peer.shutdown(socket.SHUT_WR)
                 peer.settimeout(20)
@@ -332,9 +333,9 @@ class Source:
         return True
 
     def attack(self):
-        """Lines that are valid, and then what the generator makes of one; and a connection without."""
-        valid = [self.line() for _ in range(self.make.choices.randrange(3))]
-        self.feed(valid, self.make.line(self.line()))
+        """Lines that are valid, around what the generator makes of one; and a connection without."""
+        before, behind = ([self.line() for _ in range(self.make.choices.randrange(3))] for _ in range(2))
+        self.feed(before, self.make.line(self.line()) + "".join(behind).encode())
         with self.station.front_end() as other:
             if self.make.choices.randrange(2):
                 other.setsockopt(socket.SOL_SOCKET, socket.SO_LINGER, struct.pack("ii", 1, 0))
@@ -346,9 +347,7 @@ def stops(station):
     while not station.is_over:
         try:
             with socket.create_connection(("127.0.0.1", station.stop_port), timeout=5) as peer:
-                peer.sendall(make.choices.choice([b"", b"s", b"stop", b"STOP\n", b"stopp\n", b"stop \n",
-                                                  b"\nstop\n", b"\0" * 100_000, make.choices.randbytes(9),
-                                                  b"quit\n", b"sto\n"]))
+                peer.sendall(make.word())
                 if make.choices.randrange(2):
                     peer.shutdown(socket.SHUT_WR)
         except OSError:
@@ -419,14 +418,15 @@ def compare(station, listener, commander, source, sent):
         check("telecommands, each radiated once and in order", file.read() == b"".join(sent), True)
 
 
-def turns(folder):
+def turns(folder, _wanted):
     """Connections in turn, of which nothing is left."""
     station = Watched(folder, DOORS, 65_536, configuration())
     count = max(MESSAGES // 2, 200)
 
     def visit(number):
         with User(station.ports[number % DOORS]).peer as peer:
-            peer.sendall([b"", context(30, 5), context(30, 5) + pdu_message(bound(b"MOC", OWNED[b"MOC"][0], RAF)),
+            peer.sendall([b"", context(30, 5),
+                          context(30, 5) + pdu_message(bound(b"MOC", OWNED[b"MOC"][0], RAF)),
                           b"\4"][number // DOORS % 4])
             peer.shutdown(socket.SHUT_WR)
             while peer.recv(1 << 16):
@@ -445,10 +445,10 @@ def turns(folder):
 
 if __name__ == "__main__":
     wanted = sys.argv[4:] or ["doors", "stop", "feed", "turns"]
-    for part in [lambda folder: attacked(folder, wanted)] * ("doors" in wanted) + [turns] * ("turns" in wanted):
+    for part in [attacked] * ("doors" in wanted) + [turns] * ("turns" in wanted):
         with tempfile.TemporaryDirectory() as folder:
             try:
-                part(folder)
+                part(folder, wanted)
             except Exception as error:
                 check("a part", repr(error), None)
     sys.exit(checks.end())

@@ -1,7 +1,7 @@
 """Octets that no friend sends, from a seed: a module of the other scripts.
 
-What is mutated are the messages of SLE services over ISP1, which are spelled by the other modules, and
-lines of entries.
+What is mutated are the messages of SLE services over ISP1, which are spelled by the other modules,
+lines of entries, and the word of a stop.
 """
 import random
 
@@ -119,6 +119,14 @@ class Generator:
 
     def with_more(self, pdu, _pdus):
         return b"\1" + self.choices.randbytes(3) + wrapped(pdu)[4:]
+
+    # ---- what a stop's port hears
+
+    def word(self):
+        """What asks for no stop: mostly that word, changed."""
+        octets = self.choices.choice([lambda: self.mutated(b"stop\n")] * 8 + [
+            lambda: b"", lambda: b"stop", lambda: b"\nstop\n", lambda: bytes(100_000)])()
+        return b"" if octets.startswith(b"stop\n") else octets
 
     # ---- lines
 

@@ -10,8 +10,9 @@
 
    Of the calls of this name, on a file whose path ends with FILE (`*`: on any), counted from when the
    orders came, number FIRST and the TIMES - 1 after it fail with the system's error number ERROR.
-   Where ERROR is -N, a write takes N octets. A socket's path is a colon with its own port, or its path.
-   Of `malloc`, FILE is the least number of octets.
+   Where ERROR is -N, a write takes N octets. A socket's path is a colon with its own port, or its path;
+   that of the standard input is `input`, and that of the standard output `output`. Of `malloc`, FILE is
+   the least number of octets.
 
    SHIM_RECORD names a file that gets a line for each call which SHIM_CALLS names (words, one blank
    apart), in the order of the calls: what was written stands there before the call and the answer
@@ -24,7 +25,10 @@
        ring NUMBER                 a write to the eventfd that was made as the one of this number
        = CALL PATH ANSWER          of all but the last four; -N where it failed with the error N
 
-   A pread can be failed too, and isn't recorded.
+   A pread and a read can be failed too, and aren't recorded.
+
+   SHIM_REFUSED is a number: of the calls of malloc and realloc, counted from 1 when the program begins,
+   that one is refused, and recorded as `refused SIZE`.
 */
 #define _GNU_SOURCE
 #include <errno.h>
@@ -69,6 +73,8 @@ static char paths[FILES][128];
 static int rings[FILES], rung;
 static int record = -1;
 static char recorded[256];
+/* The call for memory that is refused, 0 if none, and how many there were. */
+static long refused, asked;
 
 __attribute__((constructor)) static void begin(void)
 {
@@ -84,6 +90,10 @@ __attribute__((constructor)) static void begin(void)
         record = syscall(SYS_openat, AT_FDCWD, path, O_WRONLY | O_CREAT | O_APPEND | O_CLOEXEC, 0600);
     const char *calls = getenv("SHIM_CALLS");
     snprintf(recorded, sizeof recorded, " %s ", calls ? calls : "");
+    const char *call = getenv("SHIM_REFUSED");
+    refused = call ? atol(call) : 0;
+    strcpy(paths[0], "input");
+    strcpy(paths[1], "output");
 }
 
 /* Reads the orders where they are new. */
@@ -326,6 +336,14 @@ ssize_t pwrite(int file, const void *octets, size_t size, off_t place)
     return ended("pwrite", path, syscall(SYS_pwrite64, file, octets, taken(error, size), place));
 }
 
+ssize_t read(int file, void *octets, size_t size)
+{
+    const char *path = path_of(file);
+    if (*path && fails(ordered("read", path, 0)))
+        return -1;
+    return syscall(SYS_read, file, octets, size);
+}
+
 ssize_t pread(int file, void *octets, size_t size, off_t place)
 {
     if (fails(ordered("pread", path_of(file), 0)))
@@ -393,10 +411,27 @@ int getentropy(void *octets, size_t size)
     return syscall(SYS_getrandom, octets, size, 0) == (long)size ? 0 : -1;
 }
 
+static int is_refused(size_t size)
+{
+    char head[64];
+    if (!refused || __atomic_add_fetch(&asked, 1, __ATOMIC_RELAXED) != refused)
+        return 0;
+    snprintf(head, sizeof head, "refused %zu", size);
+    note(head, 0, 0);
+    errno = ENOMEM;
+    return 1;
+}
+
 void *malloc(size_t size)
 {
     extern void *__libc_malloc(size_t);
-    if (size > 4096 && page && fails(ordered("malloc", "", size)))
+    if (is_refused(size) || (size > 4096 && page && fails(ordered("malloc", "", size))))
         return 0;
     return __libc_malloc(size);
+}
+
+void *realloc(void *old, size_t size)
+{
+    extern void *__libc_realloc(void *, size_t);
+    return is_refused(size) ? 0 : __libc_realloc(old, size);
 }
