@@ -1,4 +1,5 @@
-"""The crates of this repository, and the programs that `rt ci` built of them."""
+"""The crates of this repository, the programs that `rt ci` built of them, and those that these are
+compared with."""
 import os
 import re
 import subprocess
@@ -76,3 +77,25 @@ def provider():
     if asked.returncode == 1:
         sys.exit("the provider isn't built of these sources: `bin/provider prove` builds it")
     return f"{TOP}/crates/provider_cli/out/provider_cli"
+
+
+def plain():
+    """The same work in plain Rust (bench/plain), which cargo builds where its sources changed."""
+    folder = f"{TOP}/bench/plain"
+    built = subprocess.run(["cargo", "build", "--release", "--offline", "--quiet"], cwd=folder)
+    if built.returncode:
+        sys.exit("bench/plain isn't built: it needs cargo, and no crate from outside")
+    return f"{folder}/target/release/plain"
+
+
+def compared():
+    """The proved provider and what it is compared with, by their names: that of another checkout,
+    where the command line begins with --before and its folder, and plain Rust. These words are
+    taken off the command line."""
+    programs = {"provider": provider()}
+    if sys.argv[1:2] == ["--before"]:
+        programs["before"] = f"{sys.argv[2]}/crates/provider_cli/out/provider_cli"
+        if not os.access(programs["before"], os.X_OK):
+            sys.exit(f"{programs['before']} isn't there: `rt ci` in {sys.argv[2]} builds it")
+        del sys.argv[1:3]
+    return {**programs, "plain": plain()}

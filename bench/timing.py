@@ -56,6 +56,18 @@ def check(what, told, wanted):
         sys.exit(f"{what} told {told!r}, not {wanted!r}")
 
 
+def tell_each(what, programs, runs, peaks):
+    """A row for each program: the seconds of its best run, its peak, and how many times its seconds
+    those of the first one are."""
+    first = runs[0].processor
+    for name, it, most in zip(programs, runs, peaks):
+        print(f"{what:>7} {name:>9} {it.processor:>8.4f} {what / it.processor:>10,.0f} {most:>9,}"
+              f" {first / it.processor:>6.2f}", flush=True)
+
+
+HEAD = (f"{'frames':>7} {'program':>9} {'seconds':>8} {'frames/s':>10} {'peak KiB':>9} {'times':>6}")
+
+
 def peak(words, source=subprocess.DEVNULL):
     """The most KiB of memory that a run held, by GNU time."""
     timed = ["/usr/bin/time", "-f", "%M", *map(str, words)]
