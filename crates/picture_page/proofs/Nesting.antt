@@ -5,7 +5,9 @@ use Rattle.std.specs.List.{flat_map}
 use Rattle.std.proofs.lemmas.List.{reverse-append}
 use Rattle.picture_page.specs.Attributes.{Said}
 use Rattle.picture_page.specs.Escape.{escaped}
-use Rattle.picture_page.specs.Content.{start, finish, doctype, Content, nothing, text, element, spelled}
+use Rattle.picture_page.specs.Meta.{meta_text}
+use Rattle.picture_page.specs.declared.meta.Meta.{Meta}
+use Rattle.picture_page.specs.Content.{start, finish, doctype, Content, nothing, text, lone, element, spelled}
 use Rattle.picture_page.specs.Content.{Nests, outside, within, IsDocument}
 use Rattle.picture_page.specs.Sheet.{Sheet, Finishes, ended}
 use Rattle.picture_page.specs.declared.tag.Tag.{Tag}
@@ -14,6 +16,7 @@ use Rattle.picture_page.specs.declared.tag.Tag.{Tag}
 behind : Content → Content → Content
 behind nothing d = d
 behind (text octets more) d = text octets (behind more d)
+behind (lone m more) d = lone m (behind more d)
 behind (element t attributes held more) d = element t attributes held (behind more d)
 
 spelled_behind : (c d : Content) → spelled (behind c d) ≡ spelled c ++ spelled d
@@ -22,6 +25,9 @@ spelled_behind nothing d = refl
 spelled_behind (text octets more) d =
     ap (λ rest. escaped octets ++ rest) (spelled_behind more d)
     ∙ sym (append_assoc (escaped octets) (spelled more) (spelled d))
+spelled_behind (lone m more) d =
+    ap (λ rest. meta_text m ++ rest) (spelled_behind more d)
+    ∙ sym (append_assoc (meta_text m) (spelled more) (spelled d))
 spelled_behind (element t attributes held more) d =
     ap (λ rest. start t attributes ++ (spelled held ++ (finish t ++ rest))) (spelled_behind more d)
     ∙ sym (append_assoc (start t attributes) (spelled held ++ (finish t ++ spelled more)) (spelled d)
@@ -46,6 +52,13 @@ text_nests octets tags w n =
     let same : octets ++ spelled (text w nothing) ≡ octets ++ escaped w
     = ap (λ rest. octets ++ rest) (append-nil (escaped w)) in
     subst (λ there. Nests there tags) same (more_nests octets tags (text w nothing) n)
+
+pub meta_nests : (octets : List ℕ) (tags : List Tag) (m : Meta) → Nests octets tags
+    → Nests (octets ++ meta_text m) tags
+meta_nests octets tags m n =
+    let same : octets ++ spelled (lone m nothing) ≡ octets ++ meta_text m
+    = ap (λ rest. octets ++ rest) (append-nil (meta_text m)) in
+    subst (λ there. Nests there tags) same (more_nests octets tags (lone m nothing) n)
 
 pub start_nests : (octets : List ℕ) (tags : List Tag) (t : Tag) (attributes : List Said)
     → Nests octets tags → Nests (octets ++ start t attributes) (t ∷ tags)

@@ -3,6 +3,8 @@ use Rattle.std.specs.Prelude.{◌≡◌, List, [], ◌∷◌, ◌++◌, ℕ, cod
 use Rattle.std.specs.List.{flat_map}
 use Rattle.picture_page.specs.Attributes.{Said, attribute_text}
 use Rattle.picture_page.specs.Escape.{escaped}
+use Rattle.picture_page.specs.Meta.{meta_text}
+use Rattle.picture_page.specs.declared.meta.Meta.{Meta}
 use Rattle.picture_page.specs.declared.tag.Tag.{Tag}
 use Rattle.picture_page.specs.declared.tag.Tag.TheVariants as tag
 
@@ -36,15 +38,18 @@ start t attributes = codes "<" ++ tag_name t ++ flat_map attribute_text attribut
 unfoldable pub finish : Tag → List ℕ
 finish t = codes "</" ++ tag_name t ++ codes ">"
 
--- a list of texts and elements: an element has what it holds, and then come those behind it
+-- a list of texts and elements: an element has what it holds, and then come those after it; what the
+-- page says of itself holds nothing
 pub data Content : Type 0 where
   nothing : Content
   text : List ℕ → Content → Content
+  lone : Meta → Content → Content
   element : Tag → List Said → Content → Content → Content
 
 abbrev pub spelled : Content → List ℕ
 spelled nothing = []
 spelled (text octets more) = escaped octets ++ spelled more
+spelled (lone m more) = meta_text m ++ spelled more
 spelled (element t attributes held more) =
     start t attributes ++ (spelled held ++ (finish t ++ spelled more))
 

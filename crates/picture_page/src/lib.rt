@@ -12,9 +12,11 @@
 
 mod attribute;
 mod escape;
+mod meta;
 mod page;
 mod tag;
 
 pub use attribute::{Attribute, Name, Value};
+pub use meta::Meta;
 pub use page::Page;
 pub use tag::Tag;

@@ -5,10 +5,12 @@ ghost use Rattle.std.specs.List.{flat_map};
 ghost use Rattle.picture_page.specs.Attributes.{said};
 ghost use Rattle.picture_page.specs.Content.{start, finish, IsDocument, Nests};
 ghost use Rattle.picture_page.specs.Escape.{escaped};
+ghost use Rattle.picture_page.specs.Meta.{meta_text};
 ghost use Rattle.picture_page.specs.Sheet.{Gains, Begins, Ends, Becomes, Finishes};
 
 use crate::attribute::{Attribute, put_attributes};
 use crate::escape::put_escaped;
+use crate::meta::{Meta, put_meta};
 use crate::tag::Tag;
 use std::alloc::{AllocError, Global};
 use std::marker::Model;
@@ -60,6 +62,17 @@ impl Page {
             return;
         }
         self.is_spent = put_escaped(octets, &mut self.octets).is_err();
+    }
+
+    /// Appends what the page says of itself to a browser. It belongs into its head.
+    #[tactic(auto, using(crate::proofs::Nesting::meta_nests))]
+    pub fn meta(&mut self, meta: Meta)
+        ensures { Gains self.old self.new (meta_text meta) }
+    {
+        if self.is_spent {
+            return;
+        }
+        self.is_spent = put_meta(meta, &mut self.octets).is_err();
     }
 
     /// Begins an element.
