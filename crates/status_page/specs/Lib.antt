@@ -1,0 +1,4 @@
+pub mod Numbers
+pub mod Json
+pub mod Metrics
+pub mod Answers
