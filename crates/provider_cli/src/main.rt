@@ -25,6 +25,8 @@ use antenna_core::Antenna;
 use cds_time::Clock;
 use command_ends::{Status, tell};
 use command_words::{Plan, plan, texts_of, words_of};
+use counted_calls::CountedDisk;
+use disk_model::Disk;
 use door_model::Door;
 use link_model::Link;
 use octet_core::{Octets, ReaderSource, Sink, Source, WriterSink};
@@ -33,10 +35,11 @@ use provider_commands::{Equipment, provide_on};
 use recorder::FrameSource;
 use run_host::{
     Capacity, Fullness, KeptInput, LateAntenna, LateFrames, LoggedDisk, MachineClock, MachineDoor,
-    PlaceFault, RunFiles, RunPlace, RunSockets, SocketFault, draw_of, machine_clock, open_files,
-    open_sockets, tell_end, text_of,
+    PlaceFault, RunFiles, RunPlace, RunSockets, SocketFault, StatusSide, StatusThread, draw_of,
+    machine_clock, open_files, open_sockets, tell_end, text_of,
 };
 use run_plan::RunPlan;
+use station_board::Board;
 use std::alloc::{AllocError, Global};
 use std::fs::Files;
 use std::io::Eprint;
@@ -50,11 +53,14 @@ use std::{env, io, rt};
 // A source of entries of the machine.
 type MachineFrames<'a, R> = LateFrames<Stamped<'a, R>>;
 
+// The disk over the archive's file, whose calls a status page counts.
+type MachineDisk = CountedDisk<LoggedDisk>;
+
 // What the program runs on.
 type Kit<'a, R, I, O> = Equipment<
     I,
     O,
-    LoggedDisk,
+    MachineDisk,
     MachineDoor<'a, R>,
     MachineClock<'a, R>,
     MachineFrames<'a, R>,
@@ -97,22 +103,27 @@ fn shared(capacity: &Option<Capacity>) -> Option<Capacity> {
     }
 }
 
+// The same board, for another that writes on it.
+fn shared_board(board: &Option<Board>) -> Option<Board> {
+    board.as_ref()?.share().ok()
+}
+
 // The disk over a new file at this path.
-fn made(files: &HostRuntime, path: &Octets) -> io::Result<LoggedDisk>
+fn made(files: &HostRuntime, path: &Octets) -> io::Result<MachineDisk>
     ensures file { IfOk result (λ disk. HasFile path.now true disk.file None) }
     ensures no_text { IfErr result (λ error. ¬ IsUtf8 path.now
         → error_kind error ≡ InvalidInput) }
 {
-    LoggedDisk::create(files, text_of(path)?)
+    Ok(CountedDisk::new(LoggedDisk::create(files, text_of(path)?)?, None))
 }
 
 // The disk over the file at this path.
-fn opened(files: &HostRuntime, path: &Octets) -> io::Result<LoggedDisk>
+fn opened(files: &HostRuntime, path: &Octets) -> io::Result<MachineDisk>
     ensures file { IfOk result (λ disk. HasFile path.now false disk.file None) }
     ensures no_text { IfErr result (λ error. ¬ IsUtf8 path.now
         → error_kind error ≡ InvalidInput) }
 {
-    LoggedDisk::open(files, text_of(path)?)
+    Ok(CountedDisk::new(LoggedDisk::open(files, text_of(path)?)?, None))
 }
 
 // The machine that the program runs on: its files, and its threads, sockets and clock.
@@ -134,7 +145,11 @@ where
         + Net<Stream = TcpStream, Listener = TcpListener>
         + RandomSource
         + Eprint
-        + Sync,
+        + Sync
+        + Clone
+        + Send
+        + Drop
+        + 'static,
 {
     // Runs the command of the words that the system gave, and answers the exit code to end with.
     fn exit_of<I: Source, O: Sink>(
@@ -233,7 +248,7 @@ where
     fn provide_found<I: Source, O: Sink>(
         &self,
         words: &[&str],
-        found: io::Result<LoggedDisk>,
+        found: io::Result<MachineDisk>,
         kit: &mut Kit<'a, R, I, O>,
     ) -> u8
         requires needs { NeedsDisk (asked words.now) }
@@ -270,7 +285,7 @@ where
         &self,
         rt: &Q,
         words: &[&str],
-        disk: Option<LoggedDisk>,
+        disk: Option<MachineDisk>,
         kit: &mut Kit<'a, R, I, O>,
     ) -> u8
         requires given { NeedsDisk (asked words.now) → IsSome disk }
@@ -419,6 +434,34 @@ where
         kit.antenna_clock = sockets.antenna_clock;
         kit.antenna.bells = Some(sockets.bells);
         kit.draw = draw_of(self.rt);
-        self.provide_over(&sockets.resting, words, Some(disk), kit)
+        let (board, thread) = self.watched(sockets.status, &disk);
+        kit.antenna.count_on(shared_board(&board));
+        let disk = CountedDisk::new(disk, board);
+        let exit = self.provide_over(&sockets.resting, words, Some(disk), kit);
+        self.end_watch(thread);
+        exit
+    }
+
+    // Starts what a run over this disk is watched by, if anything is, and answers its board.
+    fn watched(
+        &self,
+        status: Option<StatusSide>,
+        disk: &LoggedDisk,
+    ) -> (Option<Board>, Option<StatusThread>) {
+        let Some(mut status) = status else {
+            return (None, None);
+        };
+        status.board.archive_opened(disk.size());
+        status.capacity = shared(&self.capacity);
+        let board = status.board.share().ok();
+        let thread = StatusThread::start(self.rt, self.alloc, status);
+        (board, thread.ok().flatten())
+    }
+
+    // Ends what a run was watched by.
+    fn end_watch(&self, thread: Option<StatusThread>) {
+        if let Some(thread) = thread {
+            thread.end(self.rt);
+        }
     }
 }

@@ -4,9 +4,11 @@ use crate::fullness::Fullness;
 use antenna_core::Antenna;
 use antenna_file::FileAntenna;
 use bell::Bells;
+use counted_calls::{CountedAntenna, CountedFrames};
 use octet_core::{Failed, Faults};
 use operator_side::Stamped;
 use recorder::{Feed, FrameSource};
+use station_board::Board;
 use std::io::Write;
 use tcp_feed::TcpFeed;
 
@@ -14,7 +16,7 @@ use tcp_feed::TcpFeed;
 #[derive(Drop)]
 pub struct LateFrames<W: Write + Send + Drop> {
     /// The source, if there is one.
-    pub feed: Option<TcpFeed<W>>,
+    pub feed: Option<CountedFrames<TcpFeed<W>>>,
     /// What watches the archive into which its entries go, if anything does.
     pub fullness: Option<Fullness>,
 }
@@ -24,7 +26,7 @@ impl<W: Write + Send + Drop> FrameSource for LateFrames<W> {
 
     ghost answers = { λ _. None };
 
-    ghost faults = { λ frames. unwrap_or (option_map (λ feed. feed.faults) frames.feed) 0 };
+    ghost faults = { λ frames. unwrap_or (option_map (λ feed. feed.frames.faults) frames.feed) 0 };
 
     fn next(&mut self) -> Feed {
         if let Some(fullness) = &mut self.fullness {
@@ -45,7 +47,7 @@ impl<W: Write + Send + Drop> FrameSource for LateFrames<W> {
 #[derive(Drop)]
 pub struct LateAntenna<'a> {
     /// The antenna, if there is one.
-    pub antenna: Option<FileAntenna<Stamped<'a, HostRuntime>>>,
+    pub antenna: Option<CountedAntenna<FileAntenna<Stamped<'a, HostRuntime>>>>,
     /// What notes that a CLTU was sent.
     pub bells: Option<Bells>,
     // How often a call has failed while there was none.
@@ -65,9 +67,19 @@ impl<'a> LateAntenna<'a> {
     /// This antenna.
     pub fn over(antenna: FileAntenna<Stamped<'a, HostRuntime>>) -> LateAntenna<'a> {
         LateAntenna {
-            antenna: Some(antenna),
+            antenna: Some(CountedAntenna {
+                antenna,
+                board: None,
+            }),
             bells: None,
             missed: Faults::new(),
+        }
+    }
+
+    /// Has this board count what is sent.
+    pub fn count_on(&mut self, board: Option<Board>) {
+        if let Some(antenna) = &mut self.antenna {
+            antenna.board = board;
         }
     }
 }
@@ -77,7 +89,7 @@ impl Antenna for LateAntenna<'_> {
 
     ghost sent = { λ _. None };
 
-    ghost faults = { λ late. unwrap_or (option_map (λ antenna. antenna.faults) late.antenna)
+    ghost faults = { λ late. unwrap_or (option_map (λ antenna. antenna.antenna.faults) late.antenna)
         late.missed };
 
     fn send(&mut self, octets: &[u8]) -> Result<(), Failed> {

@@ -27,15 +27,20 @@ mod late;
 mod logged_file;
 mod place;
 mod ringing;
+mod serving;
+mod status;
 mod watching;
 
 pub use capacity::{Capacity, KeptInput};
 pub use files::{LoggedDisk, RunFiles, open_files, text_of};
 pub use fullness::Fullness;
 pub use host::{
-    MachineClock, MachineDoor, RunSockets, draw_of, machine_clock, open_sockets, tell_end,
+    MachineClock, MachineDoor, MachineFeed, RunSockets, draw_of, machine_clock, open_sockets,
+    tell_end,
 };
 pub use late::{LateAntenna, LateFrames};
 pub use logged_file::LoggedFile;
 pub use place::{PlaceFault, RunPlace};
+pub use serving::{StatusSide, StatusThread};
+pub use status::StatusPlace;
 pub use watching::SocketFault;

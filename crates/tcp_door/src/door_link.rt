@@ -6,6 +6,7 @@ ghost use Rattle.link_model.specs.Counts.{CountsWhere, offer_failed, offer_stall
 
 use crate::doorway::Keep;
 use crate::hearing::Hearing;
+use crate::teller::Teller;
 use bell::Bells;
 use link_model::{Link, Poll};
 use octet_core::{Faults, Offer};
@@ -25,6 +26,8 @@ pub struct DoorLink {
     stop: Option<Stop>,
     bells: Option<Bells>,
     hearing: Hearing,
+    // What tells the board of it.
+    teller: Option<Teller>,
     // True from a poll that heard octets until one that heard nothing: then all of them are handled.
     is_asked: bool,
     faults: Faults,
@@ -51,12 +54,13 @@ impl Model for DoorLink {
 }
 
 impl DoorLink {
-    // A link over this one, which ends at this stop, rings these bells, and hears so.
+    // A link over this one, which ends at this stop, rings these bells, hears so, and is told of so.
     pub(crate) fn new(
         link: TcpLink,
         stop: Option<Stop>,
         bells: Option<Bells>,
         hearing: Hearing,
+        teller: Option<Teller>,
     ) -> DoorLink
         ensures { result ≡ record { faults = 0; stalls = 0 } }
     {
@@ -65,6 +69,7 @@ impl DoorLink {
             stop,
             bells,
             hearing,
+            teller,
             is_asked: false,
             faults: Faults::new(),
             stalls: 0,
@@ -91,6 +96,7 @@ impl DoorLink {
             mut link,
             stop,
             bells,
+            teller,
             ..
         } = self;
         link.finish();
@@ -98,6 +104,30 @@ impl DoorLink {
             gear: link.into_gear(),
             stop,
             bells,
+            teller,
+        }
+    }
+
+    // Has the board told of a poll that heard these octets.
+    fn tell_heard(&mut self, octets: &[u8])
+        ensures { self.new ≡ self.old }
+    {
+        if let Some(teller) = &mut self.teller {
+            teller.heard(octets);
+        }
+    }
+
+    // Has the board told that a poll failed.
+    fn tell_poll_failed(&self) {
+        if let Some(teller) = &self.teller {
+            teller.poll_failed();
+        }
+    }
+
+    // Has the board told of an offer of so many octets.
+    fn tell_offered(&self, count: usize, answer: Offer) {
+        if let Some(teller) = &self.teller {
+            teller.offered(count, answer);
         }
     }
 
@@ -107,6 +137,27 @@ impl DoorLink {
         match &self.bells {
             Some(bells) if self.is_asked => bells.ring_asked(),
             _ => {}
+        }
+    }
+
+    // Offers a block to the stream, and rings or counts by the answer.
+    fn offer_on(&mut self, octets: &[u8]) -> Offer
+        ensures faults { CountsWhere (offer_failed result) self.old.faults self.new.faults }
+        ensures stalls { CountsWhere (offer_stalled result) self.old.stalls self.new.stalls }
+    {
+        match self.link.offer(octets) {
+            Offer::Whole => {
+                self.ring_asked();
+                Offer::Whole
+            }
+            Offer::Stalled if !self.is_stopped() && !self.hearing.is_over() => {
+                self.stalls = self.stalls.saturating_add(1);
+                Offer::Stalled
+            }
+            _ => {
+                let _ = self.faults.fail::<()>();
+                Offer::Failed
+            }
         }
     }
 
@@ -142,7 +193,9 @@ impl Link for DoorLink {
         match answer {
             Poll::Arrived(count) => {
                 self.is_asked = true;
-                self.hearing.hear(into.get(..count).unwrap_or(&[]));
+                let octets = into.get(..count).unwrap_or(&[]);
+                self.hearing.hear(octets);
+                self.tell_heard(octets);
             }
             Poll::Nothing => {
                 self.is_asked = false;
@@ -153,6 +206,7 @@ impl Link for DoorLink {
             Poll::Closed => {}
             Poll::Failed => {
                 let _ = self.faults.fail::<()>();
+                self.tell_poll_failed();
             }
         }
         answer
@@ -163,19 +217,8 @@ impl Link for DoorLink {
         ensures faults { CountsWhere (offer_failed result) self.old.faults self.new.faults }
         ensures stalls { CountsWhere (offer_stalled result) self.old.stalls self.new.stalls }
     {
-        match self.link.offer(octets) {
-            Offer::Whole => {
-                self.ring_asked();
-                Offer::Whole
-            }
-            Offer::Stalled if !self.is_stopped() && !self.hearing.is_over() => {
-                self.stalls = self.stalls.saturating_add(1);
-                Offer::Stalled
-            }
-            _ => {
-                let _ = self.faults.fail::<()>();
-                Offer::Failed
-            }
-        }
+        let answer = self.offer_on(octets);
+        self.tell_offered(octets.len(), answer);
+        answer
     }
 }

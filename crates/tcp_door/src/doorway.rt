@@ -4,6 +4,7 @@ use crate::callers::{Caller, Found};
 use crate::door_link::DoorLink;
 use crate::door_port::{DoorPort, Taken};
 use crate::hearing::Hearing;
+use crate::teller::Teller;
 use bell::Bells;
 use operator_side::{Stop, Uptime};
 use std::io;
@@ -21,6 +22,7 @@ pub(crate) struct Keep {
     pub gear: LinkGear,
     pub stop: Option<Stop>,
     pub bells: Option<Bells>,
+    pub teller: Option<Teller>,
 }
 
 impl Keep {
@@ -62,14 +64,22 @@ impl Doorway {
         let (time, limits) = port.limits();
         let taken = port.take();
         let Caller { stream, peer, .. } = caller;
-        let Keep { gear, stop, bells } = keep;
+        let Keep {
+            gear,
+            stop,
+            bells,
+            mut teller,
+        } = keep;
         let link = TcpLink::over(stream, gear, self.wait);
         self.left = self.left.saturating_sub(1);
+        if let Some(teller) = &mut teller {
+            teller.connected(peer, self.left == 0);
+        }
         if self.left == 0 {
             self.port = None;
         }
         Ok(Some(Given {
-            link: DoorLink::new(link, stop, bells, Hearing::new(time, limits)),
+            link: DoorLink::new(link, stop, bells, Hearing::new(time, limits), teller),
             peer,
             taken,
         }))
@@ -81,6 +91,11 @@ impl Doorway {
         if let Some(port) = &self.port {
             port.free();
         }
+    }
+
+    // What tells the board of the door, unless a link has it.
+    pub fn teller(&self) -> Option<&Teller> {
+        self.keep.as_ref()?.teller.as_ref()
     }
 
     // Waits for a connection that speaks.

@@ -10,9 +10,14 @@
 // (`DoorPort`). Once its station is to stop (`Stop`), no further link comes, and the link that is out
 // comes to an end.
 //
-// A call costs what the system takes to accept a connection. Memory is taken when a door is made.
+// A door with a place on the station's board (`DoorPen`) tells it what it and its links do, and whom
+// a BIND named that came over them.
+//
+// A call costs what the system takes to accept a connection. Memory is taken when a door is made, and
+// with a board for the first octets of a connection, up to 4,096 until its BIND is whole.
 #![tactic(auto)]
 
+mod bind_tap;
 mod callers;
 mod door_link;
 mod door_port;
@@ -20,6 +25,7 @@ mod doorway;
 mod hearing;
 mod log;
 mod tcp_door;
+mod teller;
 
 pub use door_link::DoorLink;
 pub use door_port::DoorPort;

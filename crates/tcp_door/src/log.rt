@@ -48,22 +48,28 @@ pub(crate) fn spent(alloc: Global, door: SocketAddr) -> Result<String, AllocErro
     format!(in alloc; "door {door}: gave the last of its connections, and takes no more\n")
 }
 
-// How the serving of a connection ended, and why, where that wasn't its user's matter.
+// That the serving of a connection ended so.
 pub(crate) fn ended(
     alloc: Global,
     door: SocketAddr,
     peer: SocketAddr,
-    reason: Reason,
-    served: Served,
+    how: &str,
 ) -> Result<String, AllocError> {
-    let how = ending(alloc, served)?;
+    format!(in alloc; "door {door}: {peer} ended: {how}\n")
+}
+
+// How the serving of a connection ended, in words, and why, where that wasn't its user's matter.
+pub(crate) fn end_of(alloc: Global, reason: Reason, served: Served) -> Result<String, AllocError> {
     match reason {
-        Reason::None => format!(in alloc; "door {door}: {peer} ended: {how}\n"),
-        Reason::Stop if is_cut(served) => format!(in alloc; "door {door}: {peer} ended: stopped\n"),
-        Reason::Stop => format!(in alloc; "door {door}: {peer} ended: stopped, {how}\n"),
+        Reason::None => ending(alloc, served),
+        Reason::Stop if is_cut(served) => copy(alloc, "stopped"),
+        Reason::Stop => {
+            let how = ending(alloc, served)?;
+            format!(in alloc; "stopped, {how}")
+        }
         Reason::Silence(limit) => {
             let seconds = limit.as_secs();
-            format!(in alloc; "door {door}: {peer} ended: nothing heard for {seconds} s\n")
+            format!(in alloc; "nothing heard for {seconds} s")
         }
     }
 }

@@ -4,11 +4,13 @@ ghost use Rattle.std.specs.Prelude.{◌≡◌, false, IfOk};
 use crate::door_link::DoorLink;
 use crate::door_port::DoorPort;
 use crate::doorway::{Doorway, Keep};
-use crate::log::{connected, ended, failed, spent};
+use crate::log::{connected, end_of, ended, failed, spent};
+use crate::teller::Teller;
 use bell::{Bells, Waiter};
 use door_model::{Door, Served};
 use octet_core::{Failed, Faults, Memory};
 use operator_side::{Once, Stop, report};
+use station_board::DoorPen;
 use std::alloc::Global;
 use std::io::Write;
 use std::marker::Model;
@@ -62,6 +64,7 @@ impl<W: Write + Send + Drop> TcpDoor<W> {
             gear,
             stop: None,
             bells: None,
+            teller: None,
         };
         Ok(TcpDoor {
             alloc,
@@ -95,6 +98,15 @@ impl<W: Write + Send + Drop> TcpDoor<W> {
     {
         if let Some(keep) = &mut self.way.keep {
             keep.bells = Some(bells);
+        }
+    }
+
+    /// Has it and its links tell the station's board by this pen.
+    pub fn tell_board(&mut self, pen: DoorPen)
+        ensures { self.new ≡ self.old }
+    {
+        if let Some(keep) = &mut self.way.keep {
+            keep.teller = Some(Teller::new(self.alloc, pen));
         }
     }
 
@@ -146,6 +158,29 @@ fn tell_last<W: Write>(alloc: Global, door: SocketAddr, way: &Doorway, reports: 
     }
 }
 
+// Has the board told that the door gives no further link: it failed, or the station is to stop.
+fn tell_over(way: &Doorway, has_failed: bool) {
+    let Some(teller) = way.teller() else {
+        return;
+    };
+    if has_failed {
+        teller.broke();
+    } else if way.port.is_some() {
+        teller.closed();
+    }
+}
+
+// Has the board told how a serving ended, and whether the door serves no more.
+fn tell_ended(way: &Doorway, how: Option<String>, served: Served) {
+    let Some(teller) = way.teller() else {
+        return;
+    };
+    teller.ended(how);
+    if matches!(served, Served::TurnsSpent | Served::Memory) {
+        teller.broke();
+    }
+}
+
 impl<W: Write + Send + Drop> Door for TcpDoor<W> {
     ghost use Rattle.std.specs.Prelude.{None};
 
@@ -173,8 +208,12 @@ impl<W: Write + Send + Drop> Door for TcpDoor<W> {
                 tell_last(self.alloc, self.address, &self.way, &mut self.reports);
                 Ok(Some(given.link))
             }
-            Ok(None) => Ok(None),
+            Ok(None) => {
+                tell_over(&self.way, false);
+                Ok(None)
+            }
             Err(error) => {
+                tell_over(&self.way, true);
                 report(&mut self.reports, failed(self.alloc, self.address, &error));
                 self.faults.fail()
             }
@@ -185,10 +224,14 @@ impl<W: Write + Send + Drop> Door for TcpDoor<W> {
     fn give_back(&mut self, link: DoorLink, served: Served) {
         let reason = link.reason();
         self.way.take_back(link.finish());
-        report(
-            &mut self.reports,
-            ended(self.alloc, self.address, self.peer, reason, served),
-        );
+        let how = end_of(self.alloc, reason, served).ok();
+        if let Some(how) = &how {
+            report(
+                &mut self.reports,
+                ended(self.alloc, self.address, self.peer, how.as_str()),
+            );
+        }
+        tell_ended(&self.way, how, served);
         self.is_out = false;
     }
 }

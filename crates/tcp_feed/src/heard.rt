@@ -9,8 +9,9 @@ use crate::pacing::Pacing;
 use crate::sources::{Accepted, Source, Sources};
 use drill_text::{LineFault, ScriptLine, parse_line};
 use octet_core::Memory;
-use operator_side::{Listening, Stop, Uptime, is_early, report};
+use operator_side::{Listening, Peer, Stop, Uptime, is_early, report};
 use recorder::Feed;
+use station_board::Board;
 use std::alloc::Global;
 use std::io;
 use std::io::Write;
@@ -34,6 +35,8 @@ pub(crate) struct Heard {
     pub pacing: Pacing,
     /// The stop at which it ends. Without one it ends with its first source.
     pub stop: Option<Stop>,
+    /// What is told of each connection and each line, if anything is.
+    pub board: Option<Board>,
     lines: LineBuffer,
     // How many lines of the source were taken.
     count: u64,
@@ -59,6 +62,30 @@ enum Read {
     Broken(io::Error),
 }
 
+// Has the board told of a line.
+fn tell_line(board: &Option<Board>) {
+    if let Some(board) = board {
+        board.line_came();
+    }
+}
+
+// Has the board told of a connection from there.
+fn tell_connected(board: &Option<Board>, peer: Peer) {
+    if let Some(board) = board {
+        board.source_connected(match peer {
+            Peer::Port(address) => Some(address),
+            Peer::Local => None,
+        });
+    }
+}
+
+// Has the board told that the connection ended.
+fn tell_ended(board: &Option<Board>) {
+    if let Some(board) = board {
+        board.source_ended();
+    }
+}
+
 impl Heard {
     /// Nothing has come yet.
     pub fn new(alloc: Global, listening: Listening, time: Uptime) -> Result<Heard, Memory> {
@@ -67,6 +94,7 @@ impl Heard {
             sources: Sources::new(alloc, listening, time),
             pacing: Pacing::new(),
             stop: None,
+            board: None,
             lines: LineBuffer::new(alloc, LONGEST_LINE)?,
             count: 0,
             ending: Ending::Open,
@@ -120,6 +148,7 @@ impl Heard {
         };
         self.lines.take_line(size);
         self.count = self.count.saturating_add(1);
+        tell_line(&self.board);
         found
     }
 
@@ -180,6 +209,7 @@ impl Heard {
             return;
         };
         self.pacing.watch(source.stream.as_raw_fd());
+        tell_connected(&self.board, source.peer);
         let place = self.sources.listening.place();
         let line = match older {
             Some(older) => log::follows(self.alloc, place, source.peer, older.peer),
@@ -229,6 +259,7 @@ impl Heard {
     fn close<W: Write>(&mut self, reports: &mut W) -> Option<Source> {
         let is_cut = self.lines.clear();
         let source = self.sources.heard.take()?;
+        tell_ended(&self.board);
         let place = self.sources.listening.place();
         report(
             reports,
@@ -244,6 +275,7 @@ impl Heard {
     {
         let _ = self.lines.clear();
         if let Some(source) = self.sources.heard.take() {
+            tell_ended(&self.board);
             let place = self.sources.listening.place();
             report(
                 reports,

@@ -7,6 +7,7 @@ use bell::{Bells, Waiter};
 use octet_core::{Faults, Memory};
 use operator_side::{Listening, Place, Stop, Uptime};
 use recorder::{Feed, FrameSource};
+use station_board::Board;
 use std::alloc::Global;
 use std::io::Write;
 use std::marker::Model;
@@ -74,6 +75,13 @@ impl<W: Write + Send + Drop> TcpFeed<W> {
         heard
             .pacing
             .wait_with(waiter, bells, &heard.sources.listening);
+    }
+
+    /// Has it tell this board of each connection and each line.
+    pub fn tell_board(&mut self, board: Board)
+        ensures { self.new ≡ self.old }
+    {
+        self.heard.board = Some(board);
     }
 
     /// Where it listens: with the system's port where it was told port 0.
