@@ -7,15 +7,18 @@ Six of eight doors are visited by strangers and by users who send what a seeded 
 invocations: changed in a bit, an octet, a length or a tag, cut, glued, too long, empty, octet by octet;
 contexts out of range; heartbeats by the thousand; BINDs of strangers, with wrong credentials, with
 replayed ones; connections that are silent, reset or closed on one side. The stop's port hears other
-words, and sources send lines that are changed alike. An honest user hears all frames meanwhile, and one
-has telecommands radiated. In the end the process lives and has grown by less than 8 MiB beside what is
+words, the status page's port requests that are changed alike, and sources send such lines. An honest user
+hears all frames meanwhile, one has telecommands radiated, and a browser reads the page. In the end the
+process lives and has grown by less than 8 MiB beside what is
 stored; the first user heard exactly what was stored, once and in order; each telecommand was radiated
 once and in order; `list` shows what was fed; and a stop ends the run with 0. Then 10,000 connections in
 turn leave the process within 1 MiB of what it was after the first hundred. The last line says how many
 checks passed.
 """
+import json
 import os
 import random
+import re
 import socket
 import struct
 import sys
@@ -31,7 +34,7 @@ from forms import identifier, moment, pdu_message
 from hostility import Generator
 from sessions import (bind_pdu, cltu_start_pdu, get_pdu, schedule_pdu, signed, stamp_of, start_pdu,
                       stop_pdu, throw_pdu, transfer_pdu, unbind_pdu)
-from watched import Watched, in_threads
+from watched import Watched, in_threads, new_ports
 
 programs.update(provider=os.path.abspath(sys.argv[1]))
 MESSAGES = int(sys.argv[2]) if len(sys.argv) > 2 else 20_000
@@ -355,6 +358,92 @@ def stops(station):
         time.sleep(0.02)
 
 
+# ---- the status page
+
+def has_page():
+    """Whether the program serves a status page: it has the name of the variable that says where."""
+    with open(programs["provider"], "rb") as file:
+        return b"STATION_STATUS" in file.read()
+
+
+class Page:
+    """A station's status page, as a browser reads it, and as others ask for it."""
+
+    def __init__(self, station, port):
+        self.station, self.port, self.make = station, port, Generator(SEED + 11)
+        # how often each status was answered to those others, and how many pages were read
+        self.codes, self.read, self.lock = {}, 0, threading.Lock()
+
+    def read_on(self):
+        while not self.station.is_over:
+            for resource in ("/", "/health", "/status.json", "/metrics"):
+                try:
+                    self.read_one(resource)
+                except (OSError, ValueError) as error:
+                    check(f"the page {resource}", repr(error), None)
+            time.sleep(0.1)
+
+    def asked(self, octets):
+        """The head and the body of the answer to a request, after which the connection is closed."""
+        with socket.create_connection(("127.0.0.1", self.port), timeout=20) as peer:
+            peer.sendall(octets)
+            head, _, body = b"".join(iter(lambda: peer.recv(1 << 16), b"")).partition(b"\r\n\r\n")
+            return head, body
+
+    def read_one(self, resource):
+        head, body = self.asked(f"GET {resource} HTTP/1.1\r\nHost: station\r\nConnection: close\r\n\r\n".encode())
+        check(f"the page {resource}", head.split(b"\r\n")[0], b"HTTP/1.1 200 OK")
+        size = re.search(rb"(?i)\r\ncontent-length: (\d+)", head)
+        check(f"the page {resource}, whole", size and int(size[1]), len(body))
+        if resource == "/status.json":
+            json.loads(body)
+        self.read += 1
+
+    def ask_on(self):
+        while not self.station.is_over:
+            try:
+                with socket.create_connection(("127.0.0.1", self.port), timeout=20) as peer:
+                    self.ask(peer)
+            except OSError:
+                # (it was closed, as it may be)
+                pass
+            time.sleep(0.01)
+
+    def ask(self, peer):
+        with self.lock:
+            how, octets = self.make.choices.randrange(40), self.make.request()
+        if how == 0:
+            began = time.time()
+            while peer.recv(100):
+                pass
+            check("a silent caller is closed in time", time.time() - began < 10, True)
+            return
+        for piece in [octets] if how > 3 else [octets[at:at + 1] for at in range(min(len(octets), 300))]:
+            peer.sendall(piece)
+        if how % 4 == 0:
+            peer.setsockopt(socket.SOL_SOCKET, socket.SO_LINGER, struct.pack("ii", 1, 0))
+            return
+        if how % 4 == 1:
+            peer.shutdown(socket.SHUT_WR)
+        peer.settimeout(0.2)
+        heard = peer.recv(1 << 16)
+        if heard:
+            found = re.match(rb"HTTP/1\.[01] ([1-5]\d\d) ", heard)
+            check(f"an answer of HTTP: {heard[:60]}", bool(found), True)
+        if heard and found:
+            with self.lock:
+                self.codes[found[1]] = self.codes.get(found[1], 0) + 1
+
+    def compare(self):
+        """Each kind of answer comes, also in the end."""
+        for code, line in [("200", b"GET /health"), ("404", b"GET /nothing"), ("405", b"POST /"), ("400", b"GET")]:
+            head, _ = self.asked(line + (b" HTTP/1.1" if b" " in line else b"") + b"\r\nHost: station\r\n\r\n")
+            check(f"the page, {line}", head[9:12].decode(), code)
+        told = {code.decode(): count for code, count in sorted(self.codes.items())}
+        print(f"hostile: the status page was read {self.read} times; others were answered {told}")
+        check("the page was read, and others were answered", self.read > 0 and bool(told), True)
+
+
 def resident(process):
     """The octets that a process holds in memory."""
     with open(f"/proc/{process.pid}/status") as file:
@@ -363,8 +452,12 @@ def resident(process):
 
 
 def attacked(folder, wanted):
-    station = Watched(folder, DOORS, 65_536, configuration())
+    [page_port] = new_ports(1)
+    station = Watched(folder, DOORS, 65_536, configuration(), given={"STATION_STATUS": str(page_port)})
     station.is_over = False
+    page = Page(station, page_port) if "status" in wanted and has_page() else None
+    if "status" in wanted and not page:
+        print("hostile: the status page is left out, as this program has none")
     listener = Listener(station.ports[6], b"HONEST", LISTENED, RAF, lambda seal: start_pdu(seal, 1, None, None, 2))
     commander = Commander(station.ports[7], b"ORDERS", COMMANDS, CLTU, lambda seal: cltu_start_pdu(seal, 1, 0))
     source = Source(station, listener, "feed" in wanted)
@@ -383,7 +476,8 @@ def attacked(folder, wanted):
             time.sleep(0.05)
         station.began_with = resident(station.process), os.path.getsize(station.path)
     others = [threading.Thread(target=work, daemon=True)
-              for work in (command, measure, source.go, lambda: "stop" in wanted and stops(station))]
+              for work in (command, measure, source.go, lambda: "stop" in wanted and stops(station),
+                           *([page.read_on] + [page.ask_on] * 3 if page else []))]
     for other in others:
         other.start()
     began = time.time()
@@ -392,6 +486,8 @@ def attacked(folder, wanted):
     source.is_over = station.is_over = True
     for other in others:
         other.join(PATIENCE)
+    if page:
+        page.compare()
     compare(station, listener, commander, source, sent)
     print(f"hostile: seed {SEED}, {sum(it.said for it in attackers)} messages in {took:.0f} s;"
           f" {source.frames} frames and {len(sent)} telecommands beside them;"
@@ -418,16 +514,18 @@ def compare(station, listener, commander, source, sent):
         check("telecommands, each radiated once and in order", file.read() == b"".join(sent), True)
 
 
-def turns(folder, _wanted):
-    """Connections in turn, of which nothing is left."""
-    station = Watched(folder, DOORS, 65_536, configuration())
-    count = max(MESSAGES // 2, 200)
+def turns(folder, wanted):
+    """Connections in turn, of which nothing is left: one of fifty asks for the status page."""
+    [page_port] = new_ports(1)
+    station = Watched(folder, DOORS, 65_536, configuration(), given={"STATION_STATUS": str(page_port)})
+    count, reads = max(MESSAGES // 2, 200), "status" in wanted and has_page()
 
     def visit(number):
-        with User(station.ports[number % DOORS]).peer as peer:
-            peer.sendall([b"", context(30, 5),
-                          context(30, 5) + pdu_message(bound(b"MOC", OWNED[b"MOC"][0], RAF)),
-                          b"\4"][number // DOORS % 4])
+        reads_one = reads and number % 50 == 0
+        with User(page_port if reads_one else station.ports[number % DOORS]).peer as peer:
+            peer.sendall(b"GET / HTTP/1.1\r\nHost: station\r\n\r\n" if reads_one else [
+                b"", context(30, 5), context(30, 5) + pdu_message(bound(b"MOC", OWNED[b"MOC"][0], RAF)),
+                b"\4"][number // DOORS % 4])
             peer.shutdown(socket.SHUT_WR)
             while peer.recv(1 << 16):
                 pass
@@ -444,7 +542,7 @@ def turns(folder, _wanted):
 
 
 if __name__ == "__main__":
-    wanted = sys.argv[4:] or ["doors", "stop", "feed", "turns"]
+    wanted = sys.argv[4:] or ["doors", "stop", "feed", "status", "turns"]
     for part in [attacked] * ("doors" in wanted) + [turns] * ("turns" in wanted):
         with tempfile.TemporaryDirectory() as folder:
             try:

@@ -1,11 +1,17 @@
 """Octets that no friend sends, from a seed: a module of the other scripts.
 
 What is mutated are the messages of SLE services over ISP1, which are spelled by the other modules,
-lines of entries, and the word of a stop.
+lines of entries, the word of a stop, and requests of HTTP for a station's page.
 """
 import random
 
 MOST_PDU = 1_048_576
+METHODS = [b"GET"] * 6 + [b"HEAD", b"POST", b"PUT", b"OPTIONS", b"get", b"", b"GET" * 3_000]
+RESOURCES = [b"/", b"/health", b"/status.json", b"/metrics"] * 3 + [
+    b"/health?x=<script>", b"/../../etc/passwd", b"/%00", b"/%", b"*", b"", b"http://station/health", b"/" * 5_000]
+FIELDS = [b"Host: station", b"Connection: keep-alive", b"Content-Length: 9", b"Content-Length: -1",
+          b"Content-Length: " + b"9" * 40, b"Transfer-Encoding: chunked", b"Expect: 100-continue", b"Upgrade: h2c",
+          b": ", b"X" * 5_000 + b": x", b"X: " + b"x" * 5_000, b" folded", b"Host"]
 
 
 def places(octets, first=0, last=None):
@@ -120,13 +126,25 @@ class Generator:
     def with_more(self, pdu, _pdus):
         return b"\1" + self.choices.randbytes(3) + wrapped(pdu)[4:]
 
-    # ---- what a stop's port hears
+    # ---- what a stop's port and a page's hear
 
     def word(self):
         """What asks for no stop: mostly that word, changed."""
         octets = self.choices.choice([lambda: self.mutated(b"stop\n")] * 8 + [
             lambda: b"", lambda: b"stop", lambda: b"\nstop\n", lambda: bytes(100_000)])()
         return b"" if octets.startswith(b"stop\n") else octets
+
+    def request(self):
+        """A request of HTTP for a page, mostly one that is none or a changed one; at times two."""
+        if self.choices.randrange(4) == 0:
+            return (b"%b %b HTTP/1.1\r\nHost: station\r\n\r\n"
+                    % (self.choices.choice(METHODS[5:9]), self.choices.choice([*RESOURCES[:4], b"/nothing"])))
+        fields = self.choices.sample(FIELDS, self.choices.randrange(4)) * self.choices.choice([1, 1, 1, 50])
+        head = b" ".join([self.choices.choice(METHODS), self.choices.choice(RESOURCES),
+                          self.choices.choice([b"HTTP/1.1"] * 5 + [b"HTTP/1.0", b"HTTP/2.0", b"HTTP/1.1 ", b""])])
+        octets = b"\r\n".join([head, *fields, b"", b""])
+        return self.choices.choice([lambda: octets] * 3 + [lambda: self.mutated(octets)] * 4 + [
+            lambda: self.cut(octets), lambda: octets + octets, lambda: octets + bytes(70_000), lambda: b""])()
 
     # ---- lines
 

@@ -110,8 +110,8 @@ class Copy:
 # ---- words
 
 OWN = [[b"help"], [b"--help"], [b"-h"], [b"--version"], [b"prove"]]
-COMMANDS = [b"drill", b"rehearse", b"init", b"list", b"explain", b"picture", b"run", b"stop", b"check",
-            b"prove"]
+COMMANDS = [b"drill", b"rehearse", b"init", b"list", b"next", b"explain", b"picture", b"run", b"stop", b"status",
+            b"check", b"prove"]
 # words outside the launcher's own grammar, which the program refuses too
 OUTSIDE = [
     *([*words, more] for words in OWN[1:] for more in [b"", b"x", b"drill"]),
@@ -230,7 +230,7 @@ def inputs(copy, check):
     folder = os.open("/", os.O_RDONLY)
     check("unproved, a read fault", copy.run([b"drill"], stdin=folder, given=given)[:2], (1, b""))
     os.close(folder)
-    for word in [b"init", b"list"]:
+    for word in [b"init", b"list", b"next"]:
         path = copy.scratch / "archive"
         status, output, errors = copy.run([word, bytes(path)])
         check(f"unproved {word}", (status, output, b"bin/provider prove" in errors, path.exists()),
@@ -442,12 +442,16 @@ def receiving(copy, check):
 def operating(copy, check):
     """What an operator has besides `run`: where a station hears a stop, `stop`, and `check`."""
     copy.forget()
-    shows = {"ECHOES": 'echo "[${STATION_STOP-none}]"'}
+    shows = {"ECHOES": 'echo "[${STATION_STOP-none}]"; echo "[${STATION_STATUS-none}]"'}
     copy.run([b"prove"], given=shows)
     words = [b"run", b"10", b"1", b"a", b"1", b"c", b"5101"]
     for given, told in [({}, b"5199"), ({"STATION_STOP": "7"}, b"7"), ({"STATION_STOP": ""}, b"none")]:
         output = copy.run(words, given=given)[1]
         check(f"a run with {given}", output.split(b"\n")[0], b"[" + told + b"]")
+    for given, told in [({}, b"5198"), ({"STATION_STATUS": "7"}, b"7"), ({"STATION_STATUS": ""}, b"none"),
+                        ({"STATION_STATUS": "/run/status"}, b"/run/status"), ({"STATION_STATUS": "x"}, b"x")]:
+        output = copy.run(words, given=given)[1]
+        check(f"a run with {given}", output.split(b"\n")[1], b"[" + told + b"]")
     copy.forget()
     with socket.create_server(("127.0.0.1", 0)) as station:
         port = {"STATION_STOP": str(station.getsockname()[1])}
@@ -455,8 +459,13 @@ def operating(copy, check):
     for given in [port, {"STATION_STOP": "x"}, {"STATION_STOP": "/run/stop"}, {"STATION_STOP": ""}]:
         status, output, errors = copy.run([b"stop"], given=given)
         check(f"stop, {given}", (status, output, errors.count(b"\n")), (1, b"", 1))
+    for given in [{"STATION_STATUS": name} for name in ("1", "x", "/run/status", "")]:
+        for more in [[], [b"--json"]]:
+            status, output, errors = copy.run([b"status", *more], given=given)
+            check(f"status, {given}", (status, output, errors.count(b"\n")), (1, b"", 1))
     checking(copy, check)
-    for line in [[b"stop", b"x"], [b"stop", b""], [b"check"], [b"check", b"x", b"y"], [b"Stop"]]:
+    for line in [[b"stop", b"x"], [b"stop", b""], [b"status", b"x"], [b"status", b"--json", b"x"], [b"check"],
+                 [b"check", b"x", b"y"], [b"Stop"]]:
         check(f"launcher, refused {line}", copy.refused(line), USAGE)
     check("operating, files", copy.left(), [])
 

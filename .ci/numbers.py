@@ -58,6 +58,7 @@ station_config SiteFault cause
 sle_numbers Numbered.number ->|sle_numbers Numbered.from_number number
 user_lines Tag.number ->|user_lines Told invoke|user_lines Told name
 explain_cli Status.code ->|explain_lines StreamLine tag|explain_words put_name number
+station_snapshot SourceNow productions
 explain_words put_why number|explain_words put_invoker invoke|explain_words put_performer invoke
 run_plan Ports.as_slice ->|run_plan Ports.push port|run_plan RunPlan feed|user_words Plan port
 run_host tell_end exit

@@ -140,6 +140,8 @@ WRONG_PROVIDER = [
     (["run", "10"], ["TURNS LINKS ARCHIVE FEED CLTUS PORT..", "--help"]),
     (["run", "--config", "x"], ["--archive", "--feed", "--cltus", "--door"]),
     (["run", "--confg", "x"], ["`--confg`", "did you mean `--config`"]),
+    (["next"], ["next", "one word"]), (["next", "a", "b"], ["one word"]), (["next", "--all"], ["`--all`", "one word"]),
+    (["nxt"], ["`nxt`", "did you mean `next`"]), ([b"next", b"\xff"], ["UTF-8"]),
     (["check"], ["one word"]), (["time"], ["one word"]), (["package"], ["one word"]),
     (["test", "tests_cd"], ["`tests_cd`", "did you mean `tests_cds`"]),
     (["help", "rnu"], ["`rnu`", "did you mean `run`"]),
@@ -153,8 +155,8 @@ def wrong_words():
             says(f"{os.path.basename(launcher)} {line}", found, 2, *wanted)
             check(f"{line}, output", found[1], b"usage\n")
     for launcher, commands in [(USER, ["show", "raf", "rcf", "cltu"]),
-                               (PROVIDER, ["drill", "rehearse", "init", "list", "explain", "picture", "run", "stop",
-                                           "check", "time", "test", "package", "prove"])]:
+                               (PROVIDER, ["drill", "rehearse", "init", "list", "next", "explain", "picture", "run",
+                                           "stop", "status", "check", "time", "test", "package", "prove"])]:
         for command in commands:
             for option in "--help", "-h":
                 found = run(launcher, command, option)

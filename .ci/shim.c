@@ -10,9 +10,10 @@
 
    Of the calls of this name, on a file whose path ends with FILE (`*`: on any), counted from when the
    orders came, number FIRST and the TIMES - 1 after it fail with the system's error number ERROR.
-   Where ERROR is -N, a write takes N octets. A socket's path is a colon with its own port, or its path;
-   that of the standard input is `input`, and that of the standard output `output`. Of `malloc`, FILE is
-   the least number of octets.
+   Where ERROR is -N, a write takes N octets; where it is N above 1,000, the call waits N
+   milliseconds and goes on. A socket's path is a colon with its own port, or its path; that of the
+   standard input is `input`, and that of the standard output `output`. Of `malloc`, FILE is the
+   least number of octets.
 
    SHIM_RECORD names a file that gets a line for each call which SHIM_CALLS names (words, one blank
    apart), in the order of the calls: what was written stands there before the call and the answer
@@ -139,7 +140,12 @@ static long ordered(const char *call, const char *path, size_t size)
                 error = it->error;
         }
     pthread_mutex_unlock(&lock);
-    return error;
+    if (error <= 1000)
+        return error;
+    /* (not by the clocks that are shifted) */
+    struct timespec time = {error / 1000, error % 1000 * 1000000};
+    syscall(SYS_nanosleep, &time, 0);
+    return 0;
 }
 
 static int is_recorded(const char *call)

@@ -4,6 +4,7 @@ import re
 import sys
 
 import packing
+import rotating
 import testing
 import times
 import words
@@ -12,8 +13,8 @@ from words import Parser, number, refuse, usage, value
 
 words.LAUNCHER = "provider"
 HELP = os.path.join(TOP, "bin/help")
-COMMANDS = ["drill", "rehearse", "init", "list", "explain", "picture", "run", "stop", "check", "time", "test",
-            "package", "prove", "help"]
+COMMANDS = ["drill", "rehearse", "init", "list", "next", "explain", "picture", "run", "stop", "status", "check",
+            "time", "test", "package", "prove", "help"]
 MOST_TURNS = 1_099_511_627_776
 # More than a script may have, whose times become no longer by becoming fields.
 MOST_OCTETS = 1 << 25
@@ -52,6 +53,7 @@ def run_parser():
     add("--links", type=RUN[1][1], default=65_536)
     add("--address", metavar="ADDRESS")
     add("--stop", metavar="PORT")
+    add("--status", metavar="PORT")
     return parser
 
 
@@ -61,7 +63,8 @@ def run_options(given):
     if len(said.door) > 16:
         usage(f"--door: {len(said.door)} ports are given, and 16 at most are read")
     feed = said.feed if isinstance(said.feed, str) else None
-    for name, held in [("STATION_ADDRESS", said.address), ("STATION_STOP", said.stop), ("STATION_FEED", feed)]:
+    for name, held in [("STATION_ADDRESS", said.address), ("STATION_STOP", said.stop), ("STATION_FEED", feed),
+                       ("STATION_STATUS", said.status)]:
         if held is not None:
             os.environ[name] = held
     try:
@@ -106,6 +109,15 @@ def with_iso(command, given):
     return [command]
 
 
+def is_text(word):
+    """True where the word is UTF-8, as the program wants a path."""
+    try:
+        os.fsencode(word).decode()
+    except UnicodeDecodeError:
+        return False
+    return True
+
+
 def turn_time(given):
     if len(given) != 1:
         usage(f"time has one word, a time, and {len(given)} were given; {times.FORMS}")
@@ -122,8 +134,10 @@ FORMS = {
     "rehearse": "rehearse has one word, how many frames the pass has: 1 to 20000, without sign and leading zeros",
     "init": "init has one word, the path of a new archive file, in UTF-8",
     "list": "list has one word, the path of an archive file, in UTF-8",
+    "next": "next has one word, the path of an archive file, in UTF-8",
     "explain": "explain has no words, the word raf, rcf or cltu, or `--pcap FILE`",
     "stop": "stop has no words: the environment's STATION_STOP names the station's port or Unix socket",
+    "status": "status has no words, or `--json`: STATION_STATUS names the station's port or Unix socket",
     "check": "check has one word, the file of a configuration",
     "prove": "prove has no words, or the word explain, capture or picture",
     "package": "package has one word, the file that it writes",
@@ -133,9 +147,10 @@ FORMS = {
 
 
 def wrong_words(command, given):
-    options = ["--iso", "--help"] if command in ("drill", "picture") else ["--pcap"] if command == "explain" else []
+    options = {"drill": ["--iso", "--help"], "picture": ["--iso", "--help"], "explain": ["--pcap"],
+               "status": ["--json", "--help"]}.get(command, [])
     for word in given:
-        if word.startswith("--"):
+        if word.startswith("--") and word not in options:
             usage(f"{command} has no option `{word}`{words.meant(word, options)}; {FORMS[command]}")
     usage(f"{FORMS[command]}; `bin/provider help {command}` says more" if command in COMMANDS else FORMS[command])
 
@@ -171,6 +186,8 @@ def line_of(line):
         sys.exit(testing.run(given))
     if command == "package" and len(given) == 1:
         sys.exit(packing.run(given[0]))
+    if command == "next" and len(given) == 1 and is_text(given[0]) and not given[0].startswith("--"):
+        sys.exit(rotating.run(given[0]))
     if command == "run":
         if any(word.startswith("--") for word in given):
             return run_options(given)

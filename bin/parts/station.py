@@ -12,6 +12,7 @@ import sys
 import threading
 
 import words
+from programs import TOP
 from words import refuse, say
 
 words.LAUNCHER = "provider"
@@ -19,7 +20,16 @@ words.LAUNCHER = "provider"
 
 def stop_place():
     """The port at which the station hears a stop, or the path of a Unix socket; none where it hears none."""
-    place = os.environ.get("STATION_STOP", "5199")
+    return place_of("STATION_STOP", "5199")
+
+
+def status_place():
+    """The port at which the station shows its status, or the path of a Unix socket; none where it shows none."""
+    return place_of("STATION_STATUS", "5198")
+
+
+def place_of(name, usual):
+    place = os.environ.get(name, usual)
     if place == "":
         return None
     if place.startswith("/"):
@@ -109,17 +119,37 @@ class Stopping:
         self.child.terminate()
 
 
+def put_place(env, name, place_of_it):
+    """Has the program find a place in the environment, and answers it; one out of form is the program's to refuse."""
+    try:
+        place = place_of_it()
+    except ValueError:
+        return None
+    if place is None:
+        env.pop(name, None)
+    else:
+        env[name] = str(place)
+    return place
+
+
+def version():
+    """The commit of the sources, or else the kit's line; nothing where neither is known."""
+    try:
+        told = subprocess.run([os.path.join(TOP, "bin/provider"), "--version"], stdout=subprocess.PIPE,
+                              stderr=subprocess.DEVNULL, text=True, timeout=20).stdout.split("\n")
+    except (OSError, subprocess.TimeoutExpired):
+        return ""
+    commits = [line for line in told if line.startswith("commit ")]
+    return (commits or told)[0][:200]
+
+
 def run(program, line):
     """Runs the station, and answers its exit code."""
     os.umask(0o077)
     env = dict(os.environ)
-    try:
-        place = stop_place()
-        env["STATION_STOP"] = str(place)
-    except ValueError:
-        place = None
-    if place is None and not os.environ.get("STATION_STOP"):
-        env.pop("STATION_STOP", None)
+    place = put_place(env, "STATION_STOP", stop_place)
+    if put_place(env, "STATION_STATUS", status_place) is not None:
+        env.setdefault("STATION_VERSION", version())
     stopping = Stopping(place)
     signals = {signal.SIGTERM, signal.SIGINT, signal.SIGHUP}
     # (one that comes before the program runs waits until it does)
