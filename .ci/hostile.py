@@ -413,10 +413,7 @@ class Page:
         with self.lock:
             how, octets = self.make.choices.randrange(40), self.make.request()
         if how == 0:
-            began = time.time()
-            while peer.recv(100):
-                pass
-            check("a silent caller is closed in time", time.time() - began < 10, True)
+            self.be_silent(peer)
             return
         for piece in [octets] if how > 3 else [octets[at:at + 1] for at in range(min(len(octets), 300))]:
             peer.sendall(piece)
@@ -434,8 +431,21 @@ class Page:
             with self.lock:
                 self.codes[found[1]] = self.codes.get(found[1], 0) + 1
 
+    def be_silent(self, peer):
+        """A caller who says nothing is closed, and not only once it gives up itself."""
+        peer.settimeout(10)
+        try:
+            while peer.recv(100):
+                pass
+            is_closed = True
+        except TimeoutError:
+            is_closed = False
+        check("a silent caller is closed in time", is_closed, True)
+
     def compare(self):
         """Each kind of answer comes, also in the end."""
+        with socket.create_connection(("127.0.0.1", self.port), timeout=20) as peer:
+            self.be_silent(peer)
         for code, line in [("200", b"GET /health"), ("404", b"GET /nothing"), ("405", b"POST /"), ("400", b"GET")]:
             head, _ = self.asked(line + (b" HTTP/1.1" if b" " in line else b"") + b"\r\nHost: station\r\n\r\n")
             check(f"the page, {line}", head[9:12].decode(), code)

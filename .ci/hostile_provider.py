@@ -193,7 +193,8 @@ def compare(name, done, provider, service):
     check(f"{name}: the last line's end", lines.pop(), b"")
     check(f"{name}: an exit code of its own: {done.returncode}", done.returncode in STATUSES, True)
     check(f"{name}: a line that it hasn't", [line[:80] for line in lines if not LINE.fullmatch(line)], [])
-    faulty, ends = judged(provider.sent)
+    faulty, ends, unbound = judged(provider.sent)
+    check(f"{name}: done without UNBIND's return", done.returncode == 0 and not unbound, False)
     if done.returncode == 5:
         place = int((lines or [b" -1"])[-1].split()[-1])
         check(f"{name}: a bad message begins where one ends", place in ends, True)
@@ -209,12 +210,13 @@ def compare(name, done, provider, service):
 
 
 def judged(octets):
-    """Whether the transport refuses octets, and the places at which a message may be bad."""
+    """Whether the transport refuses octets, the places at which a message may be bad, and whether one
+    before that is UNBIND's return."""
     messages, fault = stream(octets)
     ends = [0]
     for _, body in messages:
         ends.append(ends[-1] + 8 + len(body))
-    return bool(fault), ends
+    return bool(fault), ends, any(body[:2] == UNBOUND[8:10] for _, body in messages)
 
 
 def shows(service, octets):
