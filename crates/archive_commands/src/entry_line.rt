@@ -7,7 +7,6 @@ ghost use Rattle.record_form.specs.declared.entry.Entry.TheVariants.{Frame};
 ghost use Rattle.drill_text.specs.Reading.{entry_text};
 ghost use Rattle.archive_commands.specs.Archives.{offered};
 
-use crate::digits::append_digits;
 use cds_time::Cds;
 use drill_text::write_entry_line;
 use octet_core::{Memory, Octets};
@@ -77,7 +76,7 @@ fn append_frame(
     LentOctets::put(b' ', antenna, into)?;
     Lost::put(b' ', &gap, into)?;
     into.push(b' ')?;
-    append_digits(octets, into)?;
+    hex_text::append(octets, into)?;
     into.push(b'\n')?;
     Ok(())
 }

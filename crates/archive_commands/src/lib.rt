@@ -5,7 +5,6 @@
 #![tactic(auto)]
 
 mod archive_file;
-mod digits;
 mod ending;
 mod entry_line;
 mod listing;

@@ -24,6 +24,18 @@ pub fn write_line(alloc: Global, line: &TranscriptLine<'_>, into: &mut Octets) -
     let mut text = Vec::new(alloc);
     append_line(line, &mut text)?;
     text.push(b'\n')?;
+    append_text(alloc, text, into)
+}
+
+// Appends a text. It isn't copied where nothing was there.
+fn append_text(alloc: Global, text: Vec<u8>, into: &mut Octets) -> Result<(), Memory>
+    ensures ok { OnOk result (into.new ≡ into.old ++ text.items) }
+    ensures err { OnErr result (into.new ≡ into.old) }
+{
+    if into.is_empty() {
+        *into = Octets::from_vec(alloc, text)?;
+        return Ok(());
+    }
     into.append(text.as_slice())
 }
 

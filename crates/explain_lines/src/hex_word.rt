@@ -1,6 +1,6 @@
 // Any number of octets in hexadecimal digits, as a word.
 
-use hex::FromHexError;
+use hex_text::DecodeFault;
 use octet_core::Octets;
 use std::alloc::{AllocError, Global};
 use words::{Unread, Word};
@@ -21,20 +21,15 @@ impl Word for HexWord {
     ghost seen = { λ octets. octets };
 
     fn read(alloc: Global, word: &[u8]) -> Result<Octets, Unread> {
-        match hex::decode(alloc, word) {
+        match hex_text::decode(alloc, word) {
             Ok(octets) if octets.len() < 1 => Err(Unread::Bad),
             Ok(octets) => Ok(Octets::from_vec(alloc, octets)?),
-            Err(FromHexError::OutOfMemory) => Err(Unread::Memory),
-            Err(_) => Err(Unread::Bad),
+            Err(DecodeFault::Memory) => Err(Unread::Memory),
+            Err(DecodeFault::NoDigits) => Err(Unread::Bad),
         }
     }
 
     fn write(value: &Octets, into: &mut Vec<u8>) -> Result<(), AllocError> {
-        let octets = value.as_slice();
-        let start = into.len();
-        let digits = octets.len().checked_mul(2).ok_or(AllocError)?;
-        into.resize(start.checked_add(digits).ok_or(AllocError)?, 0)?;
-        hex::encode_to_slice(octets, &mut into[start..]).unwrap();
-        Ok(())
+        hex_text::append(value.as_slice(), into)
     }
 }

@@ -105,24 +105,13 @@ pub(crate) fn put_quality(
     }
 }
 
-// Appends two digits for each octet.
-fn put_hex(octets: &[u8], into: &mut Vec<u8>) -> Result<(), AllocError>
-    ensures { OnOk result (into.new.items ≡ into.old.items ++ encode_lower octets.now) }
-{
-    let start = into.len();
-    let digits = octets.len().checked_mul(2).ok_or(AllocError)?;
-    into.resize(start.checked_add(digits).ok_or(AllocError)?, 0)?;
-    hex::encode_to_slice(octets, &mut into[start..]).unwrap();
-    Ok(())
-}
-
 // Appends octets behind a blank.
 pub(crate) fn put_octets(octets: &[u8], into: &mut Vec<u8>) -> Result<(), AllocError>
     ensures { OnOk result (into.new.items
         ≡ into.old.items ++ behind (encode_lower octets.now ∷ [])) }
 {
     into.push(b' ')?;
-    put_hex(octets, into)
+    hex_text::append(octets, into)
 }
 
 // Appends an antenna behind a blank.
@@ -133,7 +122,7 @@ pub(crate) fn put_antenna(antenna: &AntennaId<'_>, into: &mut Vec<u8>) -> Result
     match antenna {
         AntennaId::Global(octets) => {
             into.extend_from_slice(b" oid:")?;
-            put_hex(octets, into)
+            hex_text::append(octets, into)
         }
         AntennaId::Local(octets) => put_octets(octets, into),
     }

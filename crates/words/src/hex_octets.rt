@@ -1,13 +1,12 @@
 // Words that are octets in hexadecimal digits.
-ghost use Rattle.std.specs.Prelude.{◌≡◌, ◌++◌, ◌*◌, ◌<◌, OnOk, OnErr, IsErrOf, length};
-ghost use Rattle.hex.specs.Hex.{encode_lower};
+ghost use Rattle.std.specs.Prelude.{◌≡◌, ◌*◌, ◌<◌, IsErrOf, length};
 ghost use Rattle.words.specs.HexOctets.{hex_read};
 ghost use Rattle.words.specs.Reading.{Gives};
 
 use crate::unread::Unread;
 use crate::word::Word;
 use crate::words_row::WriteWords;
-use hex::FromHexError;
+use hex_text::DecodeFault;
 use octet_core::Octets;
 use std::alloc::{AllocError, Global};
 
@@ -36,18 +35,18 @@ impl<const LEAST: u32, const MOST: u32> Word for Hex<LEAST, MOST> {
         if word.len() > 2 * MOST as usize {
             return Err(Unread::Bad);
         }
-        match hex::decode(alloc, word) {
+        match hex_text::decode(alloc, word) {
             Ok(octets) if octets.len() < LEAST as usize || octets.len() > MOST as usize => Err(
                 Unread::Bad,
             ),
             Ok(octets) => Ok(Octets::from_vec(alloc, octets)?),
-            Err(FromHexError::OutOfMemory) => Err(Unread::Memory),
-            Err(_) => Err(Unread::Bad),
+            Err(DecodeFault::Memory) => Err(Unread::Memory),
+            Err(DecodeFault::NoDigits) => Err(Unread::Bad),
         }
     }
 
     fn write(value: &Octets, into: &mut Vec<u8>) -> Result<(), AllocError> {
-        append_digits(value.as_slice(), into)
+        hex_text::append(value.as_slice(), into)
     }
 }
 
@@ -69,18 +68,6 @@ impl<'a> WriteWords<'a> for LentOctets {
 
     fn put(separator: u8, octets: &'a [u8], into: &mut Vec<u8>) -> Result<(), AllocError> {
         into.push(separator)?;
-        append_digits(octets, into)
+        hex_text::append(octets, into)
     }
-}
-
-// Appends two digits for each octet.
-fn append_digits(octets: &[u8], into: &mut Vec<u8>) -> Result<(), AllocError>
-    ensures ok { OnOk result (into.new.items ≡ into.old.items ++ encode_lower octets.now) }
-    ensures err { OnErr result (into.new.items ≡ into.old.items) }
-{
-    let start = into.len();
-    let digits = octets.len().checked_mul(2).ok_or(AllocError)?;
-    into.resize(start.checked_add(digits).ok_or(AllocError)?, 0)?;
-    hex::encode_to_slice(octets, &mut into[start..]).unwrap();
-    Ok(())
 }

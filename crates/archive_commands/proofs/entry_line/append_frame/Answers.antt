@@ -12,6 +12,6 @@ returns c =
       c.in_ok-put-2.ensures.ok,
       c.in_ok-put-3.ensures.ok,
       c.in_ok-push.ensures.items,
-      c.in_ok-append_digits.ensures,
+      c.in_ok-append.ensures.ok,
       c.in_ok-push-2.ensures.items,
     )

@@ -2,7 +2,7 @@ use Rattle.std.proofs.Common.{ℕ, ◌≡◌, ◌%◌, ◌<◌, sym, arith, bit_
 use Rattle.std.proofs.lemmas.Nat.{and_mask}
 use Rattle.std.proofs.lemmas.Simd.{Each1-all, Each1-zip2, Each2-splat, pick_l_whole}
 use Rattle.hex.specs.Hex.{encode_with}
-use Rattle.archive_commands.proofs.digits.spell_block.Goals as goal
+use Rattle.hex_text.proofs.writing.spell_block.Goals as goal
 
 low_half : (x : ℕ) → bit_and x 15 ≡ x % 16
 low_half x = and_mask x 4

@@ -1,14 +1,15 @@
-// Octets in hexadecimal digits, many at a time.
-ghost use Rattle.std.specs.Prelude.{◌≡◌, ◌*◌, ◌<◌, ◌++◌, length, map, slice_index, OnOk};
+// Octets are written as digits.
+ghost use Rattle.std.specs.Prelude.{◌≡◌, ◌*◌, ◌<◌, ◌++◌, length, map, slice_index, OnOk, OnErr};
 ghost use Rattle.hex.specs.Hex.{encode_lower, lower_digits};
 ghost use Rattle.std.specs.Simd.Lanes.{Each1};
 
 use std::alloc::AllocError;
 use std::simd::prelude::*;
 
-/// Appends two digits for each octet, in lower case.
-pub fn append_digits(octets: &[u8], into: &mut Vec<u8>) -> Result<(), AllocError>
-    ensures { OnOk result (into.new.items ≡ into.old.items ++ encode_lower octets.now) }
+/// Appends two digits for each octet, in lower case, or nothing if out of memory.
+pub fn append(octets: &[u8], into: &mut Vec<u8>) -> Result<(), AllocError>
+    ensures ok { OnOk result (into.new.items ≡ into.old.items ++ encode_lower octets.now) }
+    ensures err { OnErr result (into.new.items ≡ into.old.items) }
 {
     let start = into.len();
     let digits = octets.len().checked_mul(2).ok_or(AllocError)?;

@@ -3,7 +3,7 @@ use Rattle.std.proofs.Common.{nat_lt, cond, refl, arith}
 use Rattle.std.specs.Prelude.{replicate}
 use Rattle.std.specs.Simd.Lanes.{Each1, zip2, sel_l, top}
 use Rattle.hex.specs.Hex.{lower_digits}
-use Rattle.archive_commands.proofs.digits.sixteen.Goals as goal
+use Rattle.hex_text.proofs.writing.sixteen.Goals as goal
 
 -- one lane: a comparison leaves 255 or 0, of which `select` reads the top bit
 lane : (v : ℕ) → v < 16

@@ -8,7 +8,7 @@ use Rattle.hex.proofs.HexLemmas.{length-encode_with}
 use Rattle.hex.proofs.Pairs.{encode_step, encode_done}
 use Rattle.hex.specs.Hex.{encode_with, lower_digits}
 use borrow.Rule.Slice.PartMut.{put_mid}
-use Rattle.archive_commands.proofs.digits.spell.Goals as goal
+use Rattle.hex_text.proofs.writing.spell.Goals as goal
 
 encode_with-append : (t xs ys : List ℕ)
     → encode_with t (xs ++ ys) ≡ encode_with t xs ++ encode_with t ys
