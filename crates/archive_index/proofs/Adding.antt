@@ -1,6 +1,6 @@
 -- Lists with one entry more, and with one entry less.
 use Rattle.std.proofs.Common.{◌≡◌, ◌∙◌, ℕ, ◌+◌, ◌-◌, ◌<◌, Bool, true, false, cond, List, [], ◌∷◌}
-use Rattle.std.proofs.Common.{◌++◌, length, take, slice_get, ◌==◌, ◌&&◌, refl, arith, sym, ap}
+use Rattle.std.proofs.Common.{◌++◌, length, take, ◌==◌, ◌&&◌, refl, arith, sym, ap}
 use Rattle.std.proofs.Common.{append-nil, append_assoc, Option, Some, None, subst, map, get_or, suc}
 use Rattle.std.proofs.Common.{zero}
 use Rattle.std.specs.Prelude.{Result, Ok, Err, OnOk, OnErr}
@@ -10,14 +10,13 @@ use Rattle.cds_time.specs.declared.cds.Cds.{Cds}
 use Rattle.record_form.specs.declared.entry.Entry as forms
 use Rattle.record_form.specs.Entry.{entry_of, entries_of}
 use Rattle.std.specs.List.{sum_by}
-use Rattle.archive_terms.specs.Archive.{Entry, Frame, frame, loss_of_sync, production, seal}
+use Rattle.archive_terms.specs.Archive.{Entry, Frame, frame, seal}
 use Rattle.archive_terms.specs.Selection.{Filter, by_quality, by_channel, channel_of, is_notice}
 use Rattle.archive_terms.specs.Continuity.{lost_of}
 use Rattle.archive_index.specs.Rows.{rows_of, passes, is_seal, row_at, IsThrough, moment_in}
 use Rattle.archive_index.specs.Keys.{id_of_key, list_of}
 use Rattle.archive_index.specs.IndexState.{Lists, Sorts, AreSame, AddsFrame, TakesFrame, is_for}
 use Rattle.archive_index.specs.declared.row.Row.{Row}
-use Rattle.archive_index.specs.declared.channels.Key.{Key}
 use Rattle.archive_index.proofs.RowsOf.{rows-push, row_below}
 use Rattle.archive_index.proofs.Through.{through_if, through_less, take_last}
 

@@ -1,5 +1,5 @@
 -- What totals decide of a stop and of the order of times, and that statuses are small.
-use Rattle.std.proofs.Common.{◌≡◌, ℕ, ◌+◌, ◌-◌, ◌≤◌, Bool, true, false, ◌&&◌, ◌||◌, nat_lt, nat_le}
+use Rattle.std.proofs.Common.{◌≡◌, ℕ, ◌-◌, ◌≤◌, Bool, true, false, ◌&&◌, ◌||◌, nat_lt, nat_le}
 use Rattle.std.proofs.Common.{List, [], ◌∷◌, ◌++◌, arith, refl, ap}
 use Rattle.std.specs.List.{fold, list_any, list_all}
 use Rattle.std.proofs.lemmas.Bool.{and_parts}

@@ -1,7 +1,7 @@
 -- The next picked entry is that of the next frame's row or of the next notice's.
-use Rattle.std.proofs.Common.{◌≡◌, ◌∙◌, ℕ, zero, suc, ◌+◌, ◌-◌, ◌<◌, ◌≤◌, Bool, true, false, cond, min}
-use Rattle.std.proofs.Common.{List, [], ◌∷◌, length, take, drop, slice_get, Some, None, refl, ◌||◌}
-use Rattle.std.proofs.Common.{inl, inr, max, ◌&&◌, nat_le, nat_lt, map, ap, sym, arith, Option}
+use Rattle.std.proofs.Common.{◌≡◌, ◌∙◌, ℕ, ◌+◌, ◌≤◌, Bool, true, false, min}
+use Rattle.std.proofs.Common.{List, [], ◌∷◌, take, slice_get, Some, None, refl, ◌||◌}
+use Rattle.std.proofs.Common.{inl, inr, ◌&&◌, nat_le, nat_lt, map, ap, sym, arith, Option}
 use Rattle.std.proofs.Common.{option_map, not, subst}
 use Rattle.std.specs.List.{filter, list_all, enumerate_from}
 use Rattle.std.specs.Option.{option_or}
@@ -11,7 +11,7 @@ use Rattle.std.proofs.lemmas.List.Elements.{filter_agree}
 use Rattle.std.proofs.lemmas.Option.{slice_get-map}
 use Rattle.archive_terms.specs.Archive.{Entry, frame, loss_of_sync, production, seal, IsArchive}
 use Rattle.archive_terms.specs.Archive.{is_storable, is_ordered}
-use Rattle.archive_terms.specs.Selection.{Selection, is_picked, admits, is_told, is_notice, picked}
+use Rattle.archive_terms.specs.Selection.{Selection, is_picked, admits, is_notice, picked}
 use Rattle.archive_terms.specs.Selection.{is_started, is_stop_closed}
 use Rattle.archive_terms.specs.Continuity.{lost_of}
 use Rattle.archive_index.specs.Next.{next_picked}

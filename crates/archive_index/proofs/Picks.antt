@@ -1,13 +1,13 @@
 -- The picked entries from a place on, entry by entry.
 use Rattle.std.proofs.Common.{◌≡◌, ℕ, zero, suc, ◌+◌, ◌<◌, ◌≤◌, Bool, true, cond, nat_le, List, []}
-use Rattle.std.proofs.Common.{Option, ◌∷◌, length, take, drop, slice_get, get_or, Some, None, refl}
+use Rattle.std.proofs.Common.{Option, ◌∷◌, length, drop, slice_get, Some, None, refl}
 use Rattle.std.proofs.Common.{◌∙◌, inl, inr, arith, drop-cons, add-one}
 use Rattle.std.specs.List.{filter, enumerate_from}
 use Rattle.std.proofs.lemmas.List.{drop_all, length-map}
 use Rattle.std.proofs.lemmas.Bool.{cases_Bool}
 use Rattle.std.proofs.lemmas.Bool.Decides.{nat_tests}
 use Rattle.std.proofs.lemmas.Option.{slice_get_cases, slice_get_within, get_or_from_slice_get}
-use Rattle.std.proofs.lemmas.Option.{slice_get-map, slice_get_read}
+use Rattle.std.proofs.lemmas.Option.{slice_get-map}
 use Rattle.archive_terms.specs.Archive.{Entry}
 use Rattle.archive_terms.specs.Selection.{Selection, is_picked}
 use Rattle.archive_terms.specs.Glimpse.{picked_from}

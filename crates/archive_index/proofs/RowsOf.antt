@@ -1,27 +1,24 @@
 -- The rows of entries that fit: one entry more, their order, and what a selection wants of them.
-use Rattle.std.proofs.Common.{◌≡◌, ℕ, zero, suc, ◌+◌, ◌-◌, ◌^◌, ◌<◌, ◌≤◌, Bool, true, false, cond}
-use Rattle.std.proofs.Common.{List, [], ◌∷◌, ◌++◌, length, take, drop, slice_get, Some, None, refl}
-use Rattle.std.proofs.Common.{◌⊎◌, inl, inr, max, ◌&&◌, nat_le, nat_lt, map, ap, sym, ◌∙◌, arith, add-one, subst}
-use Rattle.std.proofs.Common.{Option, option_map, IsTrue, is_some, min}
+use Rattle.std.proofs.Common.{◌≡◌, ℕ, zero, suc, ◌+◌, ◌<◌, ◌≤◌, Bool, true, false, cond}
+use Rattle.std.proofs.Common.{List, [], ◌∷◌, ◌++◌, length, take, slice_get, Some, None, refl}
+use Rattle.std.proofs.Common.{◌⊎◌, inl, inr, ◌&&◌, nat_le, nat_lt, map, ap, ◌∙◌, arith, subst}
+use Rattle.std.proofs.Common.{Option, is_some}
 use Rattle.std.specs.List.{filter, list_all, enumerate_from, sum_by}
 use Rattle.std.specs.Option.{option_or, unwrap_or, option_map_or}
-use Rattle.std.proofs.lemmas.Bool.{cases_lt, cases_eq, cases_Bool, and_parts}
+use Rattle.std.proofs.lemmas.Bool.{cases_Bool, and_parts}
 use Rattle.std.proofs.lemmas.Bool.Decides.{nat_tests}
-use Rattle.std.proofs.lemmas.List.Sums.{sum_by-append, sum_by-cons}
-use Rattle.std.proofs.lemmas.List.Elements.{filter_agree}
-use Rattle.std.proofs.lemmas.Option.{slice_get-map}
+use Rattle.std.proofs.lemmas.List.Sums.{sum_by-cons}
 use Rattle.cds_time.specs.Moment.{moment_of}
 use Rattle.archive_terms.specs.Archive.{Entry, frame, loss_of_sync, production, seal, frame_time}
 use Rattle.archive_terms.specs.Archive.{is_valid, is_storable, is_ordered, may_precede, is_from}
-use Rattle.archive_terms.specs.Archive.{IsArchive, is_moment, is_archive, Frame, is_short, is_above, seal_time}
+use Rattle.archive_terms.specs.Archive.{IsArchive, is_moment, Frame, is_short, is_above, seal_time}
 use Rattle.cds_time.specs.declared.cds.TheConstants.{MOMENT_END}
 use Rattle.cds_time.specs.declared.cds.Cds.{Cds}
-use Rattle.archive_terms.specs.Selection.{Selection, Filter, fits, admits, is_picked, is_told, is_notice}
-use Rattle.archive_terms.specs.Selection.{is_between, is_not_after, is_not_before, picked, by_quality}
+use Rattle.archive_terms.specs.Selection.{Selection, Filter, fits, admits, is_notice}
+use Rattle.archive_terms.specs.Selection.{is_between}
 use Rattle.archive_terms.specs.Continuity.{lost_of, lost_up_to}
-use Rattle.archive_index.specs.Next.{next_picked}
-use Rattle.archive_index.specs.Rows.{reaches, IsRising, moment_in, rows_behind, rows_of, passes}
-use Rattle.archive_index.specs.Rows.{start_of, is_wanted, row_at, is_seal}
+use Rattle.archive_index.specs.Rows.{IsRising, moment_in, rows_behind, rows_of, passes}
+use Rattle.archive_index.specs.Rows.{is_wanted, row_at, is_seal}
 use Rattle.archive_index.specs.declared.row.Row.{Row}
 
 -- ---- one entry more

@@ -1,7 +1,7 @@
 -- Running sums of lost frames.
 use Rattle.std.proofs.Common.{◌≡◌, ◌∙◌, ℕ, zero, suc, ◌+◌, ◌-◌, ◌<◌, ◌≤◌, min, cond, List, [], ◌∷◌}
-use Rattle.std.proofs.Common.{length, take, drop, slice_get, Option, Some, None, option_map, nat_lt}
-use Rattle.std.proofs.Common.{refl, arith, inl, inr, ap}
+use Rattle.std.proofs.Common.{length, take, slice_get, Option, Some, None, option_map, nat_lt}
+use Rattle.std.proofs.Common.{refl, arith, inl, inr}
 use Rattle.std.specs.List.{sum_by}
 use Rattle.std.specs.Option.{option_map_or}
 use Rattle.std.proofs.lemmas.Bool.{cases_lt}

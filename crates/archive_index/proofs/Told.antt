@@ -1,27 +1,27 @@
 -- What rows tell of a start that is reached and a stop that is closed before a place.
-use Rattle.std.proofs.Common.{◌≡◌, ◌∙◌, ℕ, zero, suc, ◌+◌, ◌-◌, ◌<◌, ◌≤◌, Bool, true, false, cond, min}
-use Rattle.std.proofs.Common.{List, [], ◌∷◌, length, take, drop, slice_get, Some, None, refl, ◌||◌}
+use Rattle.std.proofs.Common.{◌≡◌, ◌∙◌, ℕ, zero, suc, ◌+◌, ◌<◌, Bool, true, false, min}
+use Rattle.std.proofs.Common.{List, [], ◌∷◌, length, take, slice_get, Some, None, refl, ◌||◌}
 use Rattle.std.proofs.Common.{inl, inr, max, ◌&&◌, nat_le, nat_lt, ap, sym, arith, Option, not, is_some}
 use Rattle.std.specs.List.{filter, list_all, list_any}
 use Rattle.std.specs.Option.{option_map_or, unwrap_or, option_or}
-use Rattle.std.proofs.lemmas.Bool.{cases_lt, cases_Bool, and_parts}
+use Rattle.std.proofs.lemmas.Bool.{cases_Bool, and_parts}
 use Rattle.std.proofs.lemmas.Bool.Decides.{nat_tests}
 use Rattle.std.proofs.lemmas.List.{drop_all}
 use Rattle.cds_time.specs.Moment.{moment_of}
 use Rattle.cds_time.specs.declared.cds.TheConstants.{MOMENT_END}
 use Rattle.archive_terms.specs.Archive.{Entry, frame, loss_of_sync, production, seal, IsArchive}
 use Rattle.archive_terms.specs.Archive.{is_storable, is_valid, is_short, is_ordered, closes, is_closed}
-use Rattle.archive_terms.specs.Archive.{is_moment, seal_time, frame_time}
+use Rattle.archive_terms.specs.Archive.{is_moment}
 use Rattle.archive_terms.specs.Selection.{is_frame_from, by_quality, Selection, is_started, is_notice}
 use Rattle.archive_terms.specs.Selection.{is_stop_closed}
 use Rattle.archive_terms.specs.Continuity.{lost_of}
 use Rattle.archive_index.specs.Rows.{reaches, IsRising, IsFirstFrom, rows_behind, rows_of, passes}
-use Rattle.archive_index.specs.Rows.{row_at, moment_in, is_seal}
+use Rattle.archive_index.specs.Rows.{moment_in, is_seal}
 use Rattle.archive_index.specs.Walking.{is_told_from, AreNotices}
 use Rattle.archive_index.specs.declared.row.Row.{Row}
 use Rattle.archive_index.proofs.Rising.{filter_split}
 use Rattle.archive_index.proofs.RowsOf.{places_above, frame_moment, seal_moment, filter_both}
-use Rattle.archive_index.proofs.RowsOf.{row_below, rows_short, first_of}
+use Rattle.archive_index.proofs.RowsOf.{row_below, first_of}
 use Rattle.archive_index.proofs.Walks.{filter_alike, filter_fails}
 
 -- ---- rows before a place, at a moment or later

@@ -1,5 +1,5 @@
 -- What an index keeps of a list of entries.
-use Rattle.std.specs.Prelude.{◌≡◌, ℕ, ◌+◌, ◌-◌, max, IsTrue, Bool, true, false, not, ◌&&◌}
+use Rattle.std.specs.Prelude.{◌≡◌, ℕ, ◌+◌, ◌-◌, max, Bool, true, false, ◌&&◌}
 use Rattle.std.specs.Prelude.{◌||◌, nat_lt, nat_le, Option, List, [], ◌∷◌, ◌++◌, length, ◌==◌}
 use Rattle.std.specs.Prelude.{if◌then◌else◌, take}
 use Rattle.std.specs.List.{fold, sum_by}

@@ -1,6 +1,6 @@
 -- A walk over what a selection picks.
 use Rattle.std.specs.Prelude.{◌≡◌, ℕ, ◌+◌, ◌-◌, min, List, Option, Some, None, drop, slice_get, true}
-use Rattle.std.specs.Prelude.{Bool, false, not, ◌&&◌, nat_le, nat_lt, take, if◌then◌else◌}
+use Rattle.std.specs.Prelude.{Bool, not, ◌&&◌, nat_le, nat_lt, take, if◌then◌else◌}
 use Rattle.std.specs.List.{filter}
 use Rattle.std.specs.Option.{option_map, option_map_or, option_or}
 use Rattle.archive_terms.specs.Archive.{Entry, frame}

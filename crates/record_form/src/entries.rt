@@ -70,6 +70,13 @@ impl Entries {
         &self.held
     }
 
+    /// The entries, to be handed on one by one.
+    pub fn into_vec(self) -> Vec<Entry>
+        ensures { entries_of result.items ≡ self }
+    {
+        self.held
+    }
+
     /// How many there are.
     pub fn len(&self) -> usize
         ensures { result ≡ length self.now }

@@ -14,7 +14,7 @@ ghost use Rattle.cltu_queue.specs.Machine.{on_start, on_transfer, refusal, on_no
 ghost use Rattle.cltu_queue.specs.Machine.{view_of};
 
 use crate::book_parts::BookParts;
-use crate::extend::{extend, shelve};
+use crate::extend::{extend, index_of};
 use crate::limits::Limits;
 use crate::publish_fault::PublishFault;
 use crate::service_kind::ServiceKind;
@@ -99,8 +99,8 @@ impl Book {
     ghost use Rattle.station_book.specs.Publishing.{UnlessMemory, published_as};
 
     /// The book of a site's instances over an archive, with so many workers beside the antenna's.
-    /// It shares the octets of the entries, goes over them once, and takes constant time for each
-    /// instance.
+    /// It takes the entries without a copy, goes over them once for their index, and takes constant
+    /// time for each instance.
     pub fn new(alloc: Global, site: &Site, entries: Entries, workers: u32) -> Result<Book, Memory>
         requires archive { IsArchive entries }
         requires workers { workers ≤ 31 }
@@ -111,7 +111,7 @@ impl Book {
         let instances = site.instances.as_slice();
         let services = kinds_of(alloc, instances)?;
         let limits = forward_limits(instances);
-        Book::open(alloc, services, limits, entries.as_slice(), workers)
+        Book::open(alloc, services, limits, entries, workers)
     }
 
     // The book of instances with these services over an archive.
@@ -119,23 +119,22 @@ impl Book {
         alloc: Global,
         services: Vec<ServiceKind>,
         limits: Limits,
-        entries: &[Entry],
+        entries: Entries,
         workers: u32,
     ) -> Result<Book, Memory>
-        requires archive { IsArchive (entries_of entries.now) }
+        requires archive { IsArchive entries }
         requires workers { workers ≤ 31 }
         ensures origin { IfOk result (λ book. book.opening ≡ record {
           services = services.items;
           room = limits.room;
           longest = limits.longest;
-          entries = entries_of entries.now;
+          entries = entries;
           workers = workers;
         }) }
         ensures new { IfOk result (λ book. book ≡ opened book.opening) }
     {
-        let mut index = Index::new(alloc)?;
-        let mut held = Shelf::new(alloc)?;
-        shelve(&mut index, &mut held, entries)?;
+        let index = index_of(alloc, entries.as_slice())?;
+        let held = Shelf::of(entries.into_vec());
         let doors = Vec::from_elem(alloc, None, services.len())?;
         let Limits { room, longest } = limits;
         let queue = Queue::new(alloc, room, longest).map_err(AllocError::from)?;

@@ -1,5 +1,5 @@
 // Entries put behind others, with their index.
-ghost use Rattle.std.specs.Prelude.{◌≡◌, ◌≤◌, ◌++◌, ◌∷◌, [], take, length, OnOk, OnErr, IfErr};
+ghost use Rattle.std.specs.Prelude.{◌≡◌, ◌≤◌, ◌++◌, ◌∷◌, [], take, length, OnOk, OnErr, IfErr, IfOk};
 ghost use Rattle.std.specs.Prelude.{IsFalse};
 ghost use Rattle.archive_terms.specs.Archive.{is_archive, IsArchive};
 ghost use Rattle.archive_index.specs.IndexState.{Indexes};
@@ -10,6 +10,7 @@ use archive_index::{Index, Shelf};
 use archive_terms::laws::archive_grows;
 use octet_core::Memory;
 use record_form::Entry;
+use std::alloc::Global;
 
 // Puts an entry behind the others. After want of memory these are as before.
 fn push(index: &mut Index, archive: &mut Shelf<Entry>, entry: &Entry) -> Result<(), Memory>
@@ -32,21 +33,15 @@ fn push(index: &mut Index, archive: &mut Shelf<Entry>, entry: &Entry) -> Result<
     Ok(())
 }
 
-// Puts an archive's entries onto an empty shelf, with their index.
-pub(crate) fn shelve(
-    index: &mut Index,
-    archive: &mut Shelf<Entry>,
-    entries: &[Entry],
-) -> Result<(), Memory>
-    requires indexed { Indexes index.old [] }
-    requires empty { archive.old ≡ [] }
-    ensures all { OnOk result (archive.new ≡ entries.now) }
-    ensures indexed { OnOk result (Indexes index.new (entries_of entries.now)) }
+// The index of entries.
+pub(crate) fn index_of(alloc: Global, entries: &[Entry]) -> Result<Index, Memory>
+    ensures { IfOk result (λ index. Indexes index (entries_of entries.now)) }
 {
+    let mut index = Index::new(alloc)?;
     for entry in entries {
-        push(index, archive, entry)?;
+        index.add(entry)?;
     }
-    Ok(())
+    Ok(index)
 }
 
 // Puts entries behind the others, with which they are an archive. With a refusal it says how many

@@ -1,4 +1,4 @@
-use Rattle.std.proofs.Common.{◌≡◌, ◌∙◌, ◌-◌, ◌/◌, ◌+◌, arith, sym, add-one, refl}
+use Rattle.std.proofs.Common.{◌∙◌, ◌-◌, ◌/◌, ◌+◌, arith, sym, add-one}
 use Rattle.archive_index.proofs.Rising.{halved, behind_found, before_missed}
 use Rattle.archive_index.proofs.row.first_from.Goals as goal
 

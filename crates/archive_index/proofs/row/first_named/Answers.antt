@@ -1,4 +1,4 @@
-use Rattle.std.proofs.Common.{◌≡◌, ◌∙◌, ◌-◌, ◌/◌, ◌+◌, arith, sym}
+use Rattle.std.proofs.Common.{◌∙◌, ◌-◌, ◌/◌, ◌+◌, arith, sym}
 use Rattle.archive_index.proofs.Rising.{halved, behind_found, before_missed}
 use Rattle.archive_index.proofs.row.first_named.Goals as goal
 

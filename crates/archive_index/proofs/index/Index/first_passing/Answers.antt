@@ -1,4 +1,4 @@
-use Rattle.std.proofs.Common.{◌≡◌, ◌*◌, ◌+◌, ◌≤◌, sym, subst, arith}
+use Rattle.std.proofs.Common.{sym, subst, arith}
 use Rattle.archive_terms.specs.Selection.{by_quality, by_channel}
 use Rattle.frame_select.specs.Selection.{id_of}
 use Rattle.archive_index.specs.Rows.{IsRising, rows_of, passes}

@@ -1,4 +1,4 @@
-use Rattle.std.proofs.Common.{◌≡◌, ◌∙◌, ◌+◌, ◌*◌, ◌≤◌, ap, sym, arith, refl, length-append, Some}
+use Rattle.std.proofs.Common.{◌∙◌, ap, sym, arith, refl, length-append}
 use Rattle.std.specs.Option.{option_map}
 use Rattle.std.proofs.lemmas.List.{length-map}
 use Rattle.record_form.specs.Entry.{entry_of, entries_of}

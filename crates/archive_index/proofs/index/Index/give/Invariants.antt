@@ -1,4 +1,4 @@
-use Rattle.std.proofs.Common.{◌≡◌, ℕ, ◌+◌, ◌*◌, ◌<◌, ◌≤◌, ◌^◌, length}
+use Rattle.std.proofs.Common.{◌≡◌, ◌+◌, ◌*◌, ◌≤◌, length}
 use Rattle.archive_terms.specs.Glimpse.{picked_from}
 use Rattle.record_form.specs.Entry.{entries_of}
 use Rattle.frame_select.specs.Selection.{selection_of}

@@ -1,7 +1,5 @@
-use Rattle.std.proofs.Common.{◌≡◌, ◌-◌, arith, refl, subst, sym, take, ◌++◌, length, ap}
-use Rattle.std.proofs.lemmas.List.{take_all}
-use Rattle.record_form.specs.Entry.{entries_of}
-use Rattle.archive_index.specs.IndexState.{Sorts, lists_of}
+use Rattle.std.proofs.Common.{◌-◌, arith}
+use Rattle.archive_index.specs.IndexState.{lists_of}
 use Rattle.archive_index.proofs.Adding.{one_back}
 use Rattle.archive_index.proofs.index.Index.go_back.Goals as goal
 

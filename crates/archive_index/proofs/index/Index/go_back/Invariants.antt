@@ -1,4 +1,4 @@
-use Rattle.std.proofs.Common.{◌≡◌, ℕ, ◌≤◌, ◌++◌, List, length, take}
+use Rattle.std.proofs.Common.{◌≤◌, ◌++◌, List, length, take}
 use Rattle.archive_terms.specs.Archive as archive
 use Rattle.record_form.specs.Entry.{entries_of}
 use Rattle.archive_index.specs.IndexState.{Sorts, lists_of}

@@ -1,4 +1,4 @@
-use Rattle.std.proofs.Common.{◌≡◌, ◌∙◌, ◌*◌, ◌+◌, ◌≤◌, min, arith}
+use Rattle.std.proofs.Common.{arith}
 use Rattle.archive_index.proofs.Short.{short_frames}
 use Rattle.archive_index.proofs.Sums.{gap_of_sums}
 use Rattle.archive_index.proofs.index.Index.lost_between.Goals as goal

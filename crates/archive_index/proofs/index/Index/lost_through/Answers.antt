@@ -1,5 +1,5 @@
-use Rattle.std.proofs.Common.{◌≡◌, ◌∙◌, ◌+◌, ◌≤◌, length, Some, None, arith, sym, refl, subst}
-use Rattle.archive_index.specs.Rows.{IsRising, IsFirstFrom, rows_of, passes, row_before}
+use Rattle.std.proofs.Common.{◌∙◌, ◌+◌, arith, sym, refl, subst}
+use Rattle.archive_index.specs.Rows.{IsRising}
 use Rattle.archive_terms.specs.Selection.{by_quality}
 use Rattle.archive_index.proofs.RowsOf.{passing_rise}
 use Rattle.archive_index.proofs.Sums.{sum_before, saturated}

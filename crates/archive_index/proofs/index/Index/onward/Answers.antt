@@ -1,4 +1,4 @@
-use Rattle.std.proofs.Common.{◌≡◌, ◌∙◌, ℕ, ◌+◌, Some, None, sym, refl, ap, arith, nat_le}
+use Rattle.std.proofs.Common.{◌∙◌, ℕ, ◌+◌, Some, sym, ap, arith, nat_le}
 use Rattle.archive_terms.specs.Continuity.{lost_up_to}
 use Rattle.std.specs.Option.{option_map}
 use Rattle.archive_terms.specs.Selection.{is_not_after, is_notice}

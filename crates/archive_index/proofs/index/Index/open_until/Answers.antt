@@ -1,6 +1,6 @@
-use Rattle.std.proofs.Common.{◌≡◌, ◌∙◌, ◌+◌, Some, slice_get, min, sym, arith, subst, refl}
+use Rattle.std.proofs.Common.{sym, subst}
 use Rattle.archive_terms.specs.Selection.{by_quality}
-use Rattle.archive_index.specs.Rows.{IsRising, rows_of, passes, is_seal}
+use Rattle.archive_index.specs.Rows.{IsRising}
 use Rattle.archive_index.proofs.RowsOf.{passing_rise, seals_rise}
 use Rattle.archive_index.proofs.Told.{closed_before}
 use Rattle.archive_index.proofs.index.Index.open_until.Goals as goal

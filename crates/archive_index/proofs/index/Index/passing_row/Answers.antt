@@ -1,4 +1,4 @@
-use Rattle.std.proofs.Common.{◌≡◌, sym, refl}
+use Rattle.std.proofs.Common.{sym, refl}
 use Rattle.frame_select.specs.Selection.{id_of}
 use Rattle.archive_index.proofs.Short.{channel_through, channel_none}
 use Rattle.archive_index.proofs.index.Index.passing_row.Goals as goal

@@ -1,7 +1,7 @@
-use Rattle.std.proofs.Common.{◌≡◌, ◌∙◌, ◌+◌, Some, slice_get, nat_lt, nat_le, sym, arith, subst, refl}
+use Rattle.std.proofs.Common.{◌≡◌, ◌∙◌, ◌+◌, nat_lt, nat_le, sym, arith, subst, refl}
 use Rattle.std.proofs.lemmas.Bool.Decides.{nat_tests}
 use Rattle.archive_terms.specs.Selection.{by_quality}
-use Rattle.archive_index.specs.Rows.{IsRising, rows_of, passes}
+use Rattle.archive_index.specs.Rows.{IsRising, passes}
 use Rattle.archive_index.proofs.RowsOf.{passing_rise, row_below}
 use Rattle.archive_index.proofs.Told.{started_before}
 use Rattle.archive_index.proofs.index.Index.started_from.Goals as goal

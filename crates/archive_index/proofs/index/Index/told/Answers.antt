@@ -1,8 +1,7 @@
-use Rattle.std.proofs.Common.{◌≡◌, ◌∙◌, ◌*◌, ◌+◌, ◌≤◌, Some, None, length, true, false, not, max, sym, arith}
+use Rattle.std.proofs.Common.{◌∙◌, length, sym, arith}
 use Rattle.std.proofs.Common.{subst, refl, ap}
-use Rattle.archive_terms.specs.Selection.{is_notice}
 use Rattle.frame_select.specs.Selection.{selection_of}
-use Rattle.archive_index.specs.Rows.{IsRising, rows_of}
+use Rattle.archive_index.specs.Rows.{IsRising}
 use Rattle.archive_index.specs.declared.row.Row.{Row}
 use Rattle.archive_index.proofs.RowsOf.{notices_rise}
 use Rattle.archive_index.proofs.Told.{none_told, silent, unstarted, told_rest}

@@ -1,4 +1,4 @@
-use Rattle.std.proofs.Common.{◌≡◌, ◌*◌, ◌<◌, ◌≤◌, ◌^◌, length, max, arith, refl}
+use Rattle.std.proofs.Common.{arith, refl}
 use Rattle.frame_select.specs.Selection.{selection_of}
 use Rattle.archive_index.specs.Rows.{rows_of, passes}
 use Rattle.archive_index.proofs.Short.{short_frames}

@@ -7,5 +7,5 @@ use Rattle.station_book.proofs.book.Book.open.Goals as goal
 pub returns-clause-new : goal.returns-clause-new
 returns-clause-new c =
     opened_is c.args.services.items c.args.limits.room c.args.limits.longest c.args.workers
-    c.length.result (entries_of c.shelve.new.archive) _ _ (search rules) (search rules)
-    (omega (arith, length-map c.shelve.new.archive entry_of, c.length.ensures))
+    c.length.result (entries_of c.of-held.result) _ _ (search rules) (search rules)
+    (omega (arith, length-map c.of-held.result entry_of, c.length.ensures))
