@@ -1,15 +1,19 @@
 -- The step of a session that hasn't ended is the definition's.
-use Rattle.std.proofs.Common.{ap, sym, subst, ◌∙◌, ◌≡◌, ℕ, ◌<◌, Bool, Some}
+use Rattle.std.proofs.Common.{ap, sym, subst, ◌∙◌, ◌≡◌, ℕ, ◌<◌, Bool, true, false, not, ◌&&◌, Some}
 use Rattle.cds_time.specs.declared.cds.TheConstants.{MOMENT_END}
 use Rattle.isp1_tml.specs.Feeding.{Feeding, next_of as next_held}
+use Rattle.isp1_tml.specs.Message.{Content, spelling}
 use Rattle.station_config.specs.declared.site.Site.{Site}
 use Rattle.station_book.specs.State as book
 use Rattle.station_book.specs.History.{after, moment_at}
 use Rattle.session_core.specs.declared.standing.Standing.{Standing}
 use Rattle.session_services.specs.Inquiry.{call_of, answer_of, Replied, reply_in}
-use Rattle.session_core.specs.ServiceSteps.{with_service, is_active}
-use Rattle.session_core.specs.Steps.{at_moment, inquiry_entered, acted, timed, unasked}
+use Rattle.session_services.specs.Room.{HasOne}
+use Rattle.session_core.specs.ServiceSteps.{with_service, is_active, may_tell}
+use Rattle.session_core.specs.Steps.{at_moment, inquiry_entered, acted, timed, unasked, is_idle}
+use Rattle.session_core.specs.Steps.{has_block}
 use Rattle.session_core.specs.SessionState.{SessionState, asked, told_now, feeder_after, kept_after}
+use Rattle.session_core.proofs.Alone.{room_told}
 use Rattle.session_core.proofs.Rounds.{keeping}
 use Rattle.session_core.proofs.Fates.{acted_moment, timed_moment}
 use Rattle.session_core.proofs.Staying.{stays_unasked}
@@ -88,3 +92,16 @@ module _ (site : Site) (v : SessionState) (door : ℕ) (f : Feeding) (s e : Stan
       let same : w.moment ≡ u.moment =
       ap (λ (y : Standing). y.moment) w_so ∙ (stays_unasked site told u).moment in
       subst (λ (m : ℕ). m < MOMENT_END) (sym same) (moment_at_put t u t_so u_so below)
+
+  -- what is told unasked has room
+  pub room_at_put : (t u : Standing) (out : Bool) → out ≡ (not (is_idle s) && has_block s)
+      → out ≡ false
+      → t ≡ acted site e (next_held f)
+      (reply_in (answer_of b door e.moment (inquiry_entered site e (next_held f))))
+      → u ≡ timed t → ((message : Content) → u.block ≡ spelling message → HasOne u.block)
+      → may_tell u ≡ true → HasOne u.block
+  room_at_put t u out out_so in_turn t_so u_so small told =
+      room_told site e t u (next_held f)
+      (reply_in (answer_of b door e.moment (inquiry_entered site e (next_held f))))
+      (ap (λ (y : Standing). not (is_idle y) && has_block y) e_so ∙ sym out_so ∙ in_turn) t_so
+      u_so small told

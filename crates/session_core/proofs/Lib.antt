@@ -18,5 +18,6 @@ mod Listed
 mod Serving
 mod Fits
 mod Asks
+mod Alone
 mod Advance
 mod Bare

@@ -134,11 +134,11 @@ breaks_first b before faults bk readings = record {
 }
 
 -- of one that goes on
-pub breaks_by : (b : Began) (a c d : Option (List Call)) (k m n : ℕ) (bk mid now : book.State)
+pub breaks_by : (b : Began) (a c d : Option (List Call)) (k m n x y : ℕ) (bk mid now : book.State)
     (readings : List ℕ) (made : ℕ) (v : SessionState) → Lasts b a c bk mid (take made readings) v
-    → FailsBy false (has_failed v) k m → now ≡ mid → OnlyListens c d m n v
+    → FailsBy false (has_failed v) k m → now ≡ mid → OnlyListens c d m n x y v
     → Breaks b a d k n bk now readings
-breaks_by b a c d k m n bk mid now readings made v h faults same l =
+breaks_by b a c d k m n x y bk mid now readings made v h faults same l =
     let stands = l.goes.stands b h.calls h.events h.stands in
     let p = has_heard stands.part stands.stage_is in
     let told = tells-tells a c d h.calls l.goes.own h.told l.goes.told in

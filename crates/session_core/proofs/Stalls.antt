@@ -1,16 +1,18 @@
 -- A link's stalls in a round, and in many.
-use Rattle.std.proofs.Common.{◌≡◌, ℕ, ◌+◌, ◌≤◌, Bool, true, false, not, ◌&&◌, ◌||◌, arith}
-use Rattle.std.proofs.Common.{refl, subst, sym, ◌∙◌, Option, List}
+use Rattle.std.proofs.Common.{◌≡◌, ℕ, ◌+◌, ◌≤◌, ◌<◌, Bool, true, false, not, ◌&&◌, ◌||◌, arith}
+use Rattle.std.proofs.Common.{refl, subst, sym, ap, ◌∙◌, Option, List}
 use Rattle.std.proofs.Math.Nat.{min-le_left}
 use Rattle.octet_core.specs.Fault.{last_count}
 use Rattle.link_model.specs.declared.call.Call.{Call}
 use Rattle.link_model.specs.Counts.{CountsWhere}
 use Rattle.session_core.specs.declared.course.Course.{Course}
 use Rattle.session_core.specs.Course.{is_going, is_live}
-use Rattle.session_core.specs.Steps.{course_at_end, round_ended}
+use Rattle.session_core.specs.Course as course
+use Rattle.session_core.specs.Steps.{course_at_end, round_ended, has_block}
 use Rattle.session_core.specs.SessionState.{SessionState, IsSpoken, IsSent}
 use Rattle.session_core.specs.Outcome.{StallsAtMost, has_waiting, has_kept, has_dropped, is_left}
-use Rattle.session_core.specs.Outcome.{is_blocked, stalled_in}
+use Rattle.session_core.specs.Outcome.{is_blocked, is_spent, has_failed, Uncalled, Rests, FailsBy}
+use Rattle.session_core.specs.Session.{spoken_of, is_fault}
 use Rattle.session_core.proofs.Staying.{stays_stalled, stalled_block}
 
 -- ---- two calls, of which one counts at most
@@ -98,3 +100,37 @@ counted_once b m n h = grind (arith, min-le_left (m + 1) last_count)
 pub stalls_on : (rounds k m n : ℕ) (stalled : Bool) → StallsAtMost rounds k m
     → CountsWhere stalled m n → StallsAtMost (rounds + 1) k n
 stalls_on rounds k m n stalled h once = grind (arith, counted_once stalled m n once)
+
+-- rounds so far, and a listen of one more
+pub stalls_heard : (rounds all k m n : ℕ) (stalled : Bool) → rounds < all → StallsAtMost rounds k m
+    → CountsWhere stalled m n → StallsAtMost all k n
+stalls_heard rounds all k m n stalled more h once =
+    grind (arith, counted_once stalled m n once)
+
+-- ---- a spent session
+
+spent_still : (c : Course) → course.is_spent c ≡ true → is_live c ≡ false
+spent_still c h = grind arith
+
+spent_faultless : (c : Course) → course.is_spent c ≡ true → is_fault (spoken_of c) ≡ false
+spent_faultless c h = grind arith
+
+-- a listen of it doesn't touch the link
+pub spent_uncalled : (a b : Option (List Call)) (k m l n : ℕ) (old new : SessionState)
+    → Rests a b old new → FailsBy (has_failed old) (has_failed new) k m
+    → CountsWhere (is_blocked new) l n → has_waiting new ≡ is_blocked new → is_spent old ≡ true
+    → Uncalled a b k m l n
+spent_uncalled a b k m l n old new r f s w spent =
+    let spent_now : is_spent new ≡ true = r.spent ∙ spent in
+    let no_block : is_blocked new ≡ false =
+    sym w ∙ ap (λ (x : Bool). x && has_block new.standing)
+    (spent_still new.standing.course spent_now) in
+    let no_fault : (not (has_failed old) && has_failed new) ≡ false = grind (
+      arith,
+      spent_faultless new.standing.course spent_now,
+    ) in
+    record {
+      silent = r.silent (ap not (spent_still old.standing.course spent));
+      no_fault = f.counts.kept no_fault;
+      no_stall = s.kept no_block;
+    }

@@ -6,6 +6,7 @@ use Rattle.octet_core.specs.declared.offer.Offer.{Offer}
 use Rattle.link_model.specs.declared.call.Call.{Call}
 use Rattle.link_model.specs.declared.call.Heard.{Heard}
 use Rattle.link_model.specs.Calls.{Tells, octets_handed}
+use Rattle.link_model.specs.Counts.{CountsWhere}
 use Rattle.station_config.specs.declared.site.Site.{Site}
 use Rattle.station_book.specs.State.{Event}
 use Rattle.station_book.specs.State as book
@@ -108,12 +109,15 @@ pub record GoesStep (site : Site) (reading : ℕ) (book_before book_after : book
       → StandsAt to_step b old calls events
       → StandsAt to_speak b new calls (events ++ own_events site old book_before reading)
 
--- A call wanted memory behind a listen, whose calls of the link are all that it made.
+-- A call ran out of memory after a listen, whose calls of the link are all that it made. The link's
+-- count of faults rose exactly where the link failed in the listen, its count of stalls exactly where
+-- the block that waited stalled in it.
 pub record OnlyListens (before after : Option (List Call)) (faults faults_now : ℕ)
-    (old : SessionState) : Type 0 where
+    (stalls stalls_now : ℕ) (old : SessionState) : Type 0 where
   pub heard : SessionState
   pub goes : Goes to_listen to_step before after old heard
   pub fails : FailsBy (has_failed old) (has_failed heard) faults faults_now
+  pub stalled : CountsWhere (is_blocked heard) stalls stalls_now
 
 -- the readings of the clock at which the book was called
 abbrev pub readings_in : List Event → List ℕ

@@ -79,6 +79,14 @@ pub record Rests (before after : Option (List Call)) (old new : SessionState) : 
   pub over : IsTrue (has_ended old) → IsTrue (has_ended new)
   pub spent : is_spent new ≡ is_spent old
 
+-- A link wasn't called: it tells nothing more, and its counts of faults and of stalls are as they
+-- were.
+pub record Uncalled (before after : Option (List Call)) (faults faults_now : ℕ)
+    (stalls stalls_now : ℕ) : Type 0 where
+  pub silent : Tells before after []
+  pub no_fault : faults_now ≡ faults
+  pub no_stall : stalls_now ≡ stalls
+
 -- A call is refused for want of memory alone, which leaves the book as it was. It is refused
 -- exactly where the session is spent behind it, and where it was spent before.
 pub record Spends {T E : Type 0} (result : Result T E) (book_before book_after : book.State)

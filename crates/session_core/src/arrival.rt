@@ -1,7 +1,7 @@
 // What a round's `listen` came to.
 
 /// What a round's `listen` came to.
-#[derive(Clone, Copy, Debug, PartialEq, Eq)]
+#[derive(Clone, Copy)]
 pub enum Arrival {
     /// A waiting block stalled, and the link wasn't polled.
     Blocked,

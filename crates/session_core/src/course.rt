@@ -3,7 +3,7 @@
 use crate::ended::Ended;
 
 /// Whether and how a session goes on.
-#[derive(Clone, Copy, Debug, PartialEq, Eq)]
+#[derive(Clone, Copy)]
 pub enum Course {
     /// It handles messages.
     Going,

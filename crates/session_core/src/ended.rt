@@ -4,7 +4,7 @@ use isp1_tml::TmlFault;
 use sle_numbers::PeerAbortDiagnostic;
 
 /// How a session ended.
-#[derive(Clone, Copy, Debug, PartialEq, Eq)]
+#[derive(Clone, Copy, Debug)]
 pub enum Ended {
     /// The return of an UNBIND was taken whole.
     Unbound,

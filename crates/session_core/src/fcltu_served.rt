@@ -1,7 +1,6 @@
 // What a session answers and tells of a bound FCLTU instance (CCSDS 912.1-B).
 ghost use Rattle.std.specs.Prelude.{◌≡◌, ◌+◌, ◌<◌, ◌≤◌, Some, length, option_map};
 ghost use Rattle.cds_time.specs.declared.cds.TheConstants.{MOMENT_END};
-ghost use Rattle.session_services.specs.Room.{HasOne};
 ghost use Rattle.session_services.specs.Service.{invocation_of, invocation_kind, invoke_of};
 ghost use Rattle.session_services.specs.FcltuServed.{fcltu_outcome, fcltu_returned, fcltu_told};
 ghost use Rattle.session_services.specs.FcltuServed.{fcltu_notified};
@@ -21,10 +20,9 @@ impl Standing {
     // Its return is the round's block, where it has one.
     fn put_fcltu_return(&mut self, site: &Site, invocation: &Invocation<'_>, answer: CltuAnswer)
         requires { self.old.moment < MOMENT_END }
-        ensures put { self.new ≡ answered_with site.now self.old
+        ensures { self.new ≡ answered_with site.now self.old
             (invocation_kind (invocation_of invocation.now))
             (fcltu_returned answer (invoke_of (invocation_of invocation.now))) }
-        ensures few { HasOne self.old.block → HasOne self.new.block }
     {
         match answer {
             CltuAnswer::Nothing => {}
@@ -43,10 +41,9 @@ impl Standing {
         answer: CltuAnswer,
     )
         requires { self.old.moment < MOMENT_END }
-        ensures put { self.new ≡ led_to (fcltu_outcome answer) (answered_with site.now self.old
+        ensures { self.new ≡ led_to (fcltu_outcome answer) (answered_with site.now self.old
             (invocation_kind (invocation_of invocation.now))
             (fcltu_returned answer (invoke_of (invocation_of invocation.now)))) }
-        ensures few { HasOne self.old.block → HasOne self.new.block }
     {
         let outcome = fcltu_outcome(&answer);
         self.put_fcltu_return(site, invocation, answer);

@@ -12,7 +12,6 @@ ghost use Rattle.session_core.specs.Handling.{with_denial, with_unbind, after_pa
 ghost use Rattle.session_core.specs.Handling.{invoked, after_judged};
 ghost use Rattle.session_services.specs.Inquiry.{inquiry_of, replied_of};
 ghost use Rattle.session_core.specs.Message.{judged};
-ghost use Rattle.session_services.specs.Room.{HasOne};
 ghost use Rattle.session_core.specs.ServiceSteps.{service_of, service_made};
 ghost use Rattle.session_core.specs.Steps.{stays_running};
 ghost use Rattle.session_core.specs.Seen.{said_of, places_of_bind, places_of, ask_by};
@@ -193,8 +192,7 @@ impl Standing {
         requires moment { self.old.moment < MOMENT_END }
         requires places { places ≡ places_of_bind site.now (bind_of bind.now) }
         requires made { made ≡ service_made site.now places.instance }
-        ensures led { self.new ≡ with_bind site.now self.old (bind_of bind.now) reply }
-        ensures few { HasOne self.new.block }
+        ensures { self.new ≡ with_bind site.now self.old (bind_of bind.now) reply }
     {
         let kind = PduKind::Bind {
             initiator: bind.initiator,
@@ -213,8 +211,7 @@ impl Standing {
     // A BIND with failing credentials is answered without any.
     fn deny(&mut self, site: &Site)
         requires { IsSite site.now }
-        ensures led { self.new ≡ with_denial site.now self.old }
-        ensures few { HasOne self.new.block }
+        ensures { self.new ≡ with_denial site.now self.old }
     {
         self.course = Course::Closing(Ended::Denied);
         let denied = Err(BindDiagnostic::AccessDenied);
@@ -224,8 +221,7 @@ impl Standing {
     // An UNBIND that passed is answered.
     fn answer_unbind(&mut self, site: &Site)
         requires { self.old.moment < MOMENT_END }
-        ensures led { self.new ≡ with_unbind site.now self.old }
-        ensures few { HasOne self.new.block }
+        ensures { self.new ≡ with_unbind site.now self.old }
     {
         let signature = self.sign_bound(site, PduKind::Unbind);
         self.association.moved(Outcome::Unbound);
@@ -247,9 +243,8 @@ impl Standing {
         requires moment { self.old.moment < MOMENT_END }
         requires places { places ≡ places_of site.now (said_of message.now) Pass }
         requires made { made ≡ service_made site.now places.instance }
-        ensures led { self.new ≡ after_passing site.now self.old (said_of message.now)
+        ensures { self.new ≡ after_passing site.now self.old (said_of message.now)
             (replied_of answer.now) }
-        ensures few { HasOne self.old.block → HasOne self.new.block }
     {
         match message {
             UserMessage::Context { interval, factor } => {
@@ -280,9 +275,8 @@ impl Standing {
         requires moment { self.old.moment < MOMENT_END }
         requires places { places ≡ places_of site.now (said_of message.now) step }
         requires made { made ≡ service_made site.now places.instance }
-        ensures led { self.new ≡ after_judged site.now self.old (said_of message.now) step
+        ensures { self.new ≡ after_judged site.now self.old (said_of message.now) step
             (replied_of answer.now) }
-        ensures few { HasOne self.old.block → HasOne self.new.block }
     {
         if answer.reply == BookReply::Lost {
             self.abort(PeerAbortDiagnostic::OtherReason);

@@ -3,7 +3,6 @@
 ghost use Rattle.std.specs.Prelude.{◌≡◌, ◌+◌, ◌<◌, ◌≤◌, length, option_map};
 ghost use Rattle.cds_time.specs.declared.cds.TheConstants.{MOMENT_END};
 ghost use Rattle.return_service.specs.Answer.{AnswerFits};
-ghost use Rattle.session_services.specs.Room.{HasOne};
 ghost use Rattle.session_services.specs.Service.{invocation_of, invocation_kind, invoke_of};
 ghost use Rattle.session_services.specs.ReturnServed.{outcome_of, returned, return_told};
 ghost use Rattle.session_core.specs.ServiceSteps.{answered_with, led_to, told_more, permitted};
@@ -30,10 +29,9 @@ impl Standing {
     fn put_return(&mut self, site: &Site, invocation: &Invocation<'_>, answer: ReturnAnswer)
         requires moment { self.old.moment < MOMENT_END }
         requires fits { AnswerFits answer }
-        ensures put { self.new ≡ answered_with site.now self.old
+        ensures { self.new ≡ answered_with site.now self.old
             (invocation_kind (invocation_of invocation.now))
             (returned answer (invoke_of (invocation_of invocation.now))) }
-        ensures few { HasOne self.old.block → HasOne self.new.block }
     {
         match answer {
             ReturnAnswer::Nothing => {}
@@ -53,10 +51,9 @@ impl Standing {
     )
         requires moment { self.old.moment < MOMENT_END }
         requires fits { AnswerFits answer }
-        ensures put { self.new ≡ led_to (outcome_of answer) (answered_with site.now self.old
+        ensures { self.new ≡ led_to (outcome_of answer) (answered_with site.now self.old
             (invocation_kind (invocation_of invocation.now))
             (returned answer (invoke_of (invocation_of invocation.now)))) }
-        ensures few { HasOne self.old.block → HasOne self.new.block }
     {
         let outcome = return_outcome(&answer);
         self.put_return(site, invocation, answer);

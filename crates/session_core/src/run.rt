@@ -43,9 +43,8 @@ pub fn run_rounds<L: Link>(
     ensures faults { IfOk result (λ end. CountsWhere (is_fault end) (L.faults link.old)
         (L.faults link.new)) }
 
-    // Its count of stalls rises by one a round at most.
-    ensures stalls { IfOk result (λ end. StallsAtMost (length readings.now) (L.stalls link.old)
-        (L.stalls link.new)) }
+    // Its count of stalls rises by one a round at most, also where memory runs out in the last one.
+    ensures stalls { StallsAtMost (length readings.now) (L.stalls link.old) (L.stalls link.new) }
 
     // After want of memory the rounds made until then stand.
     ensures memory { OnErr result (Breaks (began_of start.entry) (L.calls link.old)

@@ -70,9 +70,8 @@ impl Standing {
         answer: &Replied,
     )
         requires { self.old.moment < MOMENT_END }
-        ensures led { self.new ≡ with_invocation site.now self.old (invocation_of invocation.now)
+        ensures { self.new ≡ with_invocation site.now self.old (invocation_of invocation.now)
             (replied_of answer.now) }
-        ensures few { HasOne self.old.block → HasOne self.new.block }
     {
         let channels = self.permitted(site);
         match &mut self.service {

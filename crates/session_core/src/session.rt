@@ -8,7 +8,7 @@ ghost use Rattle.link_model.specs.Counts.{CountsWhere};
 ghost use Rattle.station_config.specs.Validity.{IsSite};
 ghost use Rattle.session_core.specs.Lists.{Began, StandsAt, GoesRound, to_listen, OnlyListens};
 ghost use Rattle.session_core.specs.Outcome.{come_to, has_ended, has_failed, is_spent, FailsBy};
-ghost use Rattle.session_core.specs.Outcome.{stalled_in, dropped_in, Spends, Repeats};
+ghost use Rattle.session_core.specs.Outcome.{stalled_in, dropped_in, Spends, Repeats, Uncalled};
 ghost use Rattle.session_core.specs.Session.{is_end};
 ghost use Rattle.session_core.specs.declared.spoken.Spoken.TheVariants.{Going};
 
@@ -116,9 +116,14 @@ impl Session {
         ensures over { IfOk result (λ spoken. has_ended self.new ≡ is_end spoken) }
         ensures memory { Spends result book.old book.new self.old self.new }
 
-        // Where it wants memory, its calls of the link are those of a listen.
+        // Where it runs out of memory, its calls of the link are those of a listen, and so are the
+        // faults and the stalls that the link counts. A spent session doesn't call the link.
         ensures heard { OnErr result (OnlyListens (L.calls link.old) (L.calls link.new)
-            (L.faults link.old) (L.faults link.new) self.old) }
+            (L.faults link.old) (L.faults link.new) (L.stalls link.old) (L.stalls link.new)
+            self.old) }
+        ensures spent { IsTrue (is_spent self.old) → Uncalled (L.calls link.old)
+            (L.calls link.new) (L.faults link.old) (L.faults link.new) (L.stalls link.old)
+            (L.stalls link.new) }
 
         // After an end neither link nor book is called, and the end repeats itself.
         ensures silent { IsTrue (has_ended self.old)

@@ -3,7 +3,7 @@
 use crate::ended::Ended;
 
 /// What a round comes to.
-#[derive(Clone, Copy, Debug, PartialEq, Eq)]
+#[derive(Clone, Copy)]
 pub enum Spoken {
     /// The session goes on.
     Going,

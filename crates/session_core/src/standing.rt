@@ -1,5 +1,5 @@
 // How a session stands, but for its stream.
-ghost use Rattle.std.specs.Prelude.{◌≡◌, [], IfOk, if◌then◌else◌};
+ghost use Rattle.std.specs.Prelude.{◌≡◌, [], IfOk, if◌then◌else◌, not, ◌&&◌};
 ghost use Rattle.session_core.specs.Course.{is_going, is_live, is_over, is_blocked};
 ghost use Rattle.session_core.specs.Course.{has_closed, is_spent};
 ghost use Rattle.session_core.specs.declared.course.Course.TheVariants.{Spent};
@@ -202,6 +202,13 @@ impl Standing {
         ensures { result ≡ is_idle self.now }
     {
         self.is_blocked() || !self.is_going()
+    }
+
+    // Whether the step comes without its listen, over a block that waits.
+    pub(crate) fn is_out_of_turn(&self) -> bool
+        ensures { result ≡ (not (is_idle self.now) && has_block self.now) }
+    {
+        !self.is_idle() && self.has_block()
     }
 
     // What the service kept is gone.

@@ -10,8 +10,7 @@ ghost use Rattle.cltu_queue.specs.declared.ask.Ask.TheVariants.{Nothing};
 ghost use Rattle.session_services.specs.Inquiry.{call_of, answer_of, reply_in, inquiry_of, replied_of};
 ghost use Rattle.session_services.specs.Inquiry.{only_asks};
 ghost use Rattle.session_services.specs.Served.{unserved};
-ghost use Rattle.session_services.specs.Room.{HasOne};
-ghost use Rattle.session_core.specs.ServiceSteps.{is_active, may_tell};
+ghost use Rattle.session_core.specs.ServiceSteps.{is_active};
 ghost use Rattle.session_core.specs.SessionState.{feeder_after, asked, told_now, told_by};
 ghost use Rattle.session_core.specs.SessionState.{kept_after, own_events, Acts};
 ghost use Rattle.session_core.specs.Lists.{GoesStep};
@@ -83,7 +82,6 @@ fn handle(
         standing.old.moment)
         (with_message asking.entry.site.now standing.old (content_of message.entry))
         (replied_of told)) }
-    ensures few { OnOk result (HasOne standing.old.block → HasOne standing.new.block) }
     ensures look { IfOk result (λ told. IsTrue (are_of_archive told.glimpse.items)) }
     ensures err { OnErr result (book.new ≡ book.old) }
 {
@@ -133,7 +131,6 @@ fn take_message(
         (next_ask asking.entry.site.now standing.old (next_held feeder.old) standing.old.moment)
         (with_next asking.entry.site.now standing.old (next_held feeder.old))
         (replied_of told)) }
-    ensures few { OnOk result (HasOne standing.old.block → HasOne standing.new.block) }
     ensures look { IfOk result (λ told. IsTrue (are_of_archive told.glimpse.items)) }
     ensures err { OnErr result (book.new ≡ book.old) }
 {
@@ -171,8 +168,6 @@ fn act(
         (inquiry_entered asking.entry.site.now standing.old (next_held feeder.old))
         (acted asking.entry.site.now standing.old (next_held feeder.old))
         (replied_of told)) }
-    ensures few { OnOk result ((IsFalse (is_idle standing.old) → HasOne standing.old.block)
-        → IsTrue (may_tell standing.new) → HasOne standing.new.block) }
     ensures look { IfOk result (λ told. IsTrue (are_of_archive told.glimpse.items)) }
     ensures err { OnErr result (book.new ≡ book.old) }
 {
@@ -255,7 +250,7 @@ impl Session {
             ≡ kept_after site.now self.old (Some (told_now site.now self.old book.old reading))) }
         ensures err { OnErr result (book.new ≡ book.old) }
     {
-        if !self.standing.is_idle() && self.standing.has_block() {
+        if self.standing.is_out_of_turn() {
             return Err(Memory);
         }
         self.standing.enter(book.peek(reading));
@@ -268,6 +263,7 @@ impl Session {
         let was_active = self.standing.is_active();
         let told = act(&mut self.feeder, &mut self.standing, book, asking)?;
         self.standing.look_at_timer();
+        self.standing.block.holds_small_messages();
         self.standing.put_unasked(site, &told);
         self.standing.serve(site, was_active, told.glimpse);
         Ok(())

@@ -5,10 +5,11 @@ ghost use Rattle.isp1_tml.specs.Message.{heartbeat, spelling};
 ghost use Rattle.session_services.specs.Returns.{return_message, is_short};
 ghost use Rattle.session_services.specs.Room.{HasOne};
 ghost use Rattle.session_services.specs.Whole.{AreWhole};
+ghost use Rattle.isp1_tml.specs.Message.{Content};
 
 use ber_core::Writer;
 use ber_shape::Pdu;
-use isp1_tml::head;
+use isp1_tml::{head, laws};
 use octet_core::Memory;
 use std::alloc::{AllocError, Global};
 use std::marker::Model;
@@ -24,14 +25,14 @@ pub struct Block {
 
 impl Model for Block {
     ghost use Rattle.std.specs.Prelude.{List, ℕ, ◌≡◌, ◌+◌, length};
-    ghost use Rattle.session_services.specs.Whole.{AreWhole};
+    ghost use Rattle.session_services.specs.Whole.{AreSmall};
 
     ghost Value = { List ℕ };
 
     ghost view = { λ block. block.writer.octets };
 
     ghost invariant = { λ block. (block.writer.room + length block.writer.octets ≡ 4096)
-        × AreWhole block.writer.octets };
+        × AreSmall block.writer.octets };
 }
 
 impl Block {
@@ -51,11 +52,21 @@ impl Block {
     }
 
     /// The octets.
+    #[tactic(auto, using(crate::specs::Whole::whole_small))]
     pub fn octets(&self) -> &[u8]
         ensures octets { result.now ≡ self.now }
         ensures whole { AreWhole self.now }
     {
         self.writer.octets()
+    }
+
+    /// Where it is one message alone, that has at most 1,032 octets, as each of its messages has.
+    pub fn holds_small_messages(&self)
+        ensures { (message : Content) → self.now ≡ spelling message → HasOne self.now }
+    {
+        laws::one_reading();
+        laws::spelled_is_read();
+        let _octets = self.writer.octets();
     }
 
     /// Removes all octets.
@@ -92,9 +103,8 @@ impl Block {
     pub fn put<'a, P: Pdu<'a>>(&mut self, answer: &P)
         requires fits { P.Members.shape.Fits (P.Members.seen answer.now) }
         requires short { is_short (structured P.tag P.Members.shape P.is_tag) ≡ true }
-        ensures alone { self.new ≡ return_message (structured P.tag P.Members.shape P.is_tag)
+        ensures { self.new ≡ return_message (structured P.tag P.Members.shape P.is_tag)
             (P.Members.seen answer.now) }
-        ensures few { HasOne self.new }
     {
         self.writer.clear();
         self.add(answer);

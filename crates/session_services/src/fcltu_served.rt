@@ -10,7 +10,6 @@ ghost use Rattle.session_services.specs.Telling.{Message};
 ghost use Rattle.session_services.specs.Service.{invocation_of};
 ghost use Rattle.session_services.specs.FcltuServed.{fcltu_asked, fcltu_outcome, fcltu_returned};
 ghost use Rattle.session_services.specs.FcltuServed.{view_due, fcltu_told, fcltu_notified};
-ghost use Rattle.session_services.specs.Room.{HasOne};
 
 use crate::block::Block;
 use crate::service::Invocation;
@@ -48,8 +47,7 @@ pub fn fcltu_outcome(answer: &CltuAnswer) -> Outcome
 // Makes a return the block.
 fn put_pdu(block: &mut Block, answer: &CltuReturn<'_>)
     requires { ReturnFits (return_of answer.now) }
-    ensures put { block.new ≡ spelling (pdu (return_octets (return_of answer.now))) }
-    ensures few { HasOne block.new }
+    ensures { block.new ≡ spelling (pdu (return_octets (return_of answer.now))) }
 {
     match answer {
         CltuReturn::Start(answer) => block.put(answer),
@@ -69,9 +67,8 @@ pub fn put_fcltu_answer(
     invoke: u16,
     answer: CltuAnswer,
 )
-    ensures put { block.new ≡ option_map_or (λ (message : Message). spelling (message signature.now))
+    ensures { block.new ≡ option_map_or (λ (message : Message). spelling (message signature.now))
         (fcltu_returned answer invoke) block.old }
-    ensures few { HasOne block.old → HasOne block.new }
 {
     if let Some(told) = answer.returned(signed_with(signature), invoke) {
         put_pdu(block, &told);

@@ -18,7 +18,6 @@ ghost use Rattle.isp1_tml.specs.Message.{spelling};
 ghost use Rattle.session_services.specs.Telling.{Message, spelled};
 ghost use Rattle.session_services.specs.ReturnServed.{outcome_of, returned, item_signing};
 ghost use Rattle.session_services.specs.ReturnServed.{buffer_fixed, buffer_where};
-ghost use Rattle.session_services.specs.Room.{HasOne};
 
 use crate::block::Block;
 use crate::outgoing::Outgoing;
@@ -131,9 +130,8 @@ pub fn put_return_answer(
     answer: ReturnAnswer,
 )
     requires { AnswerFits answer }
-    ensures put { block.new ≡ option_map_or (λ (message : Message). spelling (message signature.now))
+    ensures { block.new ≡ option_map_or (λ (message : Message). spelling (message signature.now))
         (returned answer invoke) block.old }
-    ensures few { HasOne block.old → HasOne block.new }
 {
     match answer {
         ReturnAnswer::Nothing => {}

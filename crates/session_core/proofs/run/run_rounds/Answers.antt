@@ -1,7 +1,7 @@
 use Rattle.std.proofs.Common.{◌+◌, ◌∙◌, refl, sym, arith}
 use Rattle.std.proofs.lemmas.List.{take_more}
 use Rattle.session_core.specs.Serving.{began_of}
-use Rattle.session_core.proofs.Stalls.{stalls_on}
+use Rattle.session_core.proofs.Stalls.{stalls_on, stalls_heard}
 use Rattle.session_core.proofs.Truths.{on_err}
 use Rattle.session_core.proofs.Serving.{lasts_first, lasts_on, serves_by, breaks_first, breaks_by}
 use Rattle.session_core.proofs.run.run_rounds.Goals as goal
@@ -50,7 +50,12 @@ returns-in_err-session-clause-memory g c =
 pub returns-in_err-end-clause-memory : goal.returns-in_err-end-clause-memory
 returns-in_err-end-clause-memory g c =
     on_err c.from_residual-in_err-end.result
-    (breaks_by (began_of c.args.start) _ _ _ _ _ _ _ _ _ c.args.readings.now
+    (breaks_by (began_of c.args.start) _ _ _ _ _ _ _ _ _ _ _ c.args.readings.now
     c.loop-reading.reading-index c.loop-reading.session c.loop-reading.invariant.lasts
     c.loop-reading.invariant.faults c.in_err-end.ensures.memory.left
     c.in_err-end.ensures.heard)
+
+pub returns-in_err-end-clause-stalls : goal.returns-in_err-end-clause-stalls
+returns-in_err-end-clause-stalls g c =
+    stalls_heard c.loop-reading.reading-index _ _ _ _ _ (omega arith)
+    c.loop-reading.invariant.stalls c.in_err-end.ensures.heard.stalled

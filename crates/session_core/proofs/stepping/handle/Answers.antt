@@ -32,7 +32,7 @@ returns-clause-acts c =
           (inquiry_of c.with_want-ask.result) (replied_of c.in_ok-reply.reply) c.args.asking.door
           c.args.asking.reading c.args.book.now said_so c.judge-step.ensures.step asked
           c.requires.now c.in_ok-reply.ensures.reply
-          (rw c.judge-step.ensures.after at c.conclude.ensures.led);
+          (rw c.judge-step.ensures.after at c.conclude.ensures);
       told_is =
           told_by_message site s content (inquiry_of c.with_want-ask.result)
           (replied_of c.in_ok-reply.reply) c.args.asking.door c.args.asking.reading

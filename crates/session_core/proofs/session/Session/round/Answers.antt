@@ -1,7 +1,7 @@
 use Rattle.session_core.specs.Outcome.{is_blocked, is_left}
 use Rattle.session_core.proofs.Listed.{goes_round}
 use Rattle.session_core.proofs.Fates.{both_count}
-use Rattle.session_core.proofs.Stalls.{round_stalls}
+use Rattle.session_core.proofs.Stalls.{round_stalls, spent_uncalled}
 use Rattle.session_core.proofs.session.Session.round.Goals as goal
 
 pub returns-clause-lists : goal.returns-clause-lists
@@ -20,3 +20,8 @@ returns-clause-stalls g c =
     round_stalls (is_blocked c.listen.new.self) (is_blocked c.step.new.self)
     (is_blocked c.speak.new.self) (is_left c.speak.new.self) _ _ _ c.listen.ensures.stalls
     c.in_ok-step.ensures.lists.blocked c.speak.ensures.blocked c.speak.ensures.stalls
+
+pub returns-in_err-step-clause-spent : goal.returns-in_err-step-clause-spent
+returns-in_err-step-clause-spent g c =
+    spent_uncalled _ _ _ _ _ _ c.args.self.now c.listen.new.self c.listen.ensures.rests
+    c.listen.ensures.faults c.listen.ensures.stalls c.listen.ensures.waits
