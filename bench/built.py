@@ -88,14 +88,22 @@ def plain():
     return f"{folder}/target/release/plain"
 
 
+def before(name):
+    """The program that `rt ci` built of this crate of another checkout, by its name, where the
+    command line begins with --before and its folder. These words are taken off the command line."""
+    if sys.argv[1:2] != ["--before"]:
+        return {}
+    if len(sys.argv) < 3:
+        sys.exit("--before takes the folder of another checkout")
+    folder = sys.argv[2]
+    program = f"{folder}/crates/{name}/out/{name}"
+    if not os.access(program, os.X_OK):
+        sys.exit(f"{program} isn't there: `rt ci` in {folder} builds it")
+    del sys.argv[1:3]
+    return {"before": program}
+
+
 def compared():
-    """The proved provider and what it is compared with, by their names: that of another checkout,
-    where the command line begins with --before and its folder, and plain Rust. These words are
-    taken off the command line."""
-    programs = {"provider": provider()}
-    if sys.argv[1:2] == ["--before"]:
-        programs["before"] = f"{sys.argv[2]}/crates/provider_cli/out/provider_cli"
-        if not os.access(programs["before"], os.X_OK):
-            sys.exit(f"{programs['before']} isn't there: `rt ci` in {sys.argv[2]} builds it")
-        del sys.argv[1:3]
-    return {**programs, "plain": plain()}
+    """The proved provider and what it is compared with, by their names: that of another checkout, if
+    its folder is given, and plain Rust."""
+    return {"provider": provider(), **before("provider_cli"), "plain": plain()}
